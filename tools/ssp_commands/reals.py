@@ -13,6 +13,7 @@ from fractions import Fraction
 
 from . import common
 from .common import Told, room_in
+from .systems import NESTED
 
 # beside a description: the value references of the variables that were real, for the host
 REFERENCES = "reals.txt"
@@ -511,6 +512,8 @@ class Plan:
         if element.name == "Component":
             if element.get("source") is None:
                 raise Told(f"{self.structure.at(element)}: {part.name} has no source")
+            if element.get("type") in NESTED:
+                raise Told(f"{self.structure.at(element)}: {part.name} is a system in another document, which isn't converted")
             part.fmu = self.fmu(path_of(self.structure, element))
         else:
             inner = elements_in(element, "Elements", "Component", "System")

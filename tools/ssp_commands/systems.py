@@ -11,6 +11,10 @@ TYPES = (*INTEGERS, "Boolean", "Enumeration", "Clock", "Float32", "Float64", "St
 # types that this profile never sets, reads or traces
 FOREIGN_TYPES = ("Float32", "Float64", "String", "Binary")
 CAUSALITIES = ("parameter", "calculatedParameter", "structuralParameter", "input", "output", "local", "independent")
+# components that are systems of their own: a folder with a structure, and a structure
+NESTED = PACKAGE, DEFINITION = ("application/x-ssp-package", "application/x-ssp-definition")
+# the most documents of a system, and the deepest level below the outermost one
+MOST_DOCUMENTS, DEEPEST_LEVEL = 256, 8
 # the machines that are part of the program, by their model identifiers
 BUILT_IN = ("counter", "gain", "sampler", "alarm", "timer", "relay", "settle", "pulse", "waker")
 
@@ -76,32 +80,53 @@ class Component:
         self.name, self.element, self.folder, self.description = name, element, folder, description
 
 
-class Part:
-    """A System or a component of a system, with those around it, from the outermost System on."""
+class Document:
+    """A structure description: its root, its outermost System, the folder that its sources lead from, and how deep it stands."""
 
-    def __init__(self, element, around):
-        self.element, self.around = element, around
+    def __init__(self, path, level):
+        self.path, self.folder, self.level = path, os.path.dirname(path), level
+        self.root = read_xml(path)
+        self.system = self.root.first("System")
+        if self.root.name != "SystemStructureDescription" or self.system is None:
+            raise Told(f"{path}: no SystemStructureDescription with a System")
+
+
+class Part:
+    """A System or a component of a system, with those around it, from the outermost System on, and the document that has it.
+
+    The System of a document that stands in the place of a component has its name, and the component's part as its `frame`.
+    """
+
+    def __init__(self, element, around, document, frame=None):
+        self.element, self.around, self.document, self.frame = element, around, document, frame
+        self.name = frame.name if frame else element.get("name", "")
 
     def name_below(self, outer):
         """The names from below this System down to here, joined with dots."""
-        names = [part.element.get("name", "") for part in [*self.around, self]]
+        names = [part.name for part in [*self.around, self]]
         return ".".join(names[len(outer.around) + 1 :])
+
+    def nested_path(self):
+        """Where the document of a component that is a system of its own lies; None of any other part."""
+        kind = self.element.get("type")
+        if self.element.name != "Component" or kind not in NESTED:
+            return None
+        path = joined(self.document.folder, self.element.get("source", ""))
+        return os.path.join(path, STRUCTURE) if kind == PACKAGE else path
 
 
 class System:
-    """A system in a folder: its structure, its parts in the order of the document, and its components."""
+    """A system in a folder: its structure, its parts in the order of its documents, and its components."""
 
     def __init__(self, folder):
         self.folder, self.path = folder, os.path.join(folder, STRUCTURE)
-        self.root = read_xml(self.path)
-        outer = self.root.first("System")
-        if self.root.name != "SystemStructureDescription" or outer is None:
-            raise Told(f"{self.path}: no SystemStructureDescription with a System")
+        outermost = Document(self.path, 0)
+        self.root, self.documents = outermost.root, 1
         self.parts, self.components, descriptions = [], [], {}
-        self.add(Part(outer, []))
+        self.add(Part(outermost.system, [], outermost))
         for part in self.parts:
             if part.element.name == "Component":
-                at = joined(folder, part.element.get("source", ""))
+                at = joined(part.document.folder, part.element.get("source", ""))
                 if at not in descriptions:
                     descriptions[at] = Description(os.path.join(at, DESCRIPTION))
                 name = part.name_below(self.parts[0])
@@ -111,11 +136,24 @@ class System:
     def add(self, part):
         waiting = [part]
         while waiting:
-            part = waiting.pop()
+            part = self.opened(waiting.pop())
             self.parts.append(part)
             if part.element.name == "System":
                 inside = [child for elements in part.element.named("Elements") for child in elements.named("System", "Component")]
-                waiting.extend(Part(child, [*part.around, part]) for child in reversed(inside))
+                waiting.extend(Part(child, [*part.around, part], part.document) for child in reversed(inside))
+
+    def opened(self, part):
+        """The outermost System of the document that stands in the place of this part; any other part itself."""
+        path = part.nested_path()
+        if path is None:
+            return part
+        if self.documents == MOST_DOCUMENTS or part.document.level == DEEPEST_LEVEL:
+            at = f"{part.document.path}:{part.element.line}:{part.element.column}"
+            most = f"{MOST_DOCUMENTS} documents, or {DEEPEST_LEVEL} levels of them"
+            raise Told(f"{at}: a system has at most {most} (rule 59)")
+        self.documents += 1
+        inner = Document(path, part.document.level + 1)
+        return Part(inner.system, part.around, inner, part)
 
     def ports(self):
         """The components and variables of the ports, in the order of their numbers."""
@@ -157,26 +195,28 @@ def joined(folder, source):
 class Binding:
     """A ParameterBinding with the Parameters of its set, and the entries of its mapping (None where there is none)."""
 
-    def __init__(self, system, part, element):
-        self.part, self.element, self.prefix = part, element, element.get("prefix", "")
-        self.path, found = self.read(system, element, "ParameterValues", "ParameterSet")
+    def __init__(self, part, own, element):
+        """Of the part that it gives values to; `own` is the folder of this part, where it has one."""
+        self.part, self.element, self.prefix, self.own = part, element, element.get("prefix", ""), own
+        self.document = (part.frame if own and part.frame else part).document
+        self.path, found = self.read(element, "ParameterValues", "ParameterSet")
         lists = found.named("Parameters") if found else []
         self.parameters = [child for inside in lists for child in inside.named("Parameter")]
         mapping = element.first("ParameterMapping")
         self.mapping_path, self.entries = None, None
         if mapping is not None:
-            self.mapping_path, found = self.read(system, mapping, None, "ParameterMapping")
+            self.mapping_path, found = self.read(mapping, None, "ParameterMapping")
             self.entries = found.named("MappingEntry") if found else []
 
-    def read(self, system, element, within, root):
+    def read(self, element, within, root):
         """The file and the root of what an element names by its source, or has within."""
         source = element.get("source")
         if source is not None:
-            is_own = element.get("sourceBase") == "component" and self.part.element.name == "Component"
-            path = joined(self.part.component.folder if is_own else system.folder, source)
+            is_own = element.get("sourceBase") == "component" and self.own
+            path = joined(self.own if is_own else self.document.folder, source)
             return path, parse_xml(read_file(path), path)
         inside = element.first(within) if within else element
-        return system.path, inside.first(root) if inside else None
+        return self.document.path, inside.first(root) if inside else None
 
     def given(self):
         """Each name that is given a value, with the Parameter and the entry that give it."""
@@ -190,11 +230,18 @@ class Binding:
 
 
 def bindings(system):
-    """The bindings of a system in the order of the document."""
+    """The bindings of a system in the order of its documents; those of a component behind those of its own document's System."""
     for part in system.parts:
-        for inside in part.element.named("ParameterBindings"):
-            for element in inside.named("ParameterBinding"):
-                yield Binding(system, part, element)
+        of_component = part.frame.element if part.frame else part.element if part.element.name == "Component" else None
+        if part.element.name == "System":
+            yield from (Binding(part, None, element) for element in binding_elements(part.element))
+        if of_component is not None:
+            own = part.document.folder if part.frame else part.component.folder
+            yield from (Binding(part, own, element) for element in binding_elements(of_component))
+
+
+def binding_elements(element):
+    return [binding for inside in element.named("ParameterBindings") for binding in inside.named("ParameterBinding")]
 
 
 def parameters_seen(system, part):

@@ -11,12 +11,14 @@ from .suggest import cautions, suggestion
 from .systems import read_system
 
 ABOUT = """Unpacks an archive of a system (.ssp) or of an FMU (.fmu) into DIR, which isn't there before or is empty; where it isn't
-given, it is the name of FILE without its ending. The FMUs in an archive of a system become folders that keep their names, so that
-no source has to be edited. Nothing is written outside DIR, and nothing is left of an archive that isn't whole. FMUs that the program
+given, it is the name of FILE without its ending. The FMUs and the packages (.ssp) in an archive of a system become folders that keep
+their names, so that no source has to be edited. Nothing is written outside DIR, and nothing is left of an archive that isn't whole. FMUs that the program
 refuses for their version are named, and those whose reals it passes over. The last line is the command that runs it; `ssp suggest
 DIR` says how it is chosen."""
 # the folders that a path in an archive may have, and the file
 MOST_LEVELS = 256
+# the packages that may stand in one another
+MOST_PACKAGES = 8
 
 
 def add_parser(subparsers):
@@ -40,14 +42,15 @@ def run(args):
     # beside DIR, or in it where it is there, so that it can be put into its place as a whole
     with room_in(above, ".ssp-unpack-") as room:
         made = os.path.join(room, "made")
-        files, fmus = unpack(args.file, made)
+        files, fmus, packages = unpack(args.file, made)
         if is_there:
             for name in os.listdir(made):
                 os.rename(os.path.join(made, name), os.path.join(place, name))
         else:
             os.rename(made, place)
-    of_fmus = f", in folders of {counted(fmus, 'FMU')}" if fmus else ""
-    print(one_line(f"{folder}: {counted(files, 'file')}{of_fmus}"))
+    inner = [counted(number, what) for number, what in ((fmus, "FMU"), (packages, "package")) if number]
+    of_inner = f", in folders of {' and '.join(inner)}" if inner else ""
+    print(one_line(f"{folder}: {counted(files, 'file')}{of_inner}"))
     try:
         system = read_system(folder)
         lines = [*cautions(system), suggestion(system)[1]]
@@ -62,20 +65,31 @@ def counted(number, what):
 
 
 def unpack(path, made):
-    """Unpacks an archive of a system or of an FMU, and the FMUs in the former; gives the numbers of files and of FMUs."""
+    """Unpacks an archive of a system or of an FMU, and what is packed in the former; gives the numbers of files, FMUs and packages."""
     with opened(path, path) as archive:
         names = names_in(archive, path)
         if STRUCTURE in names:
-            files = extract(archive, made, path)
-            fmus = 0
-            for name in sorted(names):
-                if name.lower().endswith(".fmu"):
-                    fmus += 1
-                    files += unpack_fmu(os.path.join(made, name), f"{path}: {name}") - 1
-            return files, fmus
+            return unpack_system(archive, names, made, path, 0)
         if DESCRIPTION in names:
-            return extract(archive, made, path), 0
+            return extract(archive, made, path), 0, 0
         raise Told(f"{path}: neither {STRUCTURE} nor {DESCRIPTION} is at its top{found_below(names)}")
+
+
+def unpack_system(archive, names, made, what, level):
+    """Unpacks an archive of a system and the FMUs and packages in it, which stands in so many others."""
+    if level > MOST_PACKAGES:
+        raise Told(f"{what}: it stands in more than {MOST_PACKAGES} packages")
+    files, fmus, packages = extract(archive, made, what), 0, 0
+    for name in sorted(names):
+        place, inner = os.path.join(made, name), f"{what}: {name}"
+        if name.lower().endswith(".fmu"):
+            files += unpack_in_place(place, inner, DESCRIPTION, lambda one, _names: (extract(one, place, inner), 0, 0))[0] - 1
+            fmus += 1
+        elif name.lower().endswith(".ssp"):
+            deeper = lambda one, its: unpack_system(one, its, place, inner, level + 1)
+            more, more_fmus, more_packages = unpack_in_place(place, inner, STRUCTURE, deeper)
+            files, fmus, packages = files + more - 1, fmus + more_fmus, packages + more_packages + 1
+    return files, fmus, packages
 
 
 def found_below(names):
@@ -83,18 +97,19 @@ def found_below(names):
     return f", but {found[0]} is in it: pack what is in that folder" if found else ""
 
 
-def unpack_fmu(place, what):
-    """Puts a folder of the same name in the place of the archive of an FMU."""
+def unpack_in_place(place, what, wanted, unpack_one):
+    """Puts a folder of the same name in the place of an archive that has a wanted file."""
     packed = f"{place}.packed"
     while os.path.lexists(packed):
         packed += "_"
     os.rename(place, packed)
     with opened(packed, what) as archive:
-        if DESCRIPTION not in names_in(archive, what):
-            raise Told(f"{what}: {DESCRIPTION} isn't at its top")
-        files = extract(archive, place, what)
+        names = names_in(archive, what)
+        if wanted not in names:
+            raise Told(f"{what}: {wanted} isn't at its top")
+        numbers = unpack_one(archive, names)
     os.remove(packed)
-    return files
+    return numbers
 
 
 def opened(path, what):

@@ -63,7 +63,7 @@ def foreign_ends(system):
     for part in system.parts:
         if part.element.name != "System":
             continue
-        inside = {other.element.get("name"): other for other in system.parts if other.around[-1:] == [part]}
+        inside = {other.name: other for other in system.parts if other.around[-1:] == [part]}
         for connections in part.element.named("Connections"):
             for connection in connections.named("Connection"):
                 for end in ("start", "end"):
@@ -73,5 +73,5 @@ def foreign_ends(system):
                     name = connection.get(f"{end}Connector", "")
                     variable = other.component.description.variable(name)
                     if variable is not None and variable.is_foreign:
-                        place = f"{system.path}:{connection.line}:{connection.column}"
+                        place = f"{part.document.path}:{connection.line}:{connection.column}"
                         yield f"{place}: {other.component.name}.{name} is a {kind_of(variable)}, which isn't connected{way_on(variable)}"

@@ -12,8 +12,9 @@ def description(variables="", attributes="", more="", identifier="m"):
     return f"{head}{simulation}{more}<ModelVariables>{variables}</ModelVariables></fmiModelDescription>"
 
 
-def component(name, source="m", inside=""):
-    return f'<Component name="{name}" source="{source}">{inside}</Component>'
+def component(name, source="m", inside="", kind=""):
+    kind = f' type="application/x-ssp-{kind}"' if kind else ""
+    return f'<Component name="{name}" source="{source}"{kind}>{inside}</Component>'
 
 
 def elements(*inside):

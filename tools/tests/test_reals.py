@@ -251,6 +251,11 @@ class Reals(Case):
                 self.write("d/SystemStructure.ssd", text)
                 self.refused(line)
 
+    def test_a_system_of_several_documents(self):
+        inner = '<Component name="a" type="application/x-ssp-package" source="p"/>'
+        self.write("d/SystemStructure.ssd", structure(f"<Elements>{inner}</Elements>"))
+        self.refused("SystemStructure.ssd:1:79: a is a system in another document, which isn't converted")
+
     def test_start_values_that_are_no_reals(self):
         for text in NO_REALS:
             with self.subTest(text):

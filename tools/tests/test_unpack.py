@@ -34,6 +34,16 @@ class Unpack(Case):
         with open(f"{self.room}/plant/SystemStructure.ssd", encoding="utf-8") as file:
             self.assertEqual(SYSTEM, file.read())
 
+    def test_a_package_in_a_package(self):
+        inner = structure(elements('<Component name="p" type="application/x-ssp-package" source="resources/plant.ssp"/>'))
+        self.write("line.ssp", packed(("SystemStructure.ssd", inner), ("resources/plant.ssp", SSP)))
+        status, out, err = ssp("unpack", "line.ssp", cwd=self.room)
+        self.assertEqual((0, ""), (status, err))
+        self.assertEqual("line: 4 files, in folders of 1 FMU and 1 package", out.splitlines()[0])
+        plant = ["SystemStructure.ssd", "resources/counter.fmu/documentation/index.html", "resources/counter.fmu/modelDescription.xml"]
+        wanted = ["SystemStructure.ssd", *(f"resources/plant.ssp/{path}" for path in plant)]
+        self.assertEqual(["line.ssp", *(f"line/{path}" for path in wanted)], sorted(self.files()))
+
     def test_an_fmu_with_reals(self):
         text = description('<Float64 name="x" valueReference="1" causality="output"/>')
         self.write("m.fmu", packed(("modelDescription.xml", text)))

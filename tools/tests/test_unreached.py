@@ -64,6 +64,26 @@ class Unreached(Case):
         self.write("d/m/modelDescription.xml", description(text))
         self.names("k is a String parameter of a, which isn't bound", "v is a Float64 array of a, which isn't bound")
 
+    def test_documents_in_one_another(self):
+        self.assertEqual((0, "", ""), ssp("unreached", "packages", cwd=f"{TOP}/examples"))
+        own = bound('source="own.ssv" sourceBase="component">')
+        self.write("d/SystemStructure.ssd", structure(elements(component("a", "p", own, kind="package"))))
+        self.write("d/p/own.ssv", values("b.c.n", "a.b.c.n", "c.n"))
+        inner = bound(f"><ParameterValues>{values('b.c.n', 'n')}</ParameterValues>")
+        self.write("d/p/SystemStructure.ssd", structure(inner + elements(component("b", "q/b.ssd", bound('source="b.ssv">'), kind="definition"))))
+        self.write("d/p/b.ssv", values("c.n", "b.c.n"))
+        self.write("d/p/q/b.ssd", structure(elements(component("c"))))
+        self.write("d/p/q/m/modelDescription.xml", REAL)
+        status, out, _ = ssp("unreached", "d", cwd=self.room)
+        lines = [re.sub(r":\d+:\d+: (\S+) reaches.*", r" \1", line) for line in out.splitlines()]
+        self.assertEqual(
+            (1, ["d/p/SystemStructure.ssd n", "d/p/own.ssv a.b.c.n", "d/p/own.ssv c.n", "d/p/b.ssv b.c.n"]), (status, lines)
+        )
+
+    def test_a_document_in_itself(self):
+        self.write("d/SystemStructure.ssd", structure(elements(component("a", "SystemStructure.ssd", kind="definition"))))
+        self.tells("d/SystemStructure.ssd:1:79: a system has at most 256 documents, or 8 levels of them (rule 59)", "unreached", "d")
+
     def test_nothing_is_near(self):
         self.write("d/SystemStructure.ssd", structure(bound('source="v.ssv">')))
         self.write("d/v.ssv", values("k"))

@@ -3,11 +3,13 @@ use Rattle.std.specs.Prelude.{ℕ}
 use Rattle.doc_grammar.specs.declared.reasons.Rule as grammar
 use Rattle.doc_grammar.specs.declared.reasons.Rule.TheVariants.{NotUtf8, Malformed, Doctype, TooDeep, AttributeTwice}
 use Rattle.doc_tree.specs.declared.rule.Rule.{Rule}
-use Rattle.doc_tree.specs.declared.rule.Rule.TheVariants.{Document, Description, System, Flattening, Loop, SavesNoState, TooManyPorts, Parameters}
+use Rattle.doc_tree.specs.declared.rule.Rule.TheVariants.{Document, Description, System, Nesting, Flattening, Loop, SavesNoState, TooManyPorts, Parameters}
 use Rattle.doc_tree.specs.declared.rule.DescriptionRule.{DescriptionRule}
 use Rattle.doc_tree.specs.declared.rule.DescriptionRule.TheVariants as d
 use Rattle.doc_tree.specs.declared.rule.SystemRule.{SystemRule}
 use Rattle.doc_tree.specs.declared.rule.SystemRule.TheVariants as s
+use Rattle.doc_tree.specs.declared.rule.NestingRule.{NestingRule}
+use Rattle.doc_tree.specs.declared.rule.NestingRule.TheVariants as n
 use Rattle.doc_tree.specs.declared.rule.FlatteningRule.{FlatteningRule}
 use Rattle.doc_tree.specs.declared.rule.FlatteningRule.TheVariants as f
 use Rattle.doc_tree.specs.declared.rule.ParameterRule.{ParameterRule}
@@ -52,6 +54,11 @@ system_number s.NoEnd = 37
 system_number s.WrongEnd = 38
 system_number s.TooManyComponents = 48
 
+-- of documents that stand in one another (SSP 1.0: Component; type)
+abbrev pub nesting_number : NestingRule → ℕ
+nesting_number n.NoInnerConnector = 39
+nesting_number n.TooDeep = 59
+
 -- of connectors and connections together with the variables that they name (SSP 1.0, 5.3.3)
 abbrev pub flattening_number : FlatteningRule → ℕ
 flattening_number f.NoSuchVariable = 40
@@ -76,6 +83,7 @@ abbrev pub number : Rule → ℕ
 number (Document rule) = document_number rule
 number (Description rule) = description_number rule
 number (System rule) = system_number rule
+number (Nesting rule) = nesting_number rule
 number (Flattening rule) = flattening_number rule
 number Loop = 46
 number SavesNoState = 47

@@ -14,7 +14,7 @@ pub use doc_events::{DocError, Rule as DocumentRule};
 pub use place::Place;
 pub use refusal::Refusal;
 pub use rule::{
-    DESCRIPTION_RULES, DescriptionRule, FlatteningRule, PARAMETER_RULES, ParameterRule, Rule,
-    SYSTEM_RULES, SystemRule,
+    DESCRIPTION_RULES, DescriptionRule, FlatteningRule, NestingRule, PARAMETER_RULES,
+    ParameterRule, Rule, SYSTEM_RULES, SystemRule,
 };
 pub use tree::Tree;

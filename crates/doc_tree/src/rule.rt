@@ -1,5 +1,5 @@
 ghost use Rattle.std.specs.Prelude.{◌≡◌};
-ghost use Rattle.doc_tree.specs.Rules.{description_number, document_number, flattening_number, number, parameter_number, system_number};
+ghost use Rattle.doc_tree.specs.Rules.{description_number, document_number, flattening_number, nesting_number, number, parameter_number, system_number};
 
 use crate::DocumentRule;
 
@@ -12,6 +12,8 @@ pub enum Rule {
     Description(DescriptionRule),
     /// 30 to 38 and 48: a rule of system structure descriptions, at an element
     System(SystemRule),
+    /// 39 and 59: a rule of documents that stand in one another, at an element
+    Nesting(NestingRule),
     /// 40 to 45: a rule of connectors and connections together with the variables that they name, at an element
     Flattening(FlatteningRule),
     /// 46: ports need each other in a loop, which is told with it
@@ -99,7 +101,7 @@ pub enum SystemRule {
     NoEnd,
     /// 38: a connection begins or ends at a connector of the wrong kind
     WrongEnd,
-    /// 48: a component is the 257th
+    /// 48: an FMU is the 257th of the system, or the full name of a component has more than 2^24 bytes
     TooManyComponents,
 }
 
@@ -116,6 +118,15 @@ pub const SYSTEM_RULES: [SystemRule; 10] = [
     SystemRule::WrongEnd,
     SystemRule::TooManyComponents,
 ];
+
+/// The rules of documents that stand in one another.
+#[derive(Clone, Copy, Debug, PartialEq, Eq)]
+pub enum NestingRule {
+    /// 39: the outermost system of a component's document has no connector of the name and kind of one of the component
+    NoInnerConnector,
+    /// 59: a component's document would stand at the ninth level below the outermost one, or be the 257th that is read
+    TooDeep,
+}
 
 /// The rules of connectors and connections together with the variables of the FMUs, in the order of their numbers.
 #[derive(Clone, Copy, Debug, PartialEq, Eq)]
@@ -174,6 +185,7 @@ impl Rule {
             Rule::Document(rule) => document_number(rule),
             Rule::Description(rule) => rule.number(),
             Rule::System(rule) => rule.number(),
+            Rule::Nesting(rule) => rule.number(),
             Rule::Flattening(rule) => rule.number(),
             Rule::Loop => 46,
             Rule::SavesNoState => 47,
@@ -222,6 +234,17 @@ impl SystemRule {
             SystemRule::NoEnd => 37,
             SystemRule::WrongEnd => 38,
             SystemRule::TooManyComponents => 48,
+        }
+    }
+}
+
+impl NestingRule {
+    fn number(self) -> u32
+        ensures { result ≡ nesting_number self }
+    {
+        match self {
+            NestingRule::NoInnerConnector => 39,
+            NestingRule::TooDeep => 59,
         }
     }
 }

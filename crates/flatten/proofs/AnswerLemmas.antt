@@ -7,7 +7,7 @@ use Rattle.doc_tree.specs.Rules.{number}
 use Rattle.doc_tree.specs.declared.refusal.Refusal.{Refusal}
 use Rattle.doc_tree.specs.declared.refusal.Refusal.TheVariants.{At, Memory}
 use Rattle.doc_tree.specs.declared.rule.Rule.{Rule}
-use Rattle.doc_tree.specs.declared.rule.Rule.TheVariants.{Document, Description, System as OfSystem, Flattening, Loop, SavesNoState, TooManyPorts, Parameters}
+use Rattle.doc_tree.specs.declared.rule.Rule.TheVariants.{Document, Description, System as OfSystem, Nesting, Flattening, Loop, SavesNoState, TooManyPorts, Parameters}
 use Rattle.doc_tree.specs.declared.rule.FlatteningRule.TheVariants as f
 use Rattle.doc_tables.specs.Answers.{IsRefusal, Refuses}
 use Rattle.doc_tables.proofs.CallerLemmas.{refuses, none_sound}
@@ -42,6 +42,7 @@ unfolding rule_at
 told t shapes (Document rule) node h = absurd h
 told t shapes (Description rule) node h = absurd h
 told t shapes (OfSystem rule) node h = absurd h
+told t shapes (Nesting rule) node h = absurd h
 told t shapes (Flattening f.NoSuchVariable) node h = refl
 told t shapes (Flattening f.OtherCausality) node h = refl
 told t shapes (Flattening f.OtherClass) node h = refl

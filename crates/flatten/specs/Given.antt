@@ -1,10 +1,12 @@
 -- What is asked of a tree of systems and the shapes of its components.
-use Rattle.std.specs.Prelude.{◌≡◌, ℕ, ◌<◌, ◌≤◌, ◌^◌, List, length, All}
+use Rattle.std.specs.Prelude.{◌≡◌, ℕ, ◌+◌, ◌-◌, ◌<◌, ◌≤◌, ◌^◌, List, length, All}
 use Rattle.value_types.specs.declared.shape.Shape.{Shape}
 use Rattle.system_model.specs.Shapes.{IsSoundShape}
 use Rattle.ssd_tree.specs.declared.tree.Connector.{Connector}
 use Rattle.ssd_tree.specs.declared.tree.Connection.{Connection}
 use Rattle.ssd_tree.specs.declared.tree.ComponentPart.{ComponentPart}
+use Rattle.ssd_tree.specs.declared.tree.NestedComponent.{NestedComponent}
+use Rattle.ssd_tree.specs.declared.tree.Setting.{Setting}
 use Rattle.ssd_tree.specs.declared.tree.SystemTree.{SystemTree}
 use Rattle.ssd_tree.specs.Named.{IsOwner}
 
@@ -13,6 +15,16 @@ pub record IsWholeTree (t : SystemTree) : Type 0 where
   pub root : 0 < length t.systems
   pub few : length t.components ≤ 256
   pub named : All (λ (c : ComponentPart). 0 < length c.name) t.components
+  pub owners : All (λ (k : Connector). IsOwner t k.owner) t.connectors
+  pub ends : All (λ (k : Connection). (k.start < length t.connectors) ×
+      (k.end < length t.connectors)) t.connections
+
+-- the same of what one of several documents says, by what counts for it of the documents before: with those before it has 256 FMUs at most
+pub record IsWholeDocument (s : Setting) (t : SystemTree) (nested : List NestedComponent) : Type 0 where
+  pub root : 0 < length t.systems
+  pub few : length t.components ≤ (256 - s.fmus) + length nested
+  pub named : All (λ (c : ComponentPart). 0 < length c.name) t.components
+  pub short : All (λ (c : ComponentPart). s.name_above + length c.name ≤ 2 ^ 24) t.components
   pub owners : All (λ (k : Connector). IsOwner t k.owner) t.connectors
   pub ends : All (λ (k : Connection). (k.start < length t.connectors) ×
       (k.end < length t.connectors)) t.connections

@@ -15,7 +15,7 @@ use Rattle.value_types.specs.Joint as types
 use Rattle.value_types.specs.Joint.{class_of}
 use Rattle.value_types.specs.Shape.{is_port, timing_at}
 use Rattle.doc_tree.specs.declared.rule.Rule.{Rule}
-use Rattle.doc_tree.specs.declared.rule.Rule.TheVariants.{Document, Description, System, Flattening, Loop, SavesNoState, TooManyPorts, Parameters}
+use Rattle.doc_tree.specs.declared.rule.Rule.TheVariants.{Document, Description, System, Nesting, Flattening, Loop, SavesNoState, TooManyPorts, Parameters}
 use Rattle.doc_tree.specs.declared.rule.FlatteningRule.{FlatteningRule}
 use Rattle.doc_tree.specs.declared.rule.FlatteningRule.TheVariants as f
 use Rattle.doc_tree.specs.Rules.{number}
@@ -182,6 +182,7 @@ abbrev pub ViolatesFlattening : SystemTree → List Shape → Rule → ℕ → T
 ViolatesFlattening t shapes (Document rule) node = ⊥
 ViolatesFlattening t shapes (Description rule) node = ⊥
 ViolatesFlattening t shapes (System rule) node = ⊥
+ViolatesFlattening t shapes (Nesting rule) node = ⊥
 ViolatesFlattening t shapes (Flattening rule) node = Breaks t shapes rule node
 ViolatesFlattening t shapes Loop node = ⊥
 -- 47: a component whose state can't be saved, where two or more might return early

@@ -13,5 +13,5 @@ mod roles;
 mod rules;
 
 pub use flat::flatten;
-pub use law::whole_tree;
+pub use law::whole_documents;
 pub use rules::MOST_PORTS;

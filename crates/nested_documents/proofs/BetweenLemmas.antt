@@ -1,10 +1,10 @@
 -- The Components that wait stand in the order of the whole.
-use Rattle.std.proofs.Common.{◌≡◌, ◌∙◌, ℕ, suc, ◌+◌, ◌-◌, ◌<◌, ◌≤◌, nat_le, false, if◌then◌else◌, List, [], ◌∷◌, ◌++◌, length, map, drop, get_or, ◌⊎◌, inl, inr, ◌↔◌, add-one, drop-cons, refl, sym, ap, subst, arith}
+use Rattle.std.proofs.Common.{◌≡◌, ◌∙◌, ℕ, suc, ◌+◌, ◌-◌, ◌<◌, ◌≤◌, nat_le, false, if◌then◌else◌, List, [], ◌∷◌, ◌++◌, map, refl, sym, ap, subst, arith}
 use Rattle.std.proofs.lemmas.Bool.Decides.{nat_tests}
-use Rattle.nested_documents.specs.declared.components.NestedComponent.{NestedComponent}
+use Rattle.ssd_tree.specs.declared.tree.NestedComponent.{NestedComponent}
 use Rattle.nested_documents.specs.declared.components.Waiting.{Waiting}
 use Rattle.nested_documents.specs.declared.seam.Seam.{Seam}
-use Rattle.nested_documents.specs.Between.{AreBetween, places_of}
+use Rattle.ssd_tree.specs.Lists.{AreBetween}
 use Rattle.nested_documents.specs.Nest.{moved_waiting, waiting_from}
 
 lower : (low mid high : ℕ) (xs : List ℕ) → low ≤ mid → AreBetween mid high xs → AreBetween low high xs
@@ -80,24 +80,3 @@ placed_more s document level count ns ws all less inside rest e =
     ap (map (λ (w : Waiting). w.component)) e ∙ (places_append (map (waiting_from s.component document level) ns) (map (moved_waiting s) ws)
     ∙ (ap (λ (zs : List ℕ). zs ++ map (λ (w : Waiting). w.component) (map (moved_waiting s) ws)) (places_inner s.component document level ns) ∙ ap (λ (zs : List ℕ). map (λ (x : ℕ). x + k) xs ++ zs) (places_outer s ws))) in
     subst (λ (zs : List ℕ). AreBetween 0 ((count - 1) + n) zs) (sym places) whole
-
--- ---- the test
-
-pub between_none : (low high : ℕ) (ns : List NestedComponent) (i : ℕ) (n : NestedComponent) → i < length ns → n ≡ get_or ns i n → (n.component < low) ⊎ (high ≤ n.component) → AreBetween low high (places_of (drop i ns)) → ⊥
-between_none low high ns i n less is out b = at (subst (λ (xs : List NestedComponent). AreBetween low high (places_of xs)) (from_one ns i n less is) b) out
-  where
-    from_one : (ns : List NestedComponent) (i : ℕ) (n : NestedComponent) → i < length ns → n ≡ get_or ns i n → drop i ns ≡ n ∷ drop (i + 1) ns
-    from_one ns i n less is = rw (add-one, drop-cons ns i n, ← is) refl
-
-    at : AreBetween low high (places_of (n ∷ drop (i + 1) ns)) → (n.component < low) ⊎ (high ≤ n.component) → ⊥
-    at b (inl h) = let x = b.0 in omega (arith, x, h)
-    at b (inr h) = let x = b.1.0 in omega (arith, x, h)
-
-pub between_more : (low high : ℕ) (ns : List NestedComponent) (i : ℕ) (n : NestedComponent) (P : Type 0) → i < length ns → n ≡ get_or ns i n → low ≤ n.component → n.component < high → P ↔ AreBetween low high (places_of (drop i ns)) → P ↔ AreBetween (n.component + 1) high (places_of (drop (i + 1) ns))
-between_more low high ns i n P less is at below iff =
-    let e : drop i ns ≡ n ∷ drop (i + 1) ns = rw (add-one, drop-cons ns i n, ← is) refl in
-    let f : n.component + 1 ≡ suc n.component = omega arith in
-    let rest = places_of (drop (i + 1) ns) in (
-      λ p. subst (λ (m : ℕ). AreBetween m high rest) (sym f) (subst (λ (xs : List NestedComponent). AreBetween low high (places_of xs)) e (iff.0 p)).1.1,
-      λ b. iff.1 (subst (λ (xs : List NestedComponent). AreBetween low high (places_of xs)) (sym e) (at, (below, subst (λ (m : ℕ). AreBetween m high rest) f b))),
-    )

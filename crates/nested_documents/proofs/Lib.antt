@@ -3,3 +3,4 @@ pub mod BetweenLemmas
 pub mod PutLemmas
 pub mod NestLemmas
 pub mod SeamLemmas
+pub mod InnerLemmas

@@ -3,14 +3,16 @@ use Rattle.std.proofs.Common.{◌≡◌, ◌∙◌, ℕ, suc, ◌+◌, ◌-◌, 
 use Rattle.std.proofs.lemmas.Option.{none-some, same_Some}
 use Rattle.ssd_tree.specs.declared.tree.ComponentPart.{ComponentPart}
 use Rattle.ssd_tree.specs.declared.tree.SystemTree.{SystemTree}
-use Rattle.nested_documents.specs.declared.components.NestedComponent.{NestedComponent}
+use Rattle.ssd_tree.specs.declared.tree.NestedComponent.{NestedComponent}
 use Rattle.nested_documents.specs.declared.components.Waiting.{Waiting}
 use Rattle.nested_documents.specs.declared.held.Nest.{Nest}
 use Rattle.nested_documents.specs.declared.seam.Frame.{Frame}
 use Rattle.nested_documents.specs.declared.seam.Seam.{Seam}
-use Rattle.nested_documents.specs.Between.{AreBetween, places_of, waiting_places}
+use Rattle.ssd_tree.specs.Lists.{AreBetween, places_of}
+use Rattle.nested_documents.specs.Between.{waiting_places}
 use Rattle.nested_documents.specs.Inlining.{inlined, seam_of}
 use Rattle.nested_documents.specs.Nest.{CanAdd, moved_waiting, waiting_from}
+use Rattle.nested_documents.specs.States.{gathered}
 use Rattle.nested_documents.proofs.BetweenLemmas.{placed_more}
 use Rattle.nested_documents.proofs.PutLemmas.{length_inlined}
 
@@ -50,7 +52,7 @@ waits_added s t before document level nested rest front back all same e f is =
     subst (P t) one (subst (λ (s : Seam). P s (level + 1)) same here)
 
 -- what is taken out where a document may be added
-pub taken : (n : Nest) (next : Waiting) (rest : List Waiting) → CanAdd n → next ≡ get_or n.waiting.items 0 next → rest ≡ drop 1 n.waiting.items → n.waiting.items ≡ next ∷ rest
+pub taken : (n : Nest) (next : Waiting) (rest : List Waiting) → CanAdd (gathered n) → next ≡ get_or n.waiting.items 0 next → rest ≡ drop 1 n.waiting.items → n.waiting.items ≡ next ∷ rest
 taken n next rest can e f =
     let some : 0 < length n.waiting.items = subst (λ (ws : List Waiting). 0 < length ws) (sym can.2) (omega arith) in
     taken_first n.waiting.items next rest some e f

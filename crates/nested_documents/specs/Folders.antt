@@ -1,7 +1,7 @@
 -- Where the documents of nested Components stand (SSP 1.0: Component; type `application/x-ssp-package` and `application/x-ssp-definition`, source).
 use Rattle.std.specs.Prelude.{◌≡◌, ◌≢◌, ℕ, ◌<◌, List, [], ◌++◌, length, slice_index, take, codes}
-use Rattle.nested_documents.specs.declared.components.NestedKind.{NestedKind}
-use Rattle.nested_documents.specs.declared.components.NestedKind.TheVariants.{Package, Definition}
+use Rattle.ssd_tree.specs.declared.tree.NestedKind.{NestedKind}
+use Rattle.ssd_tree.specs.declared.tree.NestedKind.TheVariants.{Package, Definition}
 
 -- a package is a directory with a SystemStructure.ssd
 abbrev pub document_path : NestedKind → List ℕ → List ℕ

@@ -1,7 +1,6 @@
 -- Where the elements of documents stand that were put into one another: the whole is the list of its elements, and a number of the whole a place in it.
 use Rattle.std.specs.Prelude.{ℕ, zero, suc, List, [], ◌∷◌, ◌++◌, take, drop}
 use Rattle.nested_documents.specs.declared.numbers.Place.{Place}
-use Rattle.nested_documents.specs.declared.numbers.Numbers.{Numbers}
 use Rattle.nested_documents.specs.declared.run.Run.{Run}
 
 -- so many elements of a document, from one on
@@ -14,10 +13,6 @@ run document node (suc count) =
 abbrev pub elements_in : List Run → List Place
 elements_in [] = []
 elements_in (r ∷ rs) = run r.document r.node r.count ++ elements_in rs
-
--- the elements of the whole, in their order
-abbrev pub elements_of : Numbers → List Place
-elements_of numbers = elements_in numbers.runs.items
 
 -- the elements of a document before one of the whole
 abbrev pub with_elements : ℕ → ℕ → ℕ → List Place → List Place

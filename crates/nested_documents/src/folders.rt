@@ -2,8 +2,8 @@
 ghost use Rattle.std.specs.Prelude.{◌≡◌, ◌++◌, IfOk, codes};
 ghost use Rattle.nested_documents.specs.Folders.{IsFolderIn, IsFolderOf, document_path};
 
-use crate::components::NestedKind;
 use sim_base::Text;
+use ssd_tree::NestedKind;
 use std::alloc::{AllocError, Global};
 
 /// The path of the document that a Component's `source` names.

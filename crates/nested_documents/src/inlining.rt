@@ -1,13 +1,15 @@
 //! A document in the place of a Component of another.
-ghost use Rattle.std.specs.Prelude.{◌≡◌, ◌+◌, ◌<◌, ◌≤◌, ◌==◌, ◌&&◌, nat_lt, IfOk, bytes_eq, count_by, drop, length, map, position, slice_get, vec_len};
+ghost use Rattle.std.specs.Prelude.{◌≡◌, ◌+◌, ◌<◌, ◌≤◌, ◌==◌, nat_lt, IfOk, count_by, drop, length, map, slice_get, vec_len};
 ghost use Rattle.ssd_tree.specs.declared.tree.ComponentPart.{ComponentPart};
 ghost use Rattle.nested_documents.specs.Moves.{moved_binding, moved_component_part, moved_connection, moved_connector_part, moved_system_part};
-ghost use Rattle.nested_documents.specs.Inlining.{bindings_before, connections_before, connectors_before, inner_end, inner_ends, inlined, inner_place, is_inner, is_of, is_outermost, own_connectors, own_count, put, put_together, is_same_kind, seam_of, systems_before};
-ghost use Rattle.nested_documents.specs.Parts.{tree_of};
+ghost use Rattle.nested_documents.specs.Inlining.{bindings_before, connections_before, connectors_before, inner_ends, inlined, is_of, own_connectors, own_count, put, put_together, seam_of, systems_before};
+ghost use Rattle.nested_documents.specs.Inner.{found_end, found_ends};
+ghost use Rattle.ssd_tree.specs.Lists.{tree_of};
 
-use crate::parts::Parts;
+use crate::inner::{inner_place, inner_places};
 use crate::seam::{Frame, Seam, Side};
-use ssd_tree::{Binding, ComponentPart, Connection, Connector, ConnectorKind, Owner, SystemPart};
+use doc_tables::ScopedPlaces;
+use ssd_tree::{Binding, ComponentPart, Connection, Connector, Owner, Parts, SystemPart};
 use std::alloc::{AllocError, Global};
 
 /// The parts of two documents where the inner one, which has so many elements, stands in the place of a Component of the
@@ -89,40 +91,6 @@ fn is_of(owner: Owner, component: usize) -> bool
     }
 }
 
-fn is_outermost(owner: Owner) -> bool
-    ensures { result ≡ is_outermost owner }
-{
-    match owner {
-        Owner::System(place) => place == 0,
-        Owner::Component(_) => false,
-    }
-}
-
-fn is_same_kind(one: ConnectorKind, other: ConnectorKind) -> bool
-    ensures { result ≡ is_same_kind one other }
-{
-    one == other
-}
-
-// Whether an inner connector is the one that stands for a connector of the Component.
-fn is_inner(wanted: &Connector, inner: &Connector) -> bool
-    ensures { result ≡ is_inner wanted.now inner.now }
-{
-    is_outermost(inner.owner)
-        && inner.name.as_str() == wanted.name.as_str()
-        && is_same_kind(inner.kind, wanted.kind)
-}
-
-/// The place of the inner connector that stands for a connector of the Component: that of its name and kind at the
-/// outermost System.
-pub(crate) fn inner_place(inner: &[Connector], wanted: &Connector) -> Option<usize>
-    ensures { result ≡ inner_place inner.now wanted.now }
-{
-    inner
-        .iter()
-        .position(|connector| is_inner(wanted, connector))
-}
-
 // How many connectors at the head of a list are the Component's own.
 fn own_count(connectors: &[Connector], component: usize) -> usize
     ensures is { result ≡ own_count component connectors.now }
@@ -150,11 +118,26 @@ fn put<T: Drop>(outer: Vec<T>, at: usize, gone: usize, inner: Vec<T>) -> Result<
 
 impl Seam {
     // The place in the whole of the inner connector that stands for one of the Component's.
-    fn end(&self, inner: &[Connector], wanted: &Connector) -> Result<usize, AllocError>
-        ensures { IfOk result (λ end. end ≡ inner_end self.now inner.now wanted.now) }
+    fn end<'a>(&self, places: &ScopedPlaces<'a>, wanted: &'a Connector) -> Result<usize, AllocError>
+        ensures { IfOk result (λ end. end ≡ found_end self.now places.now wanted.now) }
     {
-        let place = inner_place(inner, wanted).unwrap_or(0);
+        let place = inner_place(places, wanted).unwrap_or(0);
         place.checked_add(self.connectors_before).ok_or(AllocError)
+    }
+
+    fn ends<'a>(
+        &self,
+        alloc: Global,
+        places: &ScopedPlaces<'a>,
+        own: &'a [Connector],
+    ) -> Result<Vec<usize>, AllocError>
+        ensures { IfOk result (λ ends. ends.items ≡ found_ends self.now places.now own.now) }
+    {
+        let mut ends = Vec::with_capacity(alloc, own.len())?;
+        for connector in own {
+            ends.push(self.end(places, connector)?)?;
+        }
+        Ok(ends)
     }
 
     /// The Component's own connectors.
@@ -167,22 +150,18 @@ impl Seam {
         &rest[..own_count(rest, self.component)]
     }
 
-    fn own_ends(
+    // The places in the whole of the inner connectors that stand for the Component's own.
+    fn own_ends<'a>(
         &self,
         alloc: Global,
-        outer: &[Connector],
-        inner: &[Connector],
+        outer: &'a [Connector],
+        inner: &'a [Connector],
     ) -> Result<Vec<usize>, AllocError>
         requires { self.now.connectors_before ≤ length outer.now }
-        ensures ends { IfOk result (λ ends. ends.items ≡ inner_ends self.now outer.now inner.now) }
-        ensures within { IfOk result (λ ends. self.now.connectors_before + vec_len ends ≤ length outer.now) }
+        ensures { IfOk result (λ ends. ends.items ≡ inner_ends self.now outer.now inner.now) }
     {
-        let own = self.own(outer);
-        let mut ends = Vec::with_capacity(alloc, own.len())?;
-        for connector in own {
-            ends.push(self.end(inner, connector)?)?;
-        }
-        Ok(ends)
+        let places = inner_places(alloc, inner)?;
+        self.ends(alloc, &places, self.own(outer))
     }
 
     fn whole_systems(

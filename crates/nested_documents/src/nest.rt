@@ -1,18 +1,17 @@
 //! The documents of a system, read one after the other and put together.
-ghost use Rattle.std.specs.Prelude.{◌≡◌, ◌↔◌, ◌-◌, ◌≤◌, [], None, IfErr, IfOk, IfSome, IsTrue, length, map, vec_len};
-ghost use Rattle.nested_documents.specs.Between.{AreBetween, places_of};
-ghost use Rattle.nested_documents.specs.Nest.{CanAdd, IsAdded, IsDocumentOf, IsFrameFor, IsNext, HoldsOnly, IsWholeNest, earlier_place, first_lacking, is_before, is_refused, lacking_in, moved_waiting, waiting_from};
-ghost use Rattle.nested_documents.specs.Numbers.{elements_of};
+ghost use Rattle.std.specs.Prelude.{◌≡◌, ◌≤◌, [], IfErr, IfOk, length, map};
+ghost use Rattle.nested_documents.specs.Nest.{CanAdd, HoldsOnly, IsAdded, IsFrameFor, IsNext, IsWholeNest, earlier_place, fmus_in, is_before, is_refused, lacking_in, moved_waiting, setting_in, waiting_from};
+ghost use Rattle.nested_documents.specs.States.{complete, document_of, gathered};
 
-use crate::components::{NestedComponent, Waiting};
+use crate::components::Waiting;
 use crate::folders::{document_path, folder_of};
-use crate::held::{DocumentParts, Nest};
-use crate::inlining::{inlined, inner_place, seam_of};
+use crate::held::Nest;
+use crate::inlining::{inlined, seam_of};
+use crate::inner::{first_lacking, inner_places};
 use crate::numbers::{Numbers, Place};
-use crate::parts::Parts;
 use crate::seam::{Frame, Seam, Side, sum};
 use sim_base::Text;
-use ssd_tree::{ComponentPart, Connector, SystemTree};
+use ssd_tree::{ComponentPart, Connector, DocumentParts, NestedComponent, Setting, SystemTree};
 use std::alloc::{AllocError, Global};
 
 /// The deepest level below the outermost document at which a document is read.
@@ -21,44 +20,18 @@ pub const DEEPEST_LEVEL: usize = 8;
 /// The greatest number of documents that are read.
 pub const MOST_DOCUMENTS: usize = 256;
 
-impl DocumentParts {
-    /// What a document says, if its nested Components stand in document order among its Components.
-    pub fn new(parts: Parts, nested: Vec<NestedComponent>, elements: usize) -> Option<DocumentParts>
-        ensures none { result ≡ None →
-            AreBetween 0 (vec_len parts.components) (places_of nested.items) → ⊥ }
-        ensures some { IfSome result (IsDocumentOf parts nested.items elements) }
-    {
-        if are_between(&nested, parts.components.len()) {
-            Some(DocumentParts {
-                parts,
-                nested,
-                elements,
-            })
-        } else {
-            None
-        }
-    }
-}
-
-// Whether these stand in document order among so many Components.
-fn are_between(nested: &[NestedComponent], count: usize) -> bool
-    ensures { IsTrue result ↔ AreBetween 0 count (places_of nested.now) }
-{
-    let mut low = 0;
-    for one in nested {
-        if one.component < low || count <= one.component {
-            return false;
-        }
-        low = one.component + 1;
-    }
-    true
-}
+/// What counts for the outermost document.
+pub const OUTERMOST: Setting = Setting {
+    nests: true,
+    fmus: 0,
+    name_above: 0,
+};
 
 /// What comes next.
 #[derive(Drop)]
 pub enum Next {
-    /// The document at this path, below the folder of the outermost one.
-    Document { path: Text },
+    /// The document at this path, below the folder of the outermost one; and what counts for it of the documents before.
+    Document { path: Text, setting: Setting },
     /// No Component waits.
     Nothing,
     /// The document of this Component would stand too deep, or be one too many.
@@ -96,18 +69,6 @@ fn earlier_place(one: Option<Place>, other: Option<Place>) -> Option<Place>
             _ => Some(first),
         },
     }
-}
-
-// The element of the first connector of a Component that the inner document's outermost System lacks.
-fn first_lacking(own: &[Connector], inner: &[Connector]) -> Option<usize>
-    ensures { result ≡ first_lacking own.now inner.now }
-{
-    for connector in own {
-        if inner_place(inner, connector).is_none() {
-            return Some(connector.node);
-        }
-    }
-    None
 }
 
 // What the inner document takes from a Component.
@@ -157,17 +118,22 @@ fn waiting_of(
 }
 
 // Where the first connector stands that the inner document lacks.
-fn lacking_in(
+fn lacking_in<'a>(
+    alloc: Global,
     numbers: &Numbers,
     seam: &Seam,
-    outer: &[Connector],
-    inner: &[Connector],
-) -> Option<Place>
+    outer: &'a [Connector],
+    inner: &'a [Connector],
+) -> Result<Option<Place>, AllocError>
     requires { seam.now.connectors_before ≤ length outer.now }
-    ensures { result ≡ lacking_in (elements_of numbers.now) seam.now outer.now inner.now }
+    ensures { IfOk result
+        (λ place. place ≡ lacking_in numbers.now seam.now outer.now inner.now) }
 {
-    let node = first_lacking(seam.own(outer), inner)?;
-    numbers.place(node)
+    let places = inner_places(alloc, inner)?;
+    match first_lacking(seam.own(outer), &places) {
+        Some(node) => Ok(numbers.place(node)),
+        None => Ok(None),
+    }
 }
 
 // Those that waited before, where they are in the whole.
@@ -198,7 +164,7 @@ fn moved_on(alloc: Global, seam: &Seam, rest: Vec<Waiting>) -> Result<Vec<Waitin
 impl Nest {
     /// How many FMUs the documents name that are read so far.
     pub fn fmus(&self) -> usize
-        ensures { result ≡ vec_len self.now.parts.components - vec_len self.now.waiting }
+        ensures { result ≡ fmus_in (gathered self.now) }
     {
         self.parts
             .components
@@ -206,9 +172,20 @@ impl Nest {
             .saturating_sub(self.waiting.len())
     }
 
+    // What counts for the document that goes in the place of a Component.
+    fn setting(&self, component: &ComponentPart) -> Result<Setting, AllocError>
+        ensures { IfOk result (λ setting. setting ≡ setting_in (gathered self.now) component.now) }
+    {
+        Ok(Setting {
+            nests: true,
+            fmus: self.fmus(),
+            name_above: sum(component.name.as_str().len(), 1)?,
+        })
+    }
+
     /// What comes next: the document of the first Component that waits.
     pub fn next(&self, alloc: Global) -> Result<Next, AllocError>
-        ensures { IfOk result (IsNext self.now) }
+        ensures { IfOk result (IsNext (gathered self.now)) }
     {
         let Some(waiting) = self.waiting.first() else {
             return Ok(Next::Nothing);
@@ -221,12 +198,13 @@ impl Nest {
         let component = &self.parts.components[waiting.component];
         Ok(Next::Document {
             path: document_path(alloc, waiting.kind, component.source.as_str())?,
+            setting: self.setting(component)?,
         })
     }
 
     /// The outermost document, whose nested Components wait.
     pub fn new(alloc: Global, top: DocumentParts) -> Result<Nest, AllocError>
-        ensures { IfOk result (HoldsOnly top) }
+        ensures { IfOk result (λ nest. HoldsOnly (document_of top) (gathered nest)) }
     {
         let DocumentParts {
             parts,
@@ -246,8 +224,8 @@ impl Nest {
 
     /// The next document, in the place of the first Component that waits.
     pub fn add(self, alloc: Global, document: DocumentParts) -> Result<Nest, AllocError>
-        requires { CanAdd self }
-        ensures { IfOk result (IsAdded self document) }
+        requires { CanAdd (gathered self) }
+        ensures { IfOk result (λ nest. IsAdded (gathered self) (document_of document) (gathered nest)) }
     {
         let Nest {
             parts,
@@ -264,7 +242,7 @@ impl Nest {
         let next = waiting.remove(0);
         let seam = seam_of(&parts, next.component, &inner, elements);
         let frame = frame_of(alloc, &parts.components[next.component], &next)?;
-        let here = lacking_in(&numbers, &seam, &parts.connectors, &inner.connectors);
+        let here = lacking_in(alloc, &numbers, &seam, &parts.connectors, &inner.connectors)?;
         let mut waits = waiting_of(alloc, next.component, documents, next.level + 1, nested)?;
         let mut rest = moved_on(alloc, &seam, waiting)?;
         waits.append(&mut rest)?;
@@ -282,8 +260,8 @@ impl Nest {
     /// The whole, where no Component waits; or the first connector of a Component, in the order of documents, for which the
     /// outermost System of the Component's document has none of its name and kind.
     pub fn finish(self) -> Result<Whole, Place>
-        requires { self.waiting.items ≡ [] }
-        ensures whole { IfOk result (IsWholeNest self) }
+        requires { (gathered self).waiting ≡ [] }
+        ensures whole { IfOk result (λ whole. IsWholeNest (gathered self) (complete whole)) }
         ensures lacking { IfErr result (λ place. self.lacking ≡ Some place) }
     {
         let Nest {

@@ -12,9 +12,12 @@ use Rattle.ssd_tree.specs.declared.tree.Origin.TheVariants.{File, Inline}
 use Rattle.system_loading.specs.declared.outline.Outline.{Outline}
 use Rattle.system_loading.specs.declared.parameters.GivenBinding.{GivenBinding}
 use Rattle.system_loading.specs.declared.parameters.GivenSet.{GivenSet}
+use Rattle.system_loading.specs.Documents.{BreaksStructure, IsStructure}
+use Rattle.system_files.specs.Documents.{AtDocument, AtNesting, LacksOutline}
 use Rattle.system_files.specs.Files.{Faulty, Flaw}
-use Rattle.system_files.specs.Loads.{AsksSome, EndsLoading, FileFails, Loads, OfMapping, OfValues, ReadsSome, TakenBindings, ToOutline, ToPart, ToShape, UpTo}
+use Rattle.system_files.specs.Loads.{AsksSome, EndsLoading, FileFails, Loads, OfMapping, OfValues, ReadsSome, TakenBindings, TakenDocuments, ToDocument, ToPart, ToShape, UpTo}
 use Rattle.system_files.specs.Order.{Comes, Fails, Finding, Found, InMapping, InValues, IsValuesPart, LacksBinding, NoBinding, NoOutline, NoSet, NoShape, NoSystem, ReachesBindings, Search, Whole, asked_with, binding_files, folder_of, mapping_files, part_files, part_path}
+use Rattle.system_files.specs.declared.subject.Subject.TheVariants as what
 use Rattle.system_files.specs.declared.loading.LoadEnd.{LoadEnd}
 use Rattle.system_files.specs.declared.loading.LoadEnd.TheVariants as e
 use Rattle.system_files.specs.declared.named.FileFault.{FileFault}
@@ -34,14 +37,14 @@ has_folders s reads asked loaded comes = by (Found loaded) refl comes
     found_same one other e = cc
 
     by : (finding : Finding) → finding ≡ Found loaded → Comes s reads asked finding → HasFolders loaded.folders loaded.system
-    by finding e (NoOutline flaw a f subject lacks asks is) = absurd (apart (sym is ∙ e))
+    by finding e (NoOutline told flaw a f subject lacks is) = absurd (apart (sym is ∙ e))
       where
         apart : {x : _} {y : _} → Fails x y ≡ Found loaded → ⊥
         apart e = cc
     by finding e (NoShape o taken shapes c rest flaw a f reaches lacks asks is) = absurd (cc)
     by finding e (NoSet o shapes taken given b rest files path flaw a f reaches lacks asks is) = absurd (cc)
     by finding e (NoBinding o shapes given n in_mapping rule place path a f reaches breaks told asks is) = absurd (cc)
-    by finding e (NoSystem o shapes given bound rule place ports path a f reaches binds breaks told asks is) = absurd (cc)
+    by finding e (NoSystem o shapes given bound rule node ports a f reaches binds breaks asks is) = absurd (cc)
     by finding e (Whole o shapes given one a f reaches binds makes folders asks is) =
         let same = found_same one loaded (sym is ∙ e) in
         ap (λ (x : Loaded). length x.folders) (sym same) ∙ ap (λ (x : List (List ℕ)). length x) folders ∙ length-map o.systems.components (folder_of s.directory)
@@ -72,14 +75,19 @@ module _ (s : Search) (reads : List ReadNote) (o : Outline) (shapes : List Shape
   part_asked files path flaw (InMapping origin set f p x values m lacks e told) =
       subst (λ (z : List (List ℕ)). AsksSome s reads (asked_with s o taken ++ z)) (sym e) (mapping_asked set origin values m)
 
+-- up to where there is no outline
+outline_asked : (s : Search) (reads : List ReadNote) (asked : List (List ℕ)) (told : List ℕ) (flaw : Flaw) → s.subject ≡ what.System → LacksOutline IsStructure BreaksStructure s.directory reads asked told flaw → AsksSome s reads asked
+outline_asked s reads asked told flaw subject (AtDocument documents path t _ _ _ comes lacks asked_is told_is) = UpTo asked _ (ToDocument documents path t asked _ subject comes asked_is refl)
+outline_asked s reads asked told flaw subject (AtNesting documents g place rule _ _ _ gathers stands asked_is told_is flaw_is) = TakenDocuments documents g asked subject gathers asked_is
+
 -- what was asked for to an end was asked for in the order of reading
 asks_some : (s : Search) (reads : List ReadNote) (asked : List (List ℕ)) (finding : Finding) → Comes s reads asked finding → AsksSome s reads asked
-asks_some s reads asked finding (NoOutline flaw a f subject lacks asks is) = UpTo asked _ (ToOutline asked _ subject asks refl)
+asks_some s reads asked finding (NoOutline told flaw a f subject lacks is) = outline_asked s reads a told flaw subject lacks
 asks_some s reads asked finding (NoShape o taken shapes c rest flaw a f reaches lacks asks is) = UpTo asked _ (ToShape o taken shapes c rest asked _ reaches asks refl)
 asks_some s reads asked finding (NoSet o shapes taken given b rest files path flaw a f reaches lacks asks is) =
     subst (AsksSome s reads) (sym asks) (part_asked s reads o shapes taken given b rest reaches files path flaw lacks)
 asks_some s reads asked finding (NoBinding o shapes given n in_mapping rule place path a f reaches breaks told asks is) = TakenBindings o shapes o.systems.bindings given [] asked reaches asks
-asks_some s reads asked finding (NoSystem o shapes given bound rule place ports path a f reaches binds breaks told asks is) =
+asks_some s reads asked finding (NoSystem o shapes given bound rule node ports a f reaches binds breaks asks is) =
     TakenBindings o shapes o.systems.bindings given [] asked reaches asks
 asks_some s reads asked finding (Whole o shapes given one a f reaches binds makes folders asks is) = TakenBindings o shapes o.systems.bindings given [] asked reaches asks
 

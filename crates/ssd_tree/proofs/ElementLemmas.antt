@@ -87,6 +87,9 @@ in_root_is t k h = at (parent t k) refl h
 pub is_in_root_from : (t : List Node) (k : ℕ) → parent t k ≡ Some 0 → is_in is_root t k ≡ true
 is_in_root_from t k h = ap (λ (o : Option ℕ). option_map_or (is_root t) o false) h
 
+pub outside_root : (t : List Node) (k : ℕ) → is_in is_root t k ≡ false → parent t k ≡ Some 0 → ⊥
+outside_root t k out root = both_ways _ out (is_in_root_from t k root)
+
 -- what makes a System, both ways
 pub system_by : (t : List Node) (k : ℕ) → IsSystem t k → (is_named t k (codes "System") ≡ true) × ((is_in is_root t k ≡ true) ⊎ IsOfSystem t k (codes "Elements"))
 system_by t k (Outermost _ named up) = (named, inl (is_in_root_from t k up))

@@ -1,5 +1,5 @@
 -- The ends of connections, as they are found.
-use Rattle.std.proofs.Common.{◌≡◌, ◌⊎◌, ◌↔◌, inl, inr, ℕ, Bool, true, false, not, IsTrue, is_some, List, Option, Some, None, MatchOption, codes, refl, sym, ap, ◌∙◌, subst}
+use Rattle.std.proofs.Common.{◌≡◌, ◌⊎◌, ◌↔◌, inl, inr, ℕ, Bool, true, false, not, IsTrue, is_some, List, Option, Some, None, Result, Ok, Err, IfOk, MatchOption, codes, refl, sym, ap, ◌∙◌, subst}
 use Rattle.std.proofs.lemmas.Bool.{both_ways}
 use Rattle.std.proofs.lemmas.Option.{same_Some}
 use Rattle.doc_grammar.specs.Nodes.{Node}
@@ -46,6 +46,11 @@ or_last {P} {Q} {a} {b} p none q = (λ e. inr (q.0 e), at)
 -- the second of two tests, where the first passes
 pub and_last : {P Q : Type 0} {a b : Bool} → (IsTrue a ↔ P) → a ≡ true → (IsTrue b ↔ Q) → IsTrue b ↔ (P × Q)
 and_last p some q = (λ e. (p.0 some, q.0 e), λ h. q.1 h.1)
+
+-- the same of a second test that may run out of memory
+pub or_last_of : {E : Type 0} (P Q : Type 0) (a : Bool) (r : Result Bool E) → (IsTrue a ↔ P) → a ≡ false → IfOk r (λ (b : Bool). IsTrue b ↔ Q) → IfOk r (λ (b : Bool). IsTrue b ↔ (P ⊎ Q))
+or_last_of P Q a (Ok b) p none q = or_last p none q
+or_last_of P Q a (Err e) p none q = tt
 
 pub or_first : {P Q : Type 0} {a : Bool} → (IsTrue a ↔ P) → a ≡ true → IsTrue a ↔ (P ⊎ Q)
 or_first p some = (λ e. inl (p.0 e), λ _. some)

@@ -5,6 +5,9 @@ mod SourceLemmas
 mod OneLemmas
 mod PlainLemmas
 mod EndLemmas
+mod NameLemmas
+mod NestedLemmas
+mod RootLemmas
 mod RuleLemmas
 mod PartLemmas
 mod ReadLemmas

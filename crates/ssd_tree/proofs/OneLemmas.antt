@@ -43,7 +43,7 @@ alone_in_root t k p sound root up =
     none_false t sound named =
         elim (is_named t 0 (codes "SystemStructureDescription")) as (λ b. is_named t 0 (codes "SystemStructureDescription") ≡ b → ⊥) [
           | true ↦ λ e. other t named e
-          | false ↦ λ e. sound r.Structure 0 (refl, inl e)
+          | false ↦ λ e. sound.1 r.Structure 0 (refl, inl e)
         ] refl
 
 one_name : (t : List Node) → IsSoundStructure t → (j k : ℕ) (n m : List ℕ) → IsFullName t j n → IsFullName t k m → j ≡ k → n ≡ m
@@ -183,7 +183,7 @@ one_connection t nodes lists k x y p q =
 
 -- ---- the whole
 
-zip_same : {A B : Type 0} (R : A → B → Type 0) → ((k : A) (x y : B) → R k x → R k y → x ≡ y) → (ks : List A) (xs ys : List B) → AllZip R ks xs → AllZip R ks ys → xs ≡ ys
+pub zip_same : {A B : Type 0} (R : A → B → Type 0) → ((k : A) (x y : B) → R k x → R k y → x ≡ y) → (ks : List A) (xs ys : List B) → AllZip R ks xs → AllZip R ks ys → xs ≡ ys
 zip_same R one [] [] [] p q = refl
 zip_same R one [] [] (y ∷ ys) p q = absurd q
 zip_same R one [] (x ∷ xs) ys p q = absurd p

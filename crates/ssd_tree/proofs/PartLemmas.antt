@@ -39,19 +39,19 @@ is_text None h = absurd (none_some h)
 is_text (Some x) h = refl
 
 pub system_named : (t : List Node) (k : ℕ) → IsSoundStructure t → IsSystem t k → IsSome (attribute t k (codes "name"))
-system_named t k sound is = some_not_empty (attribute t k (codes "name")) (λ e. sound r.Incomplete k (inl (inr (inl (is, e)))))
+system_named t k sound is = some_not_empty (attribute t k (codes "name")) (λ e. sound.1 r.Incomplete k (inl (inr (inl (is, e)))))
 
 pub component_named : (t : List Node) (k : ℕ) → IsSoundStructure t → IsComponent t k → IsSome (attribute t k (codes "name"))
-component_named t k sound is = some_not_empty (attribute t k (codes "name")) (λ e. sound r.Incomplete k (inl (inr (inr (is, inl e)))))
+component_named t k sound is = some_not_empty (attribute t k (codes "name")) (λ e. sound.1 r.Incomplete k (inl (inr (inr (is, inl e)))))
 
 pub component_sourced : (t : List Node) (k : ℕ) → IsSoundStructure t → IsComponent t k → IsSome (attribute t k (codes "source"))
-component_sourced t k sound is = some_from (attribute t k (codes "source")) (λ e. sound r.Incomplete k (inl (inr (inr (is, inr e)))))
+component_sourced t k sound is = some_from (attribute t k (codes "source")) (λ e. sound.1 r.Incomplete k (inl (inr (inr (is, inr e)))))
 
 pub connector_named : (t : List Node) (k : ℕ) → IsSoundStructure t → IsConnector t k → IsSome (attribute t k (codes "name"))
-connector_named t k sound is = some_not_empty (attribute t k (codes "name")) (λ e. sound r.Incomplete k (inr (inl (is, inl e))))
+connector_named t k sound is = some_not_empty (attribute t k (codes "name")) (λ e. sound.1 r.Incomplete k (inr (inl (is, inl e))))
 
 pub connector_kinded : (t : List Node) (k : ℕ) → IsSoundStructure t → IsConnector t k → IsSome (kind_of t k)
-connector_kinded t k sound is = some_from (kind_of t k) (λ e. sound r.Incomplete k (inr (inl (is, inr (inl e)))))
+connector_kinded t k sound is = some_from (kind_of t k) (λ e. sound.1 r.Incomplete k (inr (inl (is, inr (inl e)))))
 
 pub some_end : (P : ℕ → Type 0) (o : Option ℕ) → (((k : ℕ) → P k → ⊥) → ⊥) → MatchOption o ((k : ℕ) → P k → ⊥) P → IsSome o
 some_end P None h none = absurd (h none)
@@ -108,7 +108,7 @@ pub values_there : (t : List Node) (k : ℕ) → IsSoundStructure t → IsBindin
 values_there t k sound is none =
     elim (has_child t k (codes "ParameterValues")) as (λ b. has_child t k (codes "ParameterValues") ≡ b → IsSome (first_child t k (codes "ParameterValues"))) [
       | true ↦ λ e. found_some (λ c. is_named t c (codes "ParameterValues")) (children t k) e
-      | false ↦ λ e. absurd (sound r.Incomplete k (inr (inr (inr (is, none, e)))))
+      | false ↦ λ e. absurd (sound.1 r.Incomplete k (inr (inr (inr (is, none, e)))))
     ] refl
 
 pub mapping_none : (t : List Node) (k : ℕ) (o : Option ℕ) → o ≡ None → Finds (mapping_key t) (k, codes "ParameterMapping") o → (m : ℕ) → IsMappingOf t m k → ⊥

@@ -16,7 +16,7 @@ use Rattle.ssd_tree.specs.Elements.{IsBinding, IsComponent, first_child}
 use Rattle.ssd_tree.specs.Listings.{IsListing}
 use Rattle.ssd_tree.specs.Parts.{Describes, HasPath, IsBindingPart, IsComponentPart, IsMappingOrigin, IsOrigin, IsPlain, IsPlainOrigin, NamesPlainPaths}
 use Rattle.ssd_tree.specs.Rules.{HasNoPath, IsSoundStructure}
-use Rattle.ssd_tree.specs.Sources.{is_astray, is_left_out, is_path}
+use Rattle.ssd_tree.specs.Sources.{LeadsDown, is_astray, is_left_out, is_path}
 
 -- ---- segments
 
@@ -113,6 +113,29 @@ source_plain source is =
     (both_true (not (length (kept_segments source) == 0)) (not (list_any is_astray (kept_segments source)))
     (both_true (not (list_any is_left_out source)) (not (length (kept_segments source) == 0) && not (list_any is_astray (kept_segments source))) is).1).1)
 
+-- the segments of a path that is taken
+source_leads : (source : List ℕ) → is_path source ≡ true → LeadsDown (plain_path source)
+source_leads source is =
+    let some = not (length (kept_segments source) == 0) in
+    let down = not (list_any is_astray (kept_segments source)) in
+    let both = both_true some down (both_true (not (list_any is_left_out source)) (some && down) is).1 in record {
+      segments = kept_segments source;
+      some = not_true (length (kept_segments source) == 0) both.0;
+      whole = All-filter leads IsSegment (without_last_empty (segments source)) (all_but_last IsSegment (segments source) (split_segments source));
+      filled = none_astray (kept_segments source) both.1;
+      leads = filter_passes leads (without_last_empty (segments source));
+      is = refl;
+    }
+  where
+    not_true : (b : Bool) → not b ≡ true → b ≡ false
+    not_true true e = absurd (cc)
+    not_true false e = refl
+
+-- a path that leads down is plain
+pub leads_plain : (path : List ℕ) → LeadsDown path → IsPlain path
+leads_plain path down =
+    down.is ∙ (sym (ap (join_with_byte 47) (kept_again down.segments down.whole down.leads down.filled)) ∙ ap plain_path (sym down.is))
+
 -- an element whose source is a path has a plain one
 module _ (t : List Node) (k : ℕ) (is_one : HasNoPath t k → ⊥) where
   path_plain : (path : List ℕ) → HasPath t k path → IsPlain path
@@ -120,6 +143,13 @@ module _ (t : List Node) (k : ℕ) (is_one : HasNoPath t k → ⊥) where
     where
       by : (b : Bool) → is_path has.0 ≡ b → IsPlain path
       by true e = subst IsPlain (sym has.2) (source_plain has.0 e)
+      by false e = absurd (is_one (has.0, has.1, e))
+
+  path_leads : (path : List ℕ) → HasPath t k path → LeadsDown path
+  path_leads path has = by (is_path has.0) refl
+    where
+      by : (b : Bool) → is_path has.0 ≡ b → LeadsDown path
+      by true e = subst LeadsDown (sym has.2) (source_leads has.0 e)
       by false e = absurd (is_one (has.0, has.1, e))
 
   origin_plain : (inner : Option ℕ) (origin : Origin) → IsOrigin t k inner origin → IsPlainOrigin origin
@@ -131,7 +161,7 @@ module _ (t : List Node) (k : ℕ) (is_one : HasNoPath t k → ⊥) where
 module _ (t : List Node) (sound : IsSoundStructure t) where
   mapping_plain : (k : ℕ) (mapping : Option Origin) → IsMappingOrigin t k mapping → IfSome mapping IsPlainOrigin
   mapping_plain k None is = tt
-  mapping_plain k (Some origin) is = origin_plain t is.0 (λ none. sound r.NoSource is.0 (inr (inr (k, is.1, inl none)))) (Some is.0) origin is.2
+  mapping_plain k (Some origin) is = origin_plain t is.0 (λ none. sound.1 r.NoSource is.0 (inr (inr (k, is.1, inl none)))) (Some is.0) origin is.2
 
 -- what holds of all that stands beside elements of a sort
 each_of : {X : Type 0} (Sort : ℕ → Type 0) (R : ℕ → X → Type 0) (Q : X → Type 0) → ((k : ℕ) (x : X) → Sort k → R k x → Q x) →
@@ -146,11 +176,14 @@ all_listed Sort nodes is = λ i d below. (is.each _).0 (Contains-get_or nodes i 
 
 pub plain_paths : (t : List Node) (tree : SystemTree) → IsSoundStructure t → Describes t tree → NamesPlainPaths tree
 plain_paths t tree sound d = record {
+  sources = each_of (IsComponent t) (IsComponentPart t d.nodes) (λ (c : ComponentPart). LeadsDown c.source)
+      (λ k c is part. path_leads t k (λ none. sound.1 r.NoSource k (inl (is, none))) c.source part.source)
+      d.nodes.components tree.components (all_listed (IsComponent t) d.nodes.components d.lists.components) d.components;
   components = each_of (IsComponent t) (IsComponentPart t d.nodes) (λ (c : ComponentPart). IsPlain c.source)
-      (λ k c is part. path_plain t k (λ none. sound r.NoSource k (inl (is, none))) c.source part.source)
+      (λ k c is part. path_plain t k (λ none. sound.1 r.NoSource k (inl (is, none))) c.source part.source)
       d.nodes.components tree.components (all_listed (IsComponent t) d.nodes.components d.lists.components) d.components;
   values = each_of (IsBinding t) (IsBindingPart t d.nodes) (λ (b : Binding). IsPlainOrigin b.values)
-      (λ k b is part. origin_plain t k (λ none. sound r.NoSource k (inr (inl (is, inl none)))) (first_child t k (codes "ParameterValues")) b.values part.values)
+      (λ k b is part. origin_plain t k (λ none. sound.1 r.NoSource k (inr (inl (is, inl none)))) (first_child t k (codes "ParameterValues")) b.values part.values)
       d.nodes.bindings tree.bindings (all_listed (IsBinding t) d.nodes.bindings d.lists.bindings) d.bindings;
   mappings = each_of (IsBinding t) (IsBindingPart t d.nodes) (λ (b : Binding). IfSome b.mapping IsPlainOrigin)
       (λ k b is part. mapping_plain t sound k b.mapping part.mapping)

@@ -1,5 +1,5 @@
 -- The rules by their numbers; past the last element none is broken.
-use Rattle.std.proofs.Common.{◌≡◌, ◌⊎◌, ◌↔◌, ℕ, zero, suc, ◌+◌, ◌<◌, ◌≤◌, List, length, get_or, slice_get, Some, false, IsTrue, ◌==◌, codes, refl, sym, ap, ◌∙◌, subst, inl, inr, arith}
+use Rattle.std.proofs.Common.{◌≡◌, ◌⊎◌, ◌↔◌, ℕ, zero, suc, ◌+◌, ◌-◌, ◌<◌, ◌≤◌, List, length, get_or, slice_get, Some, false, IsTrue, ◌==◌, codes, refl, sym, ap, ◌∙◌, subst, inl, inr, arith}
 use Rattle.std.specs.List.{Contains}
 use Rattle.std.proofs.lemmas.Bool.{both_ways, eqb-true, eq-eqb}
 use Rattle.std.proofs.lemmas.Option.{same_Some}
@@ -10,9 +10,10 @@ use Rattle.doc_tree.specs.declared.rule.TheConstants.{SYSTEM_RULES}
 use Rattle.doc_tree.specs.Rules.{system_number}
 use Rattle.doc_tables.proofs.CallerLemmas.{AreApart, IsListed}
 use Rattle.doc_tables.specs.Elements.{parent}
-use Rattle.ssd_tree.specs.Elements.{IsComponent, IsMappingOf, IsPart}
+use Rattle.ssd_tree.specs.Elements.{IsMappingOf, IsPart}
+use Rattle.ssd_tree.specs.declared.tree.Setting.{Setting}
 use Rattle.ssd_tree.specs.Listings.{IsListing}
-use Rattle.ssd_tree.specs.Rules.{ViolatesStructure, IsTooMany, HasNoPath, MappingHasNoSource, ReadsBelowSystem, HasOtherType, HasNoSource, IsIncomplete}
+use Rattle.ssd_tree.specs.Rules.{IsFmu, ViolatesStructure, IsTooMany, HasNoPath, MappingHasNoSource, ReadsBelowSystem, HasOtherType, HasNoSource, IsIncomplete}
 use Rattle.ssd_tree.proofs.ListingLemmas.{one_listing, one_place, contains_at}
 use Rattle.ssd_tree.proofs.ElementLemmas.{parent_within, system_within, component_within, of_part_within, of_system_within}
 
@@ -110,19 +111,19 @@ rules_apart one other same =
 
 -- ---- the 257th component
 
-pub too_many : (t : List Node) (k : ℕ) (xs : List ℕ) → IsListing (IsComponent t) xs → IsTooMany t k → slice_get xs 256 ≡ Some k
-too_many t k xs all many = subst (λ (ys : List ℕ). slice_get ys 256 ≡ Some k) (one_listing (IsComponent t) many.0 xs many.1 all) many.2
+pub too_many : (s : Setting) (t : List Node) (k : ℕ) (xs : List ℕ) → IsListing (IsFmu s t) xs → IsTooMany s t k → slice_get xs (256 - s.fmus) ≡ Some k
+too_many s t k xs all many = subst (λ (ys : List ℕ). slice_get ys (256 - s.fmus) ≡ Some k) (one_listing (IsFmu s t) many.0 xs many.1 all) many.2
 
-pub too_many_at : (t : List Node) (k place : ℕ) (xs ys : List ℕ) → IsListing (IsComponent t) xs → ys ≡ xs → slice_get ys place ≡ Some k → IsTrue (place == 256) ↔ IsTooMany t k
-too_many_at t k place xs ys all same at =
+pub too_many_at : (s : Setting) (t : List Node) (k place : ℕ) (xs ys : List ℕ) → IsListing (IsFmu s t) xs → ys ≡ xs → slice_get ys place ≡ Some k → IsTrue (place == (256 - s.fmus)) ↔ IsTooMany s t k
+too_many_at s t k place xs ys all same at =
     let here : slice_get xs place ≡ Some k = subst (λ (zs : List ℕ). slice_get zs place ≡ Some k) same at in (
-      λ e. (xs, all, subst (λ (i : ℕ). slice_get xs i ≡ Some k) (eqb-true place 256 e) here),
-      λ many. eq-eqb place 256 (one_place xs place 256 k all.rising here (too_many t k xs all many)),
+      λ e. (xs, all, subst (λ (i : ℕ). slice_get xs i ≡ Some k) (eqb-true place (256 - s.fmus) e) here),
+      λ many. eq-eqb place (256 - s.fmus) (one_place xs place (256 - s.fmus) k all.rising here (too_many s t k xs all many)),
     )
 
-pub few : (t : List Node) (k : ℕ) (xs ys : List ℕ) → IsListing (IsComponent t) xs → ys ≡ xs → (Contains ys k → ⊥) → IsTrue false ↔ IsTooMany t k
-few t k xs ys all same none =
-    (λ e. absurd (both_ways _ refl e), λ many. absurd (none (subst (λ (zs : List ℕ). Contains zs k) (sym same) (contains_at xs 256 k (too_many t k xs all many)))))
+pub few : (s : Setting) (t : List Node) (k : ℕ) (xs ys : List ℕ) → IsListing (IsFmu s t) xs → ys ≡ xs → (Contains ys k → ⊥) → IsTrue false ↔ IsTooMany s t k
+few s t k xs ys all same none =
+    (λ e. absurd (both_ways _ refl e), λ many. absurd (none (subst (λ (zs : List ℕ). Contains zs k) (sym same) (contains_at xs (256 - s.fmus) k (too_many s t k xs all many)))))
 
 -- ---- sources
 
@@ -143,7 +144,7 @@ reads_mapping t k binding up none has = at has.2
 
 -- ---- past the last element
 
-module _ (t : List Node) (k : ℕ) (past : length t ≤ k) where
+module _ (s : Setting) (t : List Node) (k : ℕ) (past : length t ≤ k) where
   outside : k < length t → ⊥
   outside h = omega arith
 
@@ -151,8 +152,8 @@ module _ (t : List Node) (k : ℕ) (past : length t ≤ k) where
   no_part (inl is) = outside (system_within t k is)
   no_part (inr is) = outside (component_within t k is)
 
-  other_past : HasOtherType t k → ⊥
-  other_past (inl a) = outside (component_within t k a.0)
+  other_past : HasOtherType s t k → ⊥
+  other_past (inl a) = outside (component_within t k a.0.0)
   other_past (inr a) = outside (of_part_within t k (codes "ParameterBindings") a.0.1)
 
   source_past : HasNoSource t k → ⊥
@@ -168,14 +169,15 @@ module _ (t : List Node) (k : ℕ) (past : length t ≤ k) where
   incomplete_past inside (inr (inr (inl a))) = outside (of_system_within t k (codes "Connections") a.0.1)
   incomplete_past inside (inr (inr (inr a))) = outside (of_part_within t k (codes "ParameterBindings") a.0.1)
 
-  pub breaks_none : (k ≡ 0 → ⊥) → (rule : SystemRule) → ViolatesStructure t rule k → ⊥
+  pub breaks_none : (k ≡ 0 → ⊥) → (rule : SystemRule) → ViolatesStructure s t rule k → ⊥
   breaks_none inside r.Structure h = inside h.0
   breaks_none inside r.ElementTwice h = no_part h.0
   breaks_none inside r.OtherType h = other_past h
   breaks_none inside r.NoSource h = source_past h
-  breaks_none inside r.ModelExchange h = outside (component_within t k h.0)
+  breaks_none inside r.ModelExchange h = outside (component_within t k h.0.0)
   breaks_none inside r.Incomplete h = incomplete_past inside h
   breaks_none inside r.Transformation h = outside (of_system_within t k (codes "Connections") h.0.1)
   breaks_none inside r.NoEnd h = outside (of_system_within t k (codes "Connections") h.0.1)
   breaks_none inside r.WrongEnd h = outside (of_system_within t k (codes "Connections") h.0.1)
-  breaks_none inside r.TooManyComponents h = outside (component_within t k ((h.1.each k).0 (contains_at h.0 256 k h.2)))
+  breaks_none inside r.TooManyComponents (inl h) = outside (component_within t k ((h.1.each k).0 (contains_at h.0 (256 - s.fmus) k h.2)).0)
+  breaks_none inside r.TooManyComponents (inr h) = outside (component_within t k h.0)

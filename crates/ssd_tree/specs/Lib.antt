@@ -3,8 +3,11 @@ pub mod Named
 pub mod Listings
 pub mod Sources
 pub mod Ends
+pub mod Parts
+pub mod Names
 pub mod Rules
 pub mod Paths
-pub mod Parts
+pub mod Lists
+pub mod Nested
 pub mod Indexed
 pub mod Answers

@@ -20,6 +20,7 @@ use Rattle.ssd_tree.specs.declared.tree.SystemTree.{SystemTree}
 use Rattle.ssd_tree.specs.Elements.{first_child, holder, IsSystem, IsComponent, IsConnector, IsConnection, IsBinding, IsMappingOf, kind_of, type_of}
 use Rattle.ssd_tree.specs.Listings.{IsListing}
 use Rattle.ssd_tree.specs.Ends.{IsStart, IsStop}
+use Rattle.ssd_tree.specs.Sources.{LeadsDown}
 
 -- the elements of each sort, in document order
 pub record PartNodes : Type 0 where
@@ -155,8 +156,9 @@ abbrev pub IsPlainOrigin : Origin → Type 0
 IsPlainOrigin (File base path) = IsPlain path
 IsPlainOrigin (Inline node) = Unit {0}
 
--- the paths of all files are plain: of the components' FMUs, and of the bindings' values and mappings
+-- the paths of all files are plain: of the components' FMUs, which lead down, and of the bindings' values and mappings
 pub record NamesPlainPaths (tree : SystemTree) : Type 0 where
+  pub sources : All (λ (c : ComponentPart). LeadsDown c.source) tree.components
   pub components : All (λ (c : ComponentPart). IsPlain c.source) tree.components
   pub values : All (λ (b : Binding). IsPlainOrigin b.values) tree.bindings
   pub mappings : All (λ (b : Binding). IfSome b.mapping IsPlainOrigin) tree.bindings

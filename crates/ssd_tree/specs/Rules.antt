@@ -1,5 +1,5 @@
 -- The rules of a system structure description (SSP 1.0: SystemStructure.ssd), each a statement about one tree and one of its elements.
-use Rattle.std.specs.Prelude.{◌≡◌, ◌≢◌, ◌⊎◌, ℕ, Bool, true, false, List, Some, None, slice_get, count_by, codes, bytes_eq}
+use Rattle.std.specs.Prelude.{◌≡◌, ◌≢◌, ◌⊎◌, ℕ, ◌+◌, ◌-◌, ◌^◌, ◌<◌, Bool, true, false, if◌then◌else◌, List, Option, Some, None, IsSome, option_and_then, slice_get, length, count_by, codes, bytes_eq}
 use Rattle.std.specs.Option.{option_map_or}
 use Rattle.std.specs.List.{list_any}
 use Rattle.doc_grammar.specs.Nodes.{Node}
@@ -9,8 +9,12 @@ use Rattle.doc_tree.specs.Rules.{system_number}
 use Rattle.doc_tables.specs.Elements.{name_of, is_named, attribute, children, Lacks, LacksText}
 use Rattle.doc_tables.specs.Tables.{IsRepeated}
 use Rattle.doc_tables.specs.Violations as all
+use Rattle.ssd_tree.specs.declared.tree.NestedKind.{NestedKind}
+use Rattle.ssd_tree.specs.declared.tree.NestedKind.TheVariants as nested
+use Rattle.ssd_tree.specs.declared.tree.Setting.{Setting}
 use Rattle.ssd_tree.specs.Elements.{has_child, IsSystem, IsComponent, IsPart, IsConnector, IsConnection, IsBinding, IsMappingOf, IsOfSystem, element_key, connector_key, kind_of}
 use Rattle.ssd_tree.specs.Listings.{IsListing}
+use Rattle.ssd_tree.specs.Parts.{IsFullName}
 use Rattle.ssd_tree.specs.Sources.{is_path}
 use Rattle.ssd_tree.specs.Ends.{IsStart, IsStop, start_kind, end_kind}
 use Rattle.doc_tables.specs.Documents.{has_version, is_transformation}
@@ -32,9 +36,29 @@ abbrev pub is_of_type : List Node → ℕ → List ℕ → Bool
 is_of_type t k wanted =
     option_map_or (λ text. bytes_eq text wanted) (attribute t k (codes "type")) true
 
-abbrev pub HasOtherType : List Node → ℕ → Type 0
-HasOtherType t k =
-    (IsComponent t k × (is_of_type t k (codes "application/x-fmu-sharedlibrary") ≡ false))
+-- ---- Components that are systems of their own (SSP 1.0, Component: type)
+
+abbrev pub nested_kind : List ℕ → Option NestedKind
+nested_kind text =
+    if bytes_eq text (codes "application/x-ssp-package") then Some nested.Package
+    else if bytes_eq text (codes "application/x-ssp-definition") then Some nested.Definition
+    else None
+
+-- the kind of a Component that may be a system of its own, where it is one
+abbrev pub kind_in : Setting → List Node → ℕ → Option NestedKind
+kind_in s t k =
+    if s.nests then option_and_then nested_kind (attribute t k (codes "type")) else None
+
+-- a Component that is none is an FMU
+abbrev pub IsFmu : Setting → List Node → ℕ → Type 0
+IsFmu s t k = IsComponent t k × (kind_in s t k ≡ None)
+
+abbrev pub IsNested : Setting → List Node → ℕ → Type 0
+IsNested s t k = IsComponent t k × IsSome (kind_in s t k)
+
+abbrev pub HasOtherType : Setting → List Node → ℕ → Type 0
+HasOtherType s t k =
+    (IsFmu s t k × (is_of_type t k (codes "application/x-fmu-sharedlibrary") ≡ false))
     ⊎ (IsBinding t k × (is_of_type t k (codes "application/x-ssp-parameter-set") ≡ false))
 
 -- ---- sources
@@ -130,38 +154,53 @@ HasWrongEnd t k = StartsWrong t k ⊎ StopsWrong t k
 
 -- ---- the rules
 
--- it is the 257th of all Components
-abbrev pub IsTooMany : List Node → ℕ → Type 0
-IsTooMany t k = (all : List ℕ) × IsListing (IsComponent t) all × (slice_get all 256 ≡ Some k)
+-- with the FMUs before the document it is the 257th
+abbrev pub IsTooMany : Setting → List Node → ℕ → Type 0
+IsTooMany s t k =
+    (all : List ℕ) × IsListing (IsFmu s t) all × (slice_get all (256 - s.fmus) ≡ Some k)
+
+-- with what stands before it, its full name has more than 2^24 bytes
+abbrev pub IsTooLong : Setting → List Node → ℕ → Type 0
+IsTooLong s t k =
+    IsComponent t k × ((name : List ℕ) × IsFullName t k name ×
+    (2 ^ 24 < s.name_above + length name))
 
 -- the element breaks the rule
-abbrev pub ViolatesStructure : List Node → SystemRule → ℕ → Type 0
+abbrev pub ViolatesStructure : Setting → List Node → SystemRule → ℕ → Type 0
 -- 30: the root is no SystemStructureDescription of version 1.0, or has not just one System
-ViolatesStructure t r.Structure k = (k ≡ 0) × IsOtherStructure t k
+ViolatesStructure s t r.Structure k = (k ≡ 0) × IsOtherStructure t k
 -- 31: an element before it, in the same System, has its name
-ViolatesStructure t r.ElementTwice k = IsPart t k × IsRepeated (element_key t) k
--- 32: a component is an FMU, and a binding binds a parameter set (nested packages and others are left out)
-ViolatesStructure t r.OtherType k = HasOtherType t k
+ViolatesStructure s t r.ElementTwice k = IsPart t k × IsRepeated (element_key t) k
+-- 32: a component is an FMU or, where that is allowed, a system of its own; and a binding binds a parameter set
+ViolatesStructure s t r.OtherType k = HasOtherType s t k
 -- 33: a source is a path below the description's folder or, at a component, below the component's
-ViolatesStructure t r.NoSource k = HasNoSource t k
+ViolatesStructure s t r.NoSource k = HasNoSource t k
 -- 34: Model Exchange is left out of this profile
-ViolatesStructure t r.ModelExchange k =
-    IsComponent t k × (attribute t k (codes "implementation") ≡ Some (codes "ModelExchange"))
+ViolatesStructure s t r.ModelExchange k =
+    IsFmu s t k × (attribute t k (codes "implementation") ≡ Some (codes "ModelExchange"))
 -- 35: something required is absent; two connectors of a part have one name; a kind is none of this profile
-ViolatesStructure t r.Incomplete k = IsIncomplete t k
+ViolatesStructure s t r.Incomplete k = IsIncomplete t k
 -- 36: transformations of connections are left out of this profile
-ViolatesStructure t r.Transformation k = IsConnection t k × (has_transformation t k ≡ true)
+ViolatesStructure s t r.Transformation k = IsConnection t k × (has_transformation t k ≡ true)
 -- 37: an end names no element or no connector
-ViolatesStructure t r.NoEnd k = IsConnection t k × HasNoEnd t k
+ViolatesStructure s t r.NoEnd k = IsConnection t k × HasNoEnd t k
 -- 38: it begins or ends at a connector of another kind
-ViolatesStructure t r.WrongEnd k = IsConnection t k × HasWrongEnd t k
--- 48: a system has at most 256 components
-ViolatesStructure t r.TooManyComponents k = IsTooMany t k
+ViolatesStructure s t r.WrongEnd k = IsConnection t k × HasWrongEnd t k
+-- 48: a system has at most 256 FMUs, and full names of at most 2^24 bytes
+ViolatesStructure s t r.TooManyComponents k = IsTooMany s t k ⊎ IsTooLong s t k
 
 -- the first violation: at the first element that breaks a rule, the one of the least number
-abbrev pub IsFirstStructureViolation : List Node → ℕ → SystemRule → Type 0
-IsFirstStructureViolation t k rule = all.IsFirstViolation system_number (ViolatesStructure t) k rule
+abbrev pub IsFirstStructureViolation : Setting → List Node → ℕ → SystemRule → Type 0
+IsFirstStructureViolation s t k rule = all.IsFirstViolation system_number (ViolatesStructure s t) k rule
 
 -- no element breaks a rule
+abbrev pub IsSoundIn : Setting → List Node → Type 0
+IsSoundIn s t = all.HasNoViolation (ViolatesStructure s t)
+
+-- in some setting no element breaks a rule
 abbrev pub IsSoundStructure : List Node → Type 0
-IsSoundStructure t = all.HasNoViolation (ViolatesStructure t)
+IsSoundStructure t = (s : Setting) × IsSoundIn s t
+
+-- the setting of a system in one document
+abbrev pub alone : Setting
+alone = record { nests = false; fmus = 0; name_above = 0 }

@@ -4,16 +4,18 @@ ghost use Rattle.doc_tables.specs.Tables.{IsRepeated, IsTable};
 ghost use Rattle.doc_tables.specs.Places.{found_in};
 ghost use Rattle.ssd_tree.specs.Elements.{connector_key, element_key, IsBinding, IsComponent, IsConnection, IsConnector, IsOfSystem, IsPart, IsSystem, mapping_key};
 ghost use Rattle.ssd_tree.specs.Indexed.{IsIndexed, ListsNodes};
-ghost use Rattle.ssd_tree.specs.Rules.{IsTooMany};
+ghost use Rattle.ssd_tree.specs.Rules.{IsFmu, IsTooMany};
 
 use crate::elements::{connector_key, element_key, mapping_key};
+use crate::kinds::fmus;
 use crate::listings::{is_listed, place_of};
 use crate::sorts::{bindings, components, connections, connectors, is_of_system, systems};
+use crate::tree::Setting;
 use doc_tables::ScopedPlaces;
 use doc_tree::Tree;
 use std::alloc::{AllocError, Global};
 
-/// The greatest number of components of a system.
+/// The greatest number of FMUs of a system.
 pub const MOST_COMPONENTS: usize = 256;
 
 /// The elements of each sort, in document order.
@@ -29,8 +31,10 @@ pub(crate) struct PartLists {
 /// A document, its parts, and where the elements with names stand in it.
 #[derive(Drop)]
 pub(crate) struct IndexedTree<'a> {
+    pub(crate) setting: Setting,
     pub(crate) tree: &'a Tree,
     pub(crate) lists: PartLists,
+    pub(crate) fmus: Vec<usize>,
     pub(crate) elements: ScopedPlaces<'a>,
     pub(crate) connectors: ScopedPlaces<'a>,
     pub(crate) mappings: ScopedPlaces<'a>,
@@ -85,13 +89,22 @@ fn mapping_places(alloc: Global, tree: &Tree) -> Result<ScopedPlaces<'_>, AllocE
 
 impl<'a> IndexedTree<'a> {
     /// The document with its lists and tables.
-    pub(crate) fn new(alloc: Global, tree: &'a Tree) -> Result<IndexedTree<'a>, AllocError>
+    pub(crate) fn new(
+        alloc: Global,
+        setting: Setting,
+        tree: &'a Tree,
+    ) -> Result<IndexedTree<'a>, AllocError>
         ensures indexed { IfOk result IsIndexed }
         ensures tree { IfOk result (λ d. d.tree.now ≡ tree.now) }
+        ensures setting { IfOk result (λ d. d.setting ≡ setting) }
     {
+        let lists = part_lists(alloc, tree)?;
+        let fmus = fmus(alloc, setting, tree, lists.components.as_slice())?;
         Ok(IndexedTree {
+            setting,
             tree,
-            lists: part_lists(alloc, tree)?,
+            lists,
+            fmus,
             elements: element_places(alloc, tree)?,
             connectors: connector_places(alloc, tree)?,
             mappings: mapping_places(alloc, tree)?,
@@ -186,13 +199,21 @@ impl<'a> IndexedTree<'a> {
             .is_repeated(mapping_key(self.tree, node), node)
     }
 
-    /// Whether the element is the 257th of all Components.
+    /// Whether the element is an FMU.
+    pub(crate) fn is_fmu(&self, node: usize) -> bool
+        requires { IsIndexed self.now }
+        ensures { IsTrue result ↔ IsFmu self.now.setting self.now.tree.now node }
+    {
+        is_listed(self.fmus.as_slice(), node)
+    }
+
+    /// Whether the element is the 257th FMU, with those before the document.
     pub(crate) fn is_too_many(&self, node: usize) -> bool
         requires { IsIndexed self.now }
-        ensures { IsTrue result ↔ IsTooMany self.now.tree.now node }
+        ensures { IsTrue result ↔ IsTooMany self.now.setting self.now.tree.now node }
     {
-        match place_of(self.lists.components.as_slice(), node) {
-            Some(place) => place == MOST_COMPONENTS,
+        match place_of(self.fmus.as_slice(), node) {
+            Some(place) => place == MOST_COMPONENTS.saturating_sub(self.setting.fmus),
             None => false,
         }
     }

@@ -1,9 +1,10 @@
 //! What a sound document says: its systems, components, connectors, connections and bindings.
-ghost use Rattle.std.specs.Prelude.{◌≡◌, ℕ, IfOk, IsSome, codes, slice_get};
+ghost use Rattle.std.specs.Prelude.{◌≡◌, ℕ, IfOk, IsSome, codes, slice_get, vec_len};
 ghost use Rattle.std.specs.List.{AllZip};
 ghost use Rattle.doc_tables.specs.Elements.{attribute, Lacks};
 ghost use Rattle.ssd_tree.specs.Elements.{holder, IsBinding, IsComponent, IsConnection, IsConnector, IsOfPart, IsPart, IsSystem};
 ghost use Rattle.ssd_tree.specs.Indexed.{IsIndexed, nodes_of};
+ghost use Rattle.ssd_tree.specs.Lists.{tree_of};
 ghost use Rattle.ssd_tree.specs.Parts.{base_of, Describes, HasPath, IsBindingPart, IsComponentPart, IsConnectionPart, IsConnectorPart, IsFullName, IsMappingOrigin, IsOrigin, IsPlaceOf, IsSystemPart, IsValuesOrigin, owner_node};
 ghost use Rattle.ssd_tree.specs.Paths.{LeadsOut};
 ghost use Rattle.ssd_tree.specs.Rules.{IsSoundStructure};
@@ -11,17 +12,17 @@ ghost use Rattle.ssd_tree.specs.Rules.{IsSoundStructure};
 use crate::elements::{first_child, holder, kind_of, type_of};
 use crate::indexed::IndexedTree;
 use crate::listings::known_place;
+use crate::lists::Parts;
 use crate::tree::{
     Binding, ComponentPart, Connection, Connector, Origin, Owner, SourceBase, SystemPart,
-    SystemTree,
 };
 use doc_tables::{attribute, lacks, text_of};
 use doc_tree::Tree;
-use sim_base::{Items, Text, plain_path};
+use sim_base::{Text, plain_path};
 use std::alloc::{AllocError, Global};
 
-// The text of an attribute that is there.
-fn text(alloc: Global, tree: &Tree, node: usize, name: &str) -> Result<Text, AllocError>
+/// The text of an attribute that is there.
+pub(crate) fn text(alloc: Global, tree: &Tree, node: usize, name: &str) -> Result<Text, AllocError>
     requires { IsSome (attribute tree.now node name.now) }
     ensures { IfOk result (λ t. attribute tree.now node name.now ≡ Some t) }
 {
@@ -345,17 +346,19 @@ impl IndexedTree<'_> {
     }
 
     /// What a sound document says.
-    pub(crate) fn describe(&self, alloc: Global) -> Result<SystemTree, AllocError>
+    pub(crate) fn describe(&self, alloc: Global) -> Result<Parts, AllocError>
         requires indexed { IsIndexed self.now }
         requires sound { IsSoundStructure self.now.tree.now }
-        ensures { IfOk result (Describes self.now.tree.now) }
+        ensures found { IfOk result (λ parts. Describes self.now.tree.now (tree_of parts)) }
+        ensures components { IfOk result
+            (λ parts. vec_len parts.components ≡ vec_len self.now.lists.components) }
     {
-        Ok(SystemTree {
-            systems: Items::from_vec(self.system_parts(alloc)?),
-            components: Items::from_vec(self.component_parts(alloc)?),
-            connectors: Items::from_vec(self.connector_parts(alloc)?),
-            connections: Items::from_vec(self.connection_parts(alloc)?),
-            bindings: Items::from_vec(self.binding_parts(alloc)?),
+        Ok(Parts {
+            systems: self.system_parts(alloc)?,
+            components: self.component_parts(alloc)?,
+            connectors: self.connector_parts(alloc)?,
+            connections: self.connection_parts(alloc)?,
+            bindings: self.binding_parts(alloc)?,
         })
     }
 }

@@ -6,7 +6,7 @@ ghost use Rattle.doc_tables.specs.Violations.{BreaksNoRule, IsLeast};
 ghost use Rattle.ssd_tree.specs.Elements.{IsMappingOf};
 ghost use Rattle.ssd_tree.specs.Indexed.{IsIndexed};
 ghost use Rattle.doc_tree.specs.declared.rule.SystemRule.TheVariants as r;
-ghost use Rattle.ssd_tree.specs.Rules.{has_transformation, BindingHasNoSource, ComponentHasNoSource, HasNoPath, HasNoSource, HasOtherType, MappingHasNoSource, is_of_type, IsFirstStructureViolation, IsIncomplete, IsIncompleteBinding, IsIncompleteComponent, IsIncompleteConnection, IsIncompleteConnector, IsIncompleteEntry, IsIncompletePart, IsIncompleteRoot, IsIncompleteSystem, IsOtherStructure, IsSoundStructure, ReadsBelowSystem, system_count, ViolatesStructure};
+ghost use Rattle.ssd_tree.specs.Rules.{has_transformation, BindingHasNoSource, ComponentHasNoSource, HasNoPath, HasNoSource, HasOtherType, MappingHasNoSource, is_of_type, IsFirstStructureViolation, IsIncomplete, IsIncompleteBinding, IsIncompleteComponent, IsIncompleteConnection, IsIncompleteConnector, IsIncompleteEntry, IsIncompletePart, IsIncompleteRoot, IsIncompleteSystem, IsOtherStructure, IsSoundIn, ReadsBelowSystem, system_count, ViolatesStructure};
 ghost use Rattle.doc_tables.specs.Documents.{has_version, is_transformation};
 
 use crate::elements::{has_child, kind_of};
@@ -86,9 +86,9 @@ fn has_transformation(tree: &Tree, node: usize) -> bool
 impl IndexedTree<'_> {
     fn has_other_type(&self, node: usize) -> bool
         requires { IsIndexed self.now }
-        ensures { IsTrue result ↔ HasOtherType self.now.tree.now node }
+        ensures { IsTrue result ↔ HasOtherType self.now.setting self.now.tree.now node }
     {
-        self.is_component(node) && !is_of_type(self.tree, node, "application/x-fmu-sharedlibrary")
+        self.is_fmu(node) && !is_of_type(self.tree, node, "application/x-fmu-sharedlibrary")
             || self.is_binding(node)
                 && !is_of_type(self.tree, node, "application/x-ssp-parameter-set")
     }
@@ -224,15 +224,27 @@ impl IndexedTree<'_> {
 
     fn is_model_exchange(&self, node: usize) -> bool
         requires { IsIndexed self.now }
-        ensures { IsTrue result ↔ ViolatesStructure self.now.tree.now r.ModelExchange node }
+        ensures { IsTrue result ↔ ViolatesStructure self.now.setting self.now.tree.now r.ModelExchange node }
     {
-        self.is_component(node) && says(self.tree, node, "implementation", "ModelExchange")
+        self.is_fmu(node) && says(self.tree, node, "implementation", "ModelExchange")
+    }
+
+    // Whether it is one FMU too many, or its full name is too long.
+    fn passes_limits(&self, node: usize) -> Result<bool, AllocError>
+        requires { IsIndexed self.now }
+        ensures { IfOk result (λ b. IsTrue b ↔
+            ViolatesStructure self.now.setting self.now.tree.now r.TooManyComponents node) }
+    {
+        if self.is_too_many(node) {
+            return Ok(true);
+        }
+        self.is_too_long(node)
     }
 
     /// Whether an element breaks a rule.
     fn breaks(&self, alloc: Global, rule: SystemRule, node: usize) -> Result<bool, AllocError>
         requires { IsIndexed self.now }
-        ensures { IfOk result (λ b. IsTrue b ↔ ViolatesStructure self.now.tree.now rule node) }
+        ensures { IfOk result (λ b. IsTrue b ↔ ViolatesStructure self.now.setting self.now.tree.now rule node) }
     {
         match rule {
             SystemRule::Structure => Ok(node == 0 && is_other_structure(self.tree, node)),
@@ -246,7 +258,7 @@ impl IndexedTree<'_> {
             }
             SystemRule::NoEnd => Ok(self.is_connection(node) && self.has_no_end(node)),
             SystemRule::WrongEnd => Ok(self.is_connection(node) && self.has_wrong_end(node)),
-            SystemRule::TooManyComponents => Ok(self.is_too_many(node)),
+            SystemRule::TooManyComponents => self.passes_limits(node),
         }
     }
 
@@ -254,8 +266,8 @@ impl IndexedTree<'_> {
     fn broken_rule(&self, alloc: Global, node: usize) -> Result<Option<SystemRule>, AllocError>
         requires { IsIndexed self.now }
         ensures { IfOk result (λ found. MatchOption found
-            (BreaksNoRule (ViolatesStructure self.now.tree.now) node)
-            (IsLeast system_number (ViolatesStructure self.now.tree.now) node)) }
+            (BreaksNoRule (ViolatesStructure self.now.setting self.now.tree.now) node)
+            (IsLeast system_number (ViolatesStructure self.now.setting self.now.tree.now) node)) }
     {
         for rule in SYSTEM_RULES {
             if self.breaks(alloc, rule, node)? {
@@ -272,8 +284,8 @@ impl IndexedTree<'_> {
     ) -> Result<Option<(usize, SystemRule)>, AllocError>
         requires { IsIndexed self.now }
         ensures { IfOk result (λ found. MatchOption found
-            (IsSoundStructure self.now.tree.now)
-            (λ violation. IsFirstStructureViolation self.now.tree.now violation.0 violation.1)) }
+            (IsSoundIn self.now.setting self.now.tree.now)
+            (λ violation. IsFirstStructureViolation self.now.setting self.now.tree.now violation.0 violation.1)) }
     {
         // Where there is no element, the root is missing.
         for node in 0..self.tree.len().max(1) {

@@ -36,7 +36,39 @@ pub struct SystemPart {
     pub name: Text,
 }
 
-/// A Component, which is an FMU.
+/// What counts for a document of the system that it stands in.
+#[derive(Clone, Copy, Debug, PartialEq, Eq)]
+pub struct Setting {
+    /// whether a Component may be a system of its own
+    pub nests: bool,
+    /// how many FMUs the documents name that are read before
+    pub fmus: usize,
+    /// how many bytes stand before the full names of its Components: the full name of the Component that it stands for, and
+    /// a dot; none at the outermost document
+    pub name_above: usize,
+}
+
+/// What the `source` of a Component names that is a system of its own (SSP 1.0, Component: `type`).
+#[derive(Clone, Copy, Debug, PartialEq, Eq)]
+pub enum NestedKind {
+    /// a package: a directory with a `SystemStructure.ssd`
+    Package,
+    /// a system structure description
+    Definition,
+}
+
+/// A Component that is a system of its own, and not an FMU.
+#[derive(Debug, Drop)]
+pub struct NestedComponent {
+    /// its place among the Components of its document, and the number of its element there
+    pub component: usize,
+    pub node: usize,
+    /// its own name
+    pub own_name: Text,
+    pub kind: NestedKind,
+}
+
+/// A Component: an FMU, or a system of its own.
 #[derive(Debug, Drop)]
 pub struct ComponentPart {
     pub node: usize,
@@ -44,7 +76,7 @@ pub struct ComponentPart {
     pub system: usize,
     /// the element names below the outermost System, joined with dots
     pub name: Text,
-    /// the path of its FMU without the segments that lead nowhere: two sources are one where these are equal
+    /// the path that it names without the segments that lead nowhere: two sources are one where these are equal
     pub source: Text,
 }
 

@@ -1,4 +1,3 @@
-mod Weights
 mod Order
-pub mod NameLemmas
 mod NamedLemmas
+mod NestedLemmas

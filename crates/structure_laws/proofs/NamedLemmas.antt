@@ -1,8 +1,9 @@
 -- What a document without violation says is a tree whose names are those of its Systems.
-use Rattle.std.proofs.Common.{◌≡◌, ◌⊎◌, ℕ, ◌<◌, List, [], ◌∷◌, ◌++◌, length, get_or, Option, Some, None, IsSomeAnd, MatchOption, codes, refl, sym, ap, ◌∙◌, subst, inl, inr, arith, append_assoc}
+use Rattle.std.proofs.Common.{◌≡◌, ◌⊎◌, ℕ, ◌<◌, List, [], ◌∷◌, ◌++◌, length, get_or, Option, Some, None, IsSomeAnd, MatchOption, codes, refl, sym, ap, ◌∙◌, subst, inl, inr, arith, append_assoc, All}
 use Rattle.std.specs.List.{AllZip, slice_get}
 use Rattle.std.proofs.lemmas.Bool.{cases_order}
-use Rattle.std.proofs.lemmas.Option.{get_or_from_slice_get, none-some, same_Some, slice_get_within}
+use Rattle.std.proofs.lemmas.List.Elements.{All-cons, All-nil}
+use Rattle.std.proofs.lemmas.Option.{get_or_from_slice_get, none-some, same_Some, slice_get-get_or, slice_get_within}
 use Rattle.std.proofs.lemmas.Slice.Zip.{AllZip-left, AllZip-long, AllZip-right}
 use Rattle.doc_grammar.specs.Nodes.{Node}
 use Rattle.doc_tree.specs.Elements.{IsBelow, IsInOrder}
@@ -13,14 +14,22 @@ use Rattle.ssd_tree.specs.declared.tree.Binding.{Binding}
 use Rattle.ssd_tree.specs.declared.tree.ComponentPart.{ComponentPart}
 use Rattle.ssd_tree.specs.declared.tree.SystemPart.{SystemPart}
 use Rattle.ssd_tree.specs.declared.tree.SystemTree.{SystemTree}
-use Rattle.ssd_tree.specs.Elements.{holder}
+use Rattle.ssd_tree.specs.Elements.{holder, IsComponent, IsSystem}
 use Rattle.ssd_tree.specs.Parts.{Describes, InInner, InOutermost, IsBindingPart, IsComponentPart, IsFullName, IsPlaceOf, IsSystemPart, owner_node}
 use Rattle.ssd_tree.specs.Rules.{IsSoundStructure}
-use Rattle.ssd_tree.proofs.CallerLemmas.{holder_cases, alone_in_root}
-use Rattle.structure_laws.proofs.NameLemmas.{each_beside}
+use Rattle.ssd_tree.proofs.CallerLemmas.{holder_cases, alone_in_root, component_within as inside_document, contains_at, outermost_system, system_within}
+use Rattle.structure_laws.specs.Orderly.{AreRising, IsOrderly, StandsBehind}
+use Rattle.structure_laws.specs.OwnNames.{HasOwnName}
 use Rattle.ssd_tree.specs.Named.{Inner, IsInScope, IsNamedTree, IsOwner, IsScope, Outermost}
 
 -- ---- lists side by side
+
+-- what holds of all that stands beside anything
+each_beside : {X Y : Type 0} (R : X → Y → Type 0) (Q : Y → Type 0) → ((x : X) (y : Y) → R x y → Q y) → (xs : List X) (ys : List Y) → AllZip R xs ys → All Q ys
+each_beside R Q h [] [] zip = All-nil Q
+each_beside R Q h [] (y ∷ ys) zip = absurd zip
+each_beside R Q h (x ∷ xs) [] zip = absurd zip
+each_beside R Q h (x ∷ xs) (y ∷ ys) zip = All-cons Q y ys (h x y zip.0) (each_beside R Q h xs ys zip.1)
 
 -- what stands beside an item of the second list
 beside : {A B : Type 0} (R : A → B → Type 0) (xs : List A) (ys : List B) → AllZip R xs ys → (i : ℕ) (y : B) → slice_get ys i ≡ Some y → (x : A) × (slice_get xs i ≡ Some x) × R x y
@@ -94,8 +103,8 @@ module _ (t : List Node) (in_order : IsInOrder t) where
     long : length tree.systems ≡ length describes.nodes.systems
     long = AllZip-long (IsSystemPart t describes.nodes) describes.nodes.systems tree.systems describes.systems
 
-    component_long : length tree.components ≡ length describes.nodes.components
-    component_long = AllZip-long (IsComponentPart t describes.nodes) describes.nodes.components tree.components describes.components
+    pub component_count : length tree.components ≡ length describes.nodes.components
+    component_count = AllZip-long (IsComponentPart t describes.nodes) describes.nodes.components tree.components describes.components
 
     component_within : (k : ℕ) (c : ComponentPart) → IsComponentPart t describes.nodes k c → c.system < length tree.systems
     component_within k c is =
@@ -106,7 +115,7 @@ module _ (t : List Node) (in_order : IsInOrder t) where
 
     owned : (owner : Owner) (k : ℕ) → owner_node describes.nodes owner ≡ Some k → IsOwner tree owner
     owned (System place) k e = let low = slice_get_within describes.nodes.systems place k e in let same = long in omega (arith, low, same)
-    owned (Component place) k e = let low = slice_get_within describes.nodes.components place k e in let same = component_long in omega (arith, low, same)
+    owned (Component place) k e = let low = slice_get_within describes.nodes.components place k e in let same = component_count in omega (arith, low, same)
 
     -- a full name is the names of the Systems around, and its own
     record Scoped (k place : ℕ) (name : List ℕ) : Type 0 where
@@ -150,6 +159,96 @@ module _ (t : List Node) (in_order : IsInOrder t) where
             ∙ append_assoc scope name' (46 ∷ own)
             ∙ ap (λ (zs : List ℕ). scope ++ zs) (sym (append_assoc name' (46 ∷ []) own))
             ∙ sym (append_assoc scope (name' ++ 46 ∷ []) own)
+
+    -- ---- order
+
+    system_at : (i k : ℕ) → slice_get describes.nodes.systems i ≡ Some k → IsSystem t k
+    system_at i k at = (describes.lists.systems.each k).0 (contains_at describes.nodes.systems i k at)
+
+    component_at : (i k : ℕ) → slice_get describes.nodes.components i ≡ Some k → IsComponent t k
+    component_at i k at = (describes.lists.components.each k).0 (contains_at describes.nodes.components i k at)
+
+    component_element : (i : ℕ) (c : ComponentPart) → slice_get tree.components i ≡ Some c → (k : ℕ) × (slice_get describes.nodes.components i ≡ Some k) × IsComponentPart t describes.nodes k c
+    component_element i c e = beside (IsComponentPart t describes.nodes) describes.nodes.components tree.components describes.components i c e
+
+    rising : AreRising tree.systems
+    rising i j x y at there less =
+        let one = element i x at in
+        let two = element j y there in
+        let first : get_or describes.nodes.systems i 0 ≡ one.0 = get_or_from_slice_get describes.nodes.systems i one.0 0 one.1 in
+        let second : get_or describes.nodes.systems j 0 ≡ two.0 = get_or_from_slice_get describes.nodes.systems j two.0 0 two.1 in
+        let rises : get_or describes.nodes.systems i 0 < get_or describes.nodes.systems j 0 = describes.lists.systems.rising i j less (slice_get_within describes.nodes.systems j two.0 two.1) in
+        let a = one.2.node in
+        let b = two.2.node in
+        omega (arith, first, second, rises, a, b)
+
+    below : (i : ℕ) (x : SystemPart) → slice_get tree.systems i ≡ Some x → x.node < length t
+    below i x at =
+        let here = element i x at in
+        let inside = system_within t here.0 (system_at i here.0 here.1) in
+        let a = here.2.node in
+        omega (arith, inside, a)
+
+    root : (x : SystemPart) × (slice_get tree.systems 0 ≡ Some x) × (x.parent ≡ None)
+    root =
+        let there = outermost_system t sound in
+        let place = (describes.lists.systems.each there.0).1 there.1 in
+        let more = place.1 in
+        let many = long in
+        let at : slice_get tree.systems 0 ≡ Some (get_or tree.systems 0 dummy) = slice_get-get_or tree.systems 0 dummy (omega (arith, more, many)) in
+        let x = get_or tree.systems 0 dummy in
+        (x, at, no_parent x.parent (λ above up. let h = outer 0 above x at up in omega (arith, h)))
+      where
+        dummy : SystemPart
+        dummy = record { node = 0; parent = None; name = [] }
+
+        no_parent : (o : Option ℕ) → ((above : ℕ) → o ≡ Some above → ⊥) → o ≡ None
+        no_parent None none = refl
+        no_parent (Some above) none = absurd (none above refl)
+
+    stands : (i : ℕ) (c : ComponentPart) → slice_get tree.components i ≡ Some c → StandsBehind tree c
+    stands i c at =
+        let here = component_element i c at in
+        let around = placed describes.nodes.systems c.system (holder t here.0 (codes "Elements")) here.2.system in
+        let part = across (IsSystemPart t describes.nodes) describes.nodes.systems tree.systems describes.systems c.system around.0 around.2 in
+        let less = holder_behind here.0 around.0 (codes "Elements") around.1 in
+        let a = here.2.node in
+        let b = part.2.node in
+        (part.0, part.1, omega (arith, less, a, b))
+
+    ends : (i : ℕ) (c : ComponentPart) → slice_get tree.components i ≡ Some c → c.node < length t
+    ends i c at =
+        let here = component_element i c at in
+        let inside = inside_document t here.0 (component_at i here.0 here.1) in
+        let a = here.2.node in
+        omega (arith, inside, a)
+
+    pub orderly_tree : IsOrderly (length t) tree
+    orderly_tree = record {
+      rising = rising;
+      below = below;
+      root = root;
+      outer = outer;
+      within = stands;
+      ends = ends;
+    }
+
+    -- ---- names
+
+    -- a Component whose own name is known
+    pub own_named : (place k : ℕ) (own : List ℕ) → slice_get describes.nodes.components place ≡ Some k → attribute t k (codes "name") ≡ Some own → HasOwnName tree place own
+    own_named place k own at named =
+        let part = across (IsComponentPart t describes.nodes) describes.nodes.components tree.components describes.components place k at in
+        let around = placed describes.nodes.systems part.0.system (holder t k (codes "Elements")) part.2.system in
+        let parts = scoped k part.0.system around.0 part.0.name part.2.name around.1 around.2 in
+        let same : parts.own ≡ own = same_Some parts.own own (sym parts.own_is ∙ named) in
+        record {
+          component = part.0;
+          at = part.1;
+          scope = parts.scope;
+          scope_is = parts.scope_is;
+          is = parts.name_is ∙ ap (λ (zs : List ℕ). parts.scope ++ zs) same;
+        }
 
     in_scope : (k : ℕ) (c : ComponentPart) → IsComponentPart t describes.nodes k c → IsInScope tree c
     in_scope k c is =

@@ -3,4 +3,4 @@
 
 mod laws;
 
-pub use laws::{named_trees, read_structures};
+pub use laws::{named_trees, orderly_trees};

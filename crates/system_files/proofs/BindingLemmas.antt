@@ -20,7 +20,6 @@ use Rattle.system_loading.specs.Faults.{TellsFirst}
 use Rattle.system_loading.specs.Readings.{BreaksAlone}
 use Rattle.system_files.specs.declared.loading.LoadEnd.{LoadEnd}
 use Rattle.system_files.specs.declared.loading.LoadEnd.TheVariants as end
-use Rattle.system_files.specs.declared.subject.Subject.{Subject}
 use Rattle.system_files.specs.Order.{binding_files, mapping_files, part_files}
 use Rattle.system_files.specs.Steps.{AtBinding, EndsBinding, EndsBindings, EndsWithin, IsGivenAlone, IsMappingAlone, SaysMapping, SaysMappingWithin, TakesBinding, TakesBindings, TakesPart, TakesValues, TellsWithin}
 use Rattle.system_files.proofs.AskLemmas.{asked_then, none_asked}
@@ -78,8 +77,8 @@ module _ (directory : List ℕ) (o : Outline) (old mid : FolderView) (bindings :
             (asked_then old mid new takes.reads t.reads (flat_map (binding_files directory o) (take n bindings)) (binding_files directory o b) takes.asks t.asks);
       })
 
-  pub ends_more : (subject : Subject) (ended : LoadEnd) (new : FolderView) → bindings ≡ o.systems.bindings → EndsBinding subject directory o b ended mid new → EndsBindings subject directory o ended old new
-  ends_more subject ended new same h = AtBinding (take n bindings) given b (drop (n + 1) bindings) mid (sym same ∙ parted bindings n b below is) takes h
+  pub ends_more : (ended : LoadEnd) (new : FolderView) → bindings ≡ o.systems.bindings → EndsBinding directory o b ended mid new → EndsBindings directory o ended old new
+  ends_more ended new same h = AtBinding (take n bindings) given b (drop (n + 1) bindings) mid (sym same ∙ parted bindings n b below is) takes h
 
 -- as many as bindings before the place
 pub as_many : (directory : List ℕ) (o : Outline) (old new : FolderView) (bindings : List Binding) (n : ℕ) (given : List GivenBinding) → n ≤ length bindings →

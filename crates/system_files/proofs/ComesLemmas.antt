@@ -12,18 +12,19 @@ use Rattle.ssd_tree.specs.declared.tree.Owner.{Owner}
 use Rattle.system_loading.specs.declared.outline.Outline.{Outline}
 use Rattle.system_loading.specs.declared.parameters.GivenBinding.{GivenBinding}
 use Rattle.system_loading.specs.declared.parameters.GivenMapping.{GivenMapping}
-use Rattle.system_loading.specs.Readings.{IsMapping, IsMappingWithin, IsModel, IsStructure, IsValues, IsValuesWithin, BreaksMapping, BreaksMappingWithin, BreaksModel, BreaksStructure, BreaksValues, BreaksValuesWithin}
+use Rattle.system_loading.specs.Documents.{BreaksStructure, IsStructure}
+use Rattle.system_loading.specs.Readings.{IsMapping, IsMappingWithin, IsModel, IsValues, IsValuesWithin, BreaksMapping, BreaksMappingWithin, BreaksModel, BreaksValues, BreaksValuesWithin}
 use Rattle.system_files.specs.declared.subject.Subject.{Subject}
 use Rattle.system_files.specs.declared.subject.Subject.TheVariants as what
-use Rattle.system_files.specs.Files.{Flaw, structure_path}
+use Rattle.system_files.specs.Files.{Flaw}
 use Rattle.system_files.specs.Order.{Comes, Finding, HasShape, InMapping, InValues, IsGiven, IsMappingPart, LacksBinding, LacksPart, NoBinding, NoOutline, NoSet, NoShape, NoSystem, Outlines, ReachesShapes, ReachesBindings, Search, Whole, model_path, part_path}
 use Rattle.system_files.proofs.ListLemmas.{zip_then}
-use Rattle.system_files.proofs.MoreLemmas.{AreAmong, more_file, more_flaw, more_part}
+use Rattle.system_files.proofs.MoreLemmas.{AreAmong, more_file, more_flaw, more_gathered, more_lacks, more_part}
 
 module _ (some all : List ReadNote) (among : AreAmong some all) where
   outlines : (subject : Subject) (directory : List ℕ) (o : Outline) → Outlines subject directory some o → Outlines subject directory all o
   outlines what.Fmu directory o h = h
-  outlines what.System directory o h = more_file some all among IsStructure (structure_path directory) o h
+  outlines what.System directory o h = more_gathered some all among IsStructure directory o h
 
   has_shape : (s : Search) (c : ComponentPart) (shape : Shape) → HasShape s some c shape → HasShape s all c shape
   has_shape s c shape h = more_file some all among (IsModel s.per_second) (model_path s.directory c) shape h
@@ -68,14 +69,14 @@ module _ (some all : List ReadNote) (among : AreAmong some all) where
       (lacks_part BreaksMapping BreaksMappingWithin s.directory o b.owner origin x h) files_is path_is
 
   pub more_comes : (s : Search) (asked : List (List ℕ)) (finding : Finding) → Comes s some asked finding → Comes s all asked finding
-  more_comes s asked finding (NoOutline flaw a f subject lacks asks is) = NoOutline flaw a f subject (more_flaw some all among BreaksStructure (structure_path s.directory) flaw lacks) asks is
+  more_comes s asked finding (NoOutline told flaw a f subject lacks is) = NoOutline told flaw a f subject (more_lacks some all among IsStructure BreaksStructure s.directory a told flaw lacks) is
   more_comes s asked finding (NoShape o taken shapes c rest flaw a f h lacks asks is) =
       NoShape o taken shapes c rest flaw a f (reaches s o taken shapes _ h) (more_flaw some all among (BreaksModel s.per_second) (model_path s.directory c) flaw lacks) asks is
   more_comes s asked finding (NoSet o shapes taken given b rest files path flaw a f h lacks asks is) =
       NoSet o shapes taken given b rest files path flaw a f (reaches_bindings s o shapes taken given _ h) (lacks_binding s o b files path flaw lacks) asks is
   more_comes s asked finding (NoBinding o shapes given n in_mapping rule place path a f h broken told asks is) =
       NoBinding o shapes given n in_mapping rule place path a f (reaches_bindings s o shapes o.systems.bindings given _ h) broken told asks is
-  more_comes s asked finding (NoSystem o shapes given bound rule place ports path a f h binds broken told asks is) =
-      NoSystem o shapes given bound rule place ports path a f (reaches_bindings s o shapes o.systems.bindings given _ h) binds broken told asks is
+  more_comes s asked finding (NoSystem o shapes given bound rule node ports a f h binds broken asks is) =
+      NoSystem o shapes given bound rule node ports a f (reaches_bindings s o shapes o.systems.bindings given _ h) binds broken asks is
   more_comes s asked finding (Whole o shapes given loaded a f h binds makes folders asks is) =
       Whole o shapes given loaded a f (reaches_bindings s o shapes o.systems.bindings given _ h) binds makes folders asks is

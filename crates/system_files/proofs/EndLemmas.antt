@@ -3,31 +3,42 @@ use Rattle.std.proofs.Common.{◌≡◌, ℕ, Option, Some, List, [], ◌∷◌,
 use Rattle.std.specs.List.{flat_map}
 use Rattle.sim_base.specs.Asking.{Asks}
 use Rattle.sim_base.specs.Folder.{FolderView}
+use Rattle.sim_base.specs.Path.{joined_path}
 use Rattle.sim_base.specs.declared.read_book.ReadNote.{ReadNote}
 use Rattle.sim_base.specs.declared.numbers.PortId.{PortId}
 use Rattle.value_types.specs.declared.shape.Shape.{Shape}
 use Rattle.doc_tree.specs.declared.place.Place.{Place}
+use Rattle.doc_tree.specs.declared.rule.NestingRule.{NestingRule}
 use Rattle.doc_tree.specs.declared.rule.Rule.{Rule}
+use Rattle.doc_tree.specs.declared.rule.Rule.TheVariants.{Nesting}
 use Rattle.ssd_tree.specs.declared.tree.Binding.{Binding}
 use Rattle.ssd_tree.specs.declared.tree.ComponentPart.{ComponentPart}
 use Rattle.ssd_tree.specs.declared.tree.Origin.{Origin}
 use Rattle.ssd_tree.specs.declared.tree.Origin.TheVariants.{File, Inline}
 use Rattle.ssd_tree.specs.declared.tree.SourceBase.{SourceBase}
+use Rattle.ssd_tree.specs.declared.tree.Setting.{Setting}
+use Rattle.nested_documents.specs.declared.numbers.Place as elements
+use Rattle.nested_documents.specs.States.{Gathered}
+use Rattle.system_loading.specs.declared.documents.SystemDocument.{SystemDocument}
 use Rattle.system_loading.specs.declared.outline.Outline.{Outline}
 use Rattle.system_loading.specs.declared.parameters.GivenBinding.{GivenBinding}
 use Rattle.system_loading.specs.declared.parameters.GivenSet.{GivenSet}
+use Rattle.system_loading.specs.Outlines.{place_at, place_in}
+use Rattle.system_files.specs.declared.subject.Subject.TheVariants as what
 use Rattle.system_files.specs.declared.loaded.Loaded.{Loaded}
 use Rattle.system_files.specs.declared.loading.LoadEnd.{LoadEnd}
 use Rattle.system_files.specs.declared.loading.LoadEnd.TheVariants as end
 use Rattle.system_files.specs.declared.named.NamedFile.{NamedFile}
 use Rattle.system_files.specs.declared.named.FileFault.{FileFault}
 use Rattle.system_files.specs.declared.named.FileFault.TheVariants.{Unread, Missing, TooBig, Broken}
-use Rattle.system_files.specs.Files.{Absent, Faulty, Flaw, LacksFile, Long, structure_path}
-use Rattle.system_files.specs.Loads.{AsksSome, ComesTo, EndsLoading, FailsToRead, FileFails, Loads, Nothing, OfMapping, OfValues, ReadsSome, Taken, TakenBindings, ToOutline, ToPart, ToShape, UpTo}
-use Rattle.system_files.specs.Order.{ComesAlone, Fails, Found, LacksPart, Search, asked_for, asked_with, binding_files, files_before, mapping_files, model_path, outline_path, part_files, part_path, part_told}
-use Rattle.system_files.specs.Steps.{AtBinding, AtMapping, AtParameter, AtRule, AtShape, AtStructure, AtValues, EndsAt, EndsBinding, EndsBindings, EndsModels, EndsOutline, EndsPart, EndsShapes, EndsTogether, EndsWithin, FailsMapping, FailsMappingWithin, FailsModel, FailsStructure, FailsValues, FailsValuesWithin, IsValuesAlone, LeavesFile, MayAsk, NoBindingRoom, NoOutlineRoom, NoShapeRoom, NoSystemRoom, OfBindings, OfShapes, OfSystem, TakesBindings, TakesModels, TakesOutline, TakesParts, TakesShapes, TakesValues, paths_of}
-use Rattle.system_files.proofs.AskLemmas.{asked_then, none_asked, none_here}
-use Rattle.system_files.proofs.MoreLemmas.{AreAmong, all_given, among_left, among_right, more_bindings, more_flaw, more_outline, more_reached, more_shapes, more_values}
+use Rattle.system_files.specs.Documents.{AtDocument, AtNesting, ComesDocument, ComesNext, ComesTop, HasNestingFlaw, LacksOutline, document_files, told_at, told_in}
+use Rattle.system_files.specs.Files.{Absent, Faulty, Flaw, LacksFile, Long}
+use Rattle.system_files.specs.Loads.{AsksSome, ComesTo, EndsLoading, FailsToRead, FileFails, Loads, Nothing, OfMapping, OfValues, ReadsSome, Taken, TakenBindings, TakenDocuments, ToDocument, ToPart, ToShape, UpTo}
+use Rattle.system_files.specs.Order.{ComesAlone, Fails, Found, LacksPart, Search, asked_for, asked_with, binding_files, mapping_files, model_path, part_files, part_path, part_told}
+use Rattle.system_files.specs.Steps.{AtBinding, AtMapping, AtParameter, AtRule, AtShape, AtValues, EndsAt, EndsAtDocument, EndsAtNesting, EndsBetween, EndsBinding, EndsBindings, EndsModels, EndsOutline, EndsPart, EndsShapes, EndsTogether, EndsWithin, FailsMapping, FailsMappingWithin, FailsModel, FailsStructure, FailsValues, FailsValuesWithin, GathersFrom, IsValuesAlone, LeavesFile, MayAsk, NoBindingRoom, NoOutlineRoom, NoShapeRoom, NoSystemRoom, OfBindings, OfShapes, OfSystem, SaysStructure, TakesBindings, TakesModels, TakesOutline, TakesParts, TakesShapes, TakesValues, TellsNesting, paths_of}
+use Rattle.system_files.proofs.AskLemmas.{asked_then, none_here}
+use Rattle.system_files.proofs.DocumentLemmas.{comes_plain, gathers_plain}
+use Rattle.system_files.proofs.MoreLemmas.{AreAmong, all_given, among_left, among_right, more_bindings, more_document, more_flaw, more_outline, more_reached, more_shapes, more_values}
 use Rattle.system_files.proofs.OnlyLemmas.{ReachesAlone, ReachesBindingsAlone, no_binding_alone, no_outline_alone, no_set_alone, no_shape_alone, no_system_alone, reached, reached_bindings, whole_alone}
 use Rattle.system_files.proofs.PartLemmas.{InMappingAlone, InValuesAlone, is_values}
 
@@ -70,10 +81,48 @@ module _ (s : Search) (path : List ℕ) (some : List ReadNote) (paths : List (Li
 
 -- ---- before there is an outline
 
+-- these documents are read
+gathered_asked : (s : Search) (documents : List SystemDocument) (g : Gathered) (old new : FolderView) → s.subject ≡ what.System → (f : GathersFrom s.directory documents g old new) →
+    AsksSome s f.reads (document_files s.directory documents)
+gathered_asked s documents g old new sys f = TakenDocuments documents g _ sys (gathers_plain s.directory f.reads documents g f.gathers) refl
+
+-- so many are read where one comes
+come_asked : (s : Search) (all : List ReadNote) (documents : List SystemDocument) (path : List ℕ) (t : Setting) → s.subject ≡ what.System → ComesDocument SaysStructure s.directory all documents path t →
+    AsksSome s all (document_files s.directory documents)
+come_asked s all documents path t sys (ComesTop _ _ _ none path_is t_is) = Nothing (document_files s.directory documents) (ap (document_files s.directory) none)
+come_asked s all documents path t sys (ComesNext _ _ _ g gathers comes) = TakenDocuments documents g _ sys (gathers_plain s.directory all documents g gathers) refl
+
+-- the end at an element of a document
+ends_nesting : (s : Search) (documents : List SystemDocument) (g : Gathered) (place : elements.Place) (rule : NestingRule) (old new : FolderView) → s.subject ≡ what.System →
+    GathersFrom s.directory documents g old new → HasNestingFlaw g place rule → (ended : LoadEnd) → TellsNesting s.directory documents place rule ended → EndsLoading s ended old new
+ends_nesting s documents g place rule old new sys f stands (end.File file fault) tells =
+    let flaw = Faulty (Nesting rule) (place_at documents place) [] in
+    let told = told_at s.directory documents place in
+    let lacks : LacksOutline SaysStructure FailsStructure s.directory f.reads (document_files s.directory documents) told flaw =
+    AtNesting documents g place rule _ _ _ f.gathers stands refl refl refl in
+    subst (λ (x : FileFault). FileFails s x file.path old new) (sym tells.1) (record {
+      reads = f.reads;
+      asked = document_files s.directory documents;
+      comes = subst (λ (q : List ℕ). ComesAlone s f.reads (document_files s.directory documents) (Fails q flaw)) (sym tells.0)
+          (no_outline_alone s f.reads (document_files s.directory documents) told flaw sys lacks);
+      asks = f.asks;
+    })
+ends_nesting s documents g place rule old new sys f stands end.Memory tells =
+    record { reads = f.reads; asked = document_files s.directory documents; some = gathered_asked s documents g old new sys f; asks = f.asks }
+
 pub ends_outline : (s : Search) (ended : LoadEnd) (old new : FolderView) → EndsOutline s.subject s.directory ended old new → EndsLoading s ended old new
-ends_outline s ended old new (AtStructure sys h) =
-    ends_at s (structure_path s.directory) [] [] FailsStructure (λ all among. ToOutline _ _ sys refl refl) (λ all among flaw l. no_outline_alone s all flaw sys l)
-    (Nothing [] refl) old old (none_asked old) ended new h
+ends_outline s ended old new (EndsAtDocument documents path t mid sys r h) =
+    let file = joined_path s.directory path in
+    let paths = document_files s.directory documents in
+    ends_at s file r.reads paths (FailsStructure t)
+    (λ all among. ToDocument documents path t _ _ sys (comes_plain s.directory all documents path t (more_document r.reads all among SaysStructure s.directory documents path t r.comes)) refl refl)
+    (λ all among flaw l. no_outline_alone s all (paths ++ file ∷ []) file flaw sys
+    (AtDocument documents path t _ _ flaw (more_document r.reads all among SaysStructure s.directory documents path t r.comes) l refl refl))
+    (come_asked s r.reads documents path t sys r.comes) old mid r.asks ended new h
+ends_outline s ended old new (EndsAtNesting documents g place rule sys f stands tells) = ends_nesting s documents g place rule old new sys f stands ended tells
+ends_outline s ended old new (EndsBetween documents g sys f is) =
+    subst (λ (e : LoadEnd). EndsLoading s e old new) (sym is)
+    (record { reads = f.reads; asked = document_files s.directory documents; some = gathered_asked s documents g old new sys f; asks = f.asks })
 ends_outline s ended old new (NoOutlineRoom is told) =
     subst (λ (e : LoadEnd). EndsLoading s e old new) (sym is) (record { reads = []; asked = []; some = Nothing [] refl; asks = none_here old new told })
 
@@ -109,11 +158,11 @@ module _ (s : Search) (o : Outline) (shapes : List Shape) (taken : List Binding)
 
   no_values : (all : List ReadNote) → ReachesBindingsAlone s all o shapes taken given (b ∷ rest) → (origin : Origin) (flaw : Flaw) → b.values ≡ origin →
       LacksPart FailsValues FailsValuesWithin s.directory all o b.owner origin flaw →
-      ComesAlone s all (asked_with s o taken ++ part_files s.directory o b.owner origin) (Fails (part_told s.subject s.directory o b.owner origin) flaw)
+      ComesAlone s all (asked_with s o taken ++ part_files s.directory o b.owner origin) (Fails (part_told s.directory o b.owner origin) flaw)
   no_values all reach origin flaw e l =
-      no_set_alone s all o shapes taken given b rest (part_files s.directory o b.owner origin) (part_told s.subject s.directory o b.owner origin) flaw reach
+      no_set_alone s all o shapes taken given b rest (part_files s.directory o b.owner origin) (part_told s.directory o b.owner origin) flaw reach
       (InValuesAlone _ _ flaw (subst (λ (x : Origin). LacksPart FailsValues FailsValuesWithin s.directory all o b.owner x flaw) (sym e) l)
-      (sym (ap (part_files s.directory o b.owner) e)) (sym (ap (part_told s.subject s.directory o b.owner) e)))
+      (sym (ap (part_files s.directory o b.owner) e)) (sym (ap (part_told s.directory o b.owner) e)))
 
   values_asked : (all : List ReadNote) → ReachesBindingsAlone s all o shapes taken given (b ∷ rest) → (origin : Origin) → b.values ≡ origin →
       AsksSome s all (asked_with s o taken ++ part_files s.directory o b.owner origin)
@@ -126,13 +175,13 @@ module _ (s : Search) (o : Outline) (shapes : List Shape) (taken : List Binding)
     behind all among = more_bindings some all among s o shapes taken given (b ∷ rest) reach
 
     ends_values : (origin : Origin) (ended : LoadEnd) (new : FolderView) → b.values ≡ origin →
-        EndsPart FailsValues FailsValuesWithin s.subject s.directory o b.owner origin ended before new → EndsLoading s ended old new
+        EndsPart FailsValues FailsValuesWithin s.directory o b.owner origin ended before new → EndsLoading s ended old new
     ends_values (File base source) ended new e h =
         ends_at s (part_path s.directory o b.owner base source) some (asked_with s o taken) FailsValues
         (λ all among. to_values all (behind all among) base source e) (λ all among flaw l. no_values all (behind all among) (File base source) flaw e l)
         (TakenBindings o shapes taken given (b ∷ rest) _ (reached_bindings s some o shapes taken given (b ∷ rest) reach) refl) old before asks ended new h
     ends_values (Inline node) ended new e h =
-        within_end s old new (outline_path s.subject s.directory) some (asked_with s o taken ++ []) (FailsValuesWithin o node)
+        within_end s old new (told_in s.directory o node) some (asked_with s o taken ++ []) (FailsValuesWithin o node)
         (λ rule place w. no_values some reach (Inline node) (Faulty rule place []) e (rule, (place, w, refl))) (values_asked some reach (Inline node) e)
         (asks_as some (asked_with s o taken) (asked_with s o taken ++ []) old new (sym (append-nil (asked_with s o taken))) (subst (Asks some (asked_with s o taken) old) (sym h.0) asks)) ended h.1
 
@@ -160,7 +209,7 @@ module _ (s : Search) (o : Outline) (shapes : List Shape) (taken : List Binding)
         behind_set = more_values both all among s.directory o b set set_alone
 
       ends_mapping : (origin : Origin) (ended : LoadEnd) (new : FolderView) → b.mapping ≡ Some origin →
-          EndsPart FailsMapping FailsMappingWithin s.subject s.directory o b.owner origin ended middle new → EndsLoading s ended old new
+          EndsPart FailsMapping FailsMappingWithin s.directory o b.owner origin ended middle new → EndsLoading s ended old new
       ends_mapping (File base source) ended new m h =
           let path = part_path s.directory o b.owner base source in
           let before_it = asked_with s o taken ++ part_files s.directory o b.owner b.values in
@@ -177,13 +226,13 @@ module _ (s : Search) (o : Outline) (shapes : List Shape) (taken : List Binding)
           (InMappingAlone (File base source) set _ _ flaw (behind_set all among) m l refl refl)))
           (values_asked both both_reach b.values refl) old middle both_asked ended new h
       ends_mapping (Inline node) ended new m h =
-          within_end s old new (outline_path s.subject s.directory) both (asked_with s o taken ++ part_files s.directory o b.owner b.values) (FailsMappingWithin o node)
-          (λ rule place w. no_set_alone s both o shapes taken given b rest (part_files s.directory o b.owner b.values) (outline_path s.subject s.directory) (Faulty rule place []) both_reach
+          within_end s old new (told_in s.directory o node) both (asked_with s o taken ++ part_files s.directory o b.owner b.values) (FailsMappingWithin o node)
+          (λ rule place w. no_set_alone s both o shapes taken given b rest (part_files s.directory o b.owner b.values) (told_in s.directory o node) (Faulty rule place []) both_reach
           (InMappingAlone (Inline node) set _ _ (Faulty rule place []) set_alone m (rule, (place, w, refl))
           (sym (append-nil (part_files s.directory o b.owner b.values)) ∙ ap (λ (x : Option Origin). part_files s.directory o b.owner b.values ++ mapping_files s.directory o b.owner x) (sym m)) refl))
           (values_asked both both_reach b.values refl) (subst (Asks both (asked_with s o taken ++ part_files s.directory o b.owner b.values) old) (sym h.0) both_asked) ended h.1
 
-    pub ends_binding : (ended : LoadEnd) (new : FolderView) → EndsBinding s.subject s.directory o b ended before new → EndsLoading s ended old new
+    pub ends_binding : (ended : LoadEnd) (new : FolderView) → EndsBinding s.directory o b ended before new → EndsLoading s ended old new
     ends_binding ended new (AtValues h) = ends_values b.values ended new refl h
     ends_binding ended new (AtMapping set origin middle values m h) = ends_mapping set middle values origin ended new m h
 
@@ -193,14 +242,14 @@ module _ (s : Search) (o : Outline) (old mid : FolderView) (outline : TakesOutli
   -- the first shapes behind the outline
   some_taken : (taken : List ComponentPart) (shapes : List Shape) (rest : List ComponentPart) (new : FolderView) → o.systems.components ≡ taken ++ rest →
       (t : TakesShapes s.per_second s.directory taken shapes mid new) →
-      ReachesAlone s (outline.reads ++ t.reads) o taken shapes rest × Asks (outline.reads ++ t.reads) (asked_for s taken) old new
+      ReachesAlone s (outline.reads ++ t.reads) o taken shapes rest × Asks (outline.reads ++ t.reads) (asked_for s o taken) old new
   some_taken taken shapes rest new is t = (
     record {
       outline = more_outline outline.reads (outline.reads ++ t.reads) (among_left outline.reads t.reads) s.subject s.directory o outline.is;
       is = is;
       each = more_shapes t.reads (outline.reads ++ t.reads) (among_right outline.reads t.reads) s.per_second s.directory taken shapes t.each;
     },
-    asked_then old mid new outline.reads t.reads (files_before s.subject s.directory) (paths_of s.directory taken) outline.asks t.asks,
+    asked_then old mid new outline.reads t.reads (document_files s.directory o.documents) (paths_of s.directory taken) outline.asks t.asks,
   )
 
   -- the first bindings behind all shapes
@@ -217,14 +266,14 @@ module _ (s : Search) (o : Outline) (old mid : FolderView) (outline : TakesOutli
           is = is;
           each = all_given g.reads (some ++ g.reads) (among_right some g.reads) s.directory o taken given g.each;
         },
-        asked_then old middle new some g.reads (asked_for s o.systems.components) (flat_map (binding_files s.directory o) taken) r.1 g.asks,
+        asked_then old middle new some g.reads (asked_for s o o.systems.components) (flat_map (binding_files s.directory o) taken) r.1 g.asks,
       )
 
-  all_reach : (shapes : List Shape) (given : List GivenBinding) (new : FolderView) → TakesParts s o shapes given mid new →
+  all_reach : (shapes : List Shape) (given : List GivenBinding) (new : FolderView) → TakesParts s.per_second s.directory o shapes given mid new →
       (reads : List ReadNote) × ReachesBindingsAlone s reads o shapes o.systems.bindings given [] × Asks reads (asked_with s o o.systems.bindings) old new
   all_reach shapes given new t = parts_reach shapes o.systems.bindings given [] t.mid new (sym (append-nil o.systems.bindings)) t.takes t.gives
 
-  pub loads : (loaded : Loaded) (new : FolderView) → TakesModels s o loaded mid new → Loads s (Found loaded) old new
+  pub loads : (loaded : Loaded) (new : FolderView) → TakesModels s.per_second s.directory o loaded mid new → Loads s (Found loaded) old new
   loads loaded new t =
       let h = all_reach t.shapes t.given new t.takes in
       record { reads = h.0; asked = asked_with s o o.systems.bindings; comes = whole_alone s h.0 o t.shapes t.given h.1 loaded t.is; asks = h.2 }
@@ -234,7 +283,7 @@ module _ (s : Search) (o : Outline) (old mid : FolderView) (outline : TakesOutli
   ends_taken taken shapes rest new is t =
       let r = some_taken taken shapes rest new is t in record {
         reads = outline.reads ++ t.reads;
-        asked = asked_for s taken;
+        asked = asked_for s o taken;
         some = Taken o taken shapes rest _ (reached s (outline.reads ++ t.reads) o taken shapes rest r.0) refl;
         asks = r.1;
       }
@@ -244,10 +293,10 @@ module _ (s : Search) (o : Outline) (old mid : FolderView) (outline : TakesOutli
       let r = some_taken taken shapes (c ∷ rest) middle is t in
       let some = outline.reads ++ t.reads in
       let path = model_path s.directory c in
-      let same : asked_for s (taken ++ c ∷ []) ≡ asked_for s taken ++ path ∷ [] =
-      ap (λ (paths : List (List ℕ)). files_before s.subject s.directory ++ paths) more
-      ∙ sym (append_assoc (files_before s.subject s.directory) (paths_of s.directory taken) (path ∷ [])) in
-      ends_at s path some (asked_for s taken) (FailsModel s.per_second)
+      let same : asked_for s o (taken ++ c ∷ []) ≡ asked_for s o taken ++ path ∷ [] =
+      ap (λ (paths : List (List ℕ)). document_files s.directory o.documents ++ paths) more
+      ∙ sym (append_assoc (document_files s.directory o.documents) (paths_of s.directory taken) (path ∷ [])) in
+      ends_at s path some (asked_for s o taken) (FailsModel s.per_second)
       (λ all among. ToShape o taken shapes c rest _ _ (reached s all o taken shapes (c ∷ rest) (more_reached some all among s o taken shapes (c ∷ rest) r.0)) (sym same) refl)
       (λ all among flaw l. subst (λ (ps : List (List ℕ)). ComesAlone s all ps (Fails path flaw)) same
       (no_shape_alone s all o taken shapes c rest flaw (more_reached some all among s o taken shapes (c ∷ rest) r.0) l))
@@ -256,7 +305,7 @@ module _ (s : Search) (o : Outline) (old mid : FolderView) (outline : TakesOutli
       subst (λ (e : LoadEnd). EndsLoading s e old new) (sym ended_is) (ends_taken taken shapes rest new is t)
 
   ends_bindings : (shapes : List Shape) (middle : FolderView) (ended : LoadEnd) (new : FolderView) → TakesShapes s.per_second s.directory o.systems.components shapes mid middle →
-      EndsBindings s.subject s.directory o ended middle new → EndsLoading s ended old new
+      EndsBindings s.directory o ended middle new → EndsLoading s ended old new
   ends_bindings shapes middle ended new t (AtBinding taken given b rest before is takes h) =
       let r = parts_reach shapes taken given (b ∷ rest) middle before is t takes in
       ends_binding s o shapes taken given b rest old before r.0 r.1 r.2 ended new h
@@ -265,7 +314,7 @@ module _ (s : Search) (o : Outline) (old mid : FolderView) (outline : TakesOutli
       (ends_taken o.systems.components shapes [] new (sym (append-nil o.systems.components))
       (subst (TakesShapes s.per_second s.directory o.systems.components shapes mid) (sym new_is) t))
 
-  ends_together : (shapes : List Shape) (given : List GivenBinding) (ended : LoadEnd) (new : FolderView) → TakesParts s o shapes given mid new → EndsTogether s o shapes given ended →
+  ends_together : (shapes : List Shape) (given : List GivenBinding) (ended : LoadEnd) (new : FolderView) → TakesParts s.per_second s.directory o shapes given mid new → EndsTogether s.directory o shapes given ended →
       EndsLoading s ended old new
   ends_together shapes given ended new t (AtParameter n in_mapping rule place ports file broken in_file none is) =
       let r = all_reach shapes given new t in
@@ -276,12 +325,13 @@ module _ (s : Search) (o : Outline) (old mid : FolderView) (outline : TakesOutli
             (no_binding_alone s r.0 o shapes given r.1 n in_mapping rule place file.path broken in_file);
         asks = r.2;
       })
-  ends_together shapes given ended new t (AtRule bound rule place ports file binds broken in_file is) =
+  ends_together shapes given ended new t (AtRule bound rule node ports file binds broken in_file is) =
       let r = all_reach shapes given new t in
       subst (λ (e : LoadEnd). EndsLoading s e old new) (sym is) (record {
         reads = r.0;
         asked = asked_with s o o.systems.bindings;
-        comes = no_system_alone s r.0 o shapes given r.1 bound rule place ports file.path binds broken in_file;
+        comes = subst (λ (p : List ℕ). ComesAlone s r.0 (asked_with s o o.systems.bindings) (Fails p (Faulty rule (place_in o node) ports))) (sym in_file)
+            (no_system_alone s r.0 o shapes given r.1 bound rule node ports binds broken);
         asks = r.2;
       })
   ends_together shapes given ended new t (NoSystemRoom is) =
@@ -293,7 +343,7 @@ module _ (s : Search) (o : Outline) (old mid : FolderView) (outline : TakesOutli
         asks = r.2;
       })
 
-  pub ends_models : (ended : LoadEnd) (new : FolderView) → EndsModels s o ended mid new → EndsLoading s ended old new
+  pub ends_models : (ended : LoadEnd) (new : FolderView) → EndsModels s.per_second s.directory o ended mid new → EndsLoading s ended old new
   ends_models ended new (OfShapes h) = ends_shapes ended new h
   ends_models ended new (OfBindings shapes middle t h) = ends_bindings shapes middle ended new t h
   ends_models ended new (OfSystem shapes given t h) = ends_together shapes given ended new t h

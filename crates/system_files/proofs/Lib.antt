@@ -1,10 +1,12 @@
 pub mod ListLemmas
 pub mod FileLemmas
 pub mod PartLemmas
+pub mod DocumentLemmas
 pub mod OnlyLemmas
 pub mod UseLemmas
 pub mod AskLemmas
 pub mod MoreLemmas
+pub mod GatherLemmas
 pub mod ComesLemmas
 pub mod ShapeLemmas
 pub mod BindingLemmas

@@ -3,6 +3,7 @@ use Rattle.std.proofs.Common.{ℕ, List, [], ◌∷◌, ◌++◌, Option, Some, 
 use Rattle.std.specs.Prelude.{Result}
 use Rattle.std.specs.List.{AllZip}
 use Rattle.std.proofs.lemmas.List.Elements.{Contains-append_left, Contains-append_right}
+use Rattle.sim_base.specs.Path.{joined_path}
 use Rattle.sim_base.specs.declared.folder.ReadFault.{ReadFault}
 use Rattle.sim_base.specs.declared.read_book.ReadNote.{ReadNote}
 use Rattle.doc_tree.specs.declared.place.Place.{Place}
@@ -13,15 +14,21 @@ use Rattle.ssd_tree.specs.declared.tree.ComponentPart.{ComponentPart}
 use Rattle.ssd_tree.specs.declared.tree.Origin.{Origin}
 use Rattle.ssd_tree.specs.declared.tree.Origin.TheVariants.{File, Inline}
 use Rattle.ssd_tree.specs.declared.tree.Owner.{Owner}
+use Rattle.ssd_tree.specs.declared.tree.Setting.{Setting}
+use Rattle.nested_documents.specs.declared.nest.TheConstants.{OUTERMOST}
+use Rattle.nested_documents.specs.States.{Gathered}
+use Rattle.system_loading.specs.declared.documents.SystemDocument.{SystemDocument}
 use Rattle.system_loading.specs.declared.outline.Outline.{Outline}
 use Rattle.system_loading.specs.declared.parameters.GivenBinding.{GivenBinding}
 use Rattle.system_loading.specs.declared.parameters.GivenMapping.{GivenMapping}
 use Rattle.system_loading.specs.declared.parameters.GivenSet.{GivenSet}
+use Rattle.system_loading.specs.Documents.{Said}
 use Rattle.system_files.specs.declared.subject.Subject.{Subject}
 use Rattle.system_files.specs.declared.subject.Subject.TheVariants as what
+use Rattle.system_files.specs.Documents.{AtDocument, AtNesting, ComesDocument, ComesNext, ComesTop, Gathers, GathersAll, LacksOutline, Nested, Outermost, top_path}
 use Rattle.system_files.specs.Files.{Flaw, HasFile, Holds, LacksFile}
 use Rattle.system_files.specs.Order.{IsPart, Search, model_path, part_path}
-use Rattle.system_files.specs.Steps.{HasShapeAlone, IsGivenAlone, IsMappingAlone, IsValuesAlone, OutlinesAlone, SaysMapping, SaysMappingWithin, SaysValues, SaysValuesWithin}
+use Rattle.system_files.specs.Steps.{HasShapeAlone, IsGivenAlone, IsMappingAlone, IsValuesAlone, OutlinesAlone, SaysMapping, SaysMappingWithin, SaysStructure, SaysValues, SaysValuesWithin}
 use Rattle.system_files.proofs.ListLemmas.{zip_then}
 use Rattle.system_files.proofs.OnlyLemmas.{ReachesAlone, ReachesBindingsAlone}
 
@@ -71,9 +78,30 @@ module _ (some all : List ReadNote) (among : AreAmong some all) where
     range = h.range;
   }
 
+  pub more_gathers : (Says : Setting → List ℕ → Said → Type 0) (directory : List ℕ) (documents : List SystemDocument) (g : Gathered) → Gathers Says directory some documents g → Gathers Says directory all documents g
+  more_gathers Says directory documents g (Outermost said _ _ tells begins) = Outermost said documents g (more_file (Says OUTERMOST) (joined_path directory top_path) said tells) begins
+  more_gathers Says directory documents g (Nested before old path s said _ _ gathers comes tells adds) =
+      Nested before old path s said documents g (more_gathers Says directory before old gathers) comes (more_file (Says s) (joined_path directory path) said tells) adds
+
+  pub more_gathered : (Says : Setting → List ℕ → Said → Type 0) (directory : List ℕ) (o : Outline) → GathersAll Says directory some o → GathersAll Says directory all o
+  more_gathered Says directory o a =
+      record { documents = a.documents; last = a.last; gathers = more_gathers Says directory a.documents a.last a.gathers; all = a.all; is = a.is }
+
+  pub more_document : (Says : Setting → List ℕ → Said → Type 0) (directory : List ℕ) (documents : List SystemDocument) (path : List ℕ) (s : Setting) → ComesDocument Says directory some documents path s →
+      ComesDocument Says directory all documents path s
+  more_document Says directory documents path s (ComesTop _ _ _ none path_is s_is) = ComesTop documents path s none path_is s_is
+  more_document Says directory documents path s (ComesNext _ _ _ g gathers comes) = ComesNext documents path s g (more_gathers Says directory documents g gathers) comes
+
+  pub more_lacks : (Says : Setting → List ℕ → Said → Type 0) (Breaks : Setting → List ℕ → Rule → Place → Type 0) (directory : List ℕ) (asked : List (List ℕ)) (told : List ℕ) (flaw : Flaw) →
+      LacksOutline Says Breaks directory some asked told flaw → LacksOutline Says Breaks directory all asked told flaw
+  more_lacks Says Breaks directory asked told flaw (AtDocument documents path s _ _ _ comes lacks asked_is told_is) =
+      AtDocument documents path s asked told flaw (more_document Says directory documents path s comes) (more_flaw (Breaks s) (joined_path directory path) flaw lacks) asked_is told_is
+  more_lacks Says Breaks directory asked told flaw (AtNesting documents g place rule _ _ _ gathers stands asked_is told_is flaw_is) =
+      AtNesting documents g place rule asked told flaw (more_gathers Says directory documents g gathers) stands asked_is told_is flaw_is
+
   pub more_outline : (subject : Subject) (directory : List ℕ) (o : Outline) → OutlinesAlone subject directory some o → OutlinesAlone subject directory all o
   more_outline what.Fmu directory o h = h
-  more_outline what.System directory o h = (h.0, among _ h.0 h.1, h.2)
+  more_outline what.System directory o h = more_gathered SaysStructure directory o h
 
   pub more_values : (directory : List ℕ) (o : Outline) (b : Binding) (given : GivenSet) → IsValuesAlone directory some o b.owner b.values given → IsValuesAlone directory all o b.owner b.values given
   more_values directory o b given h = more_part SaysValues SaysValuesWithin directory o b.owner b.values given h

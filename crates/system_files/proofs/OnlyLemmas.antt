@@ -16,13 +16,17 @@ use Rattle.system_loading.specs.declared.outline.Outline.{Outline}
 use Rattle.system_loading.specs.declared.parameters.GivenBinding.{GivenBinding}
 use Rattle.system_loading.specs.Assembly.{BreaksTogether, BreaksTogetherAlone, Makes}
 use Rattle.system_loading.specs.Binding.{Binds, BindsAlone, BreaksBinding, BreaksBindingAlone}
-use Rattle.system_loading.specs.Readings.{BreaksModel, BreaksStructure, IsModel, IsStructure}
+use Rattle.system_loading.specs.Documents.{BreaksStructure, IsStructure}
+use Rattle.system_loading.specs.Outlines.{place_in}
+use Rattle.system_loading.specs.Readings.{BreaksModel, IsModel}
 use Rattle.system_files.specs.declared.loaded.Loaded.{Loaded}
 use Rattle.system_files.specs.declared.subject.Subject.{Subject}
 use Rattle.system_files.specs.declared.subject.Subject.TheVariants as what
-use Rattle.system_files.specs.Files.{AreSteady, Faulty, Flaw, LacksFile, structure_path}
-use Rattle.system_files.specs.Order.{Agree, Comes, ComesAlone, Fails, Finding, Found, HasShape, IsBindingToldIn, IsGiven, LacksBinding, NoBinding, NoOutline, NoSet, NoShape, NoSystem, Outlines, ReachesShapes, ReachesBindings, Search, Whole, asked_for, asked_with, folders_of, model_path, origin_of, outline_path, part_told}
-use Rattle.system_files.specs.Steps.{FailsModel, FailsStructure, HasShapeAlone, IsGivenAlone, IsLoaded, OutlinesAlone}
+use Rattle.system_files.specs.Documents.{LacksOutline, told_in}
+use Rattle.system_files.specs.Files.{AreSteady, Faulty, Flaw, LacksFile}
+use Rattle.system_files.specs.Order.{Agree, Comes, ComesAlone, Fails, Finding, Found, HasShape, IsBindingToldIn, IsGiven, LacksBinding, NoBinding, NoOutline, NoSet, NoShape, NoSystem, Outlines, ReachesShapes, ReachesBindings, Search, Whole, asked_for, asked_with, folders_of, model_path, origin_of, part_told}
+use Rattle.system_files.specs.Steps.{FailsModel, FailsStructure, HasShapeAlone, IsGivenAlone, IsLoaded, OutlinesAlone, SaysStructure}
+use Rattle.system_files.proofs.DocumentLemmas.{all_plain, gathers_once, gathers_unflawed, lacks_once, lacks_plain, lacks_ungathered}
 use Rattle.system_files.proofs.FileLemmas.{flawed_once, flawed_unsaid, is_flawed, is_said, said_once, said_unflawed}
 use Rattle.system_files.proofs.ListLemmas.{Each, each_in, stops_once, zip_left, zip_once, zip_then}
 use Rattle.system_files.proofs.PartLemmas.{LacksBindingAlone, binding_once, binding_stop, given_once, given_sound, is_given, lacks_binding}
@@ -31,7 +35,7 @@ use Rattle.system_files.proofs.PartLemmas.{LacksBindingAlone, binding_once, bind
 
 pub is_outline : (subject : Subject) (directory : List ℕ) (reads : List ReadNote) (o : Outline) → OutlinesAlone subject directory reads o → Outlines subject directory reads o
 is_outline what.Fmu directory reads o a = a
-is_outline what.System directory reads o a = is_said IsStructure BreaksStructure reads (structure_path directory) o a
+is_outline what.System directory reads o a = all_plain directory reads o a
 
 -- the first components have shapes of their own
 pub record ReachesAlone (s : Search) (reads : List ReadNote) (o : Outline) (taken : List ComponentPart) (shapes : List Shape) (rest : List ComponentPart) : Type 0 where
@@ -53,16 +57,16 @@ pub reached_all : (s : Search) (reads : List ReadNote) (o : Outline) (shapes : L
 reached_all s reads o shapes outline each = record { outline = outline; is = sym (append-nil o.systems.components); each = each }
 
 -- the file of a part of a binding is one
-binding_told_once : (s : Search) (o : Outline) (n : ℕ) (in_mapping : Bool) (one other : List ℕ) → IsBindingToldIn s o n in_mapping one → IsBindingToldIn s o n in_mapping other → one ≡ other
-binding_told_once s o n in_mapping one other a b = by (slice_get o.systems.bindings n) a b
+binding_told_once : (directory : List ℕ) (o : Outline) (n : ℕ) (in_mapping : Bool) (one other : List ℕ) → IsBindingToldIn directory o n in_mapping one → IsBindingToldIn directory o n in_mapping other → one ≡ other
+binding_told_once directory o n in_mapping one other a b = by (slice_get o.systems.bindings n) a b
   where
-    of : (b : Binding) (origin : Option Origin) → IsSomeAnd origin (λ x. one ≡ part_told s.subject s.directory o b.owner x) →
-        IsSomeAnd origin (λ x. other ≡ part_told s.subject s.directory o b.owner x) → one ≡ other
+    of : (b : Binding) (origin : Option Origin) → IsSomeAnd origin (λ x. one ≡ part_told directory o b.owner x) →
+        IsSomeAnd origin (λ x. other ≡ part_told directory o b.owner x) → one ≡ other
     of b None h k = absurd h
     of b (Some origin) h k = h ∙ sym k
 
-    by : (b : Option Binding) → IsSomeAnd b (λ (b : Binding). IsSomeAnd (origin_of in_mapping b) (λ x. one ≡ part_told s.subject s.directory o b.owner x)) →
-        IsSomeAnd b (λ (b : Binding). IsSomeAnd (origin_of in_mapping b) (λ x. other ≡ part_told s.subject s.directory o b.owner x)) → one ≡ other
+    by : (b : Option Binding) → IsSomeAnd b (λ (b : Binding). IsSomeAnd (origin_of in_mapping b) (λ x. one ≡ part_told directory o b.owner x)) →
+        IsSomeAnd b (λ (b : Binding). IsSomeAnd (origin_of in_mapping b) (λ x. other ≡ part_told directory o b.owner x)) → one ≡ other
     by None h k = absurd h
     by (Some b) h k = of b (origin_of in_mapping b) h k
 
@@ -75,33 +79,33 @@ Agrees s reads asked finding = (others : List (List ℕ)) (other : Finding) → 
 module _ (s : Search) (reads : List ReadNote) (steady : AreSteady reads) where
   outline_once : (subject : Subject) (directory : List ℕ) (o other : Outline) → OutlinesAlone subject directory reads o → Outlines subject directory reads other → o ≡ other
   outline_once what.Fmu directory o other a f = a ∙ sym f
-  outline_once what.System directory o other a f = said_once IsStructure BreaksStructure reads steady (structure_path directory) o other a f
+  outline_once what.System directory o other a f = gathers_once directory reads steady o other a f
 
-  outline_unflawed : (o : Outline) (flaw : Flaw) → OutlinesAlone s.subject s.directory reads o → s.subject ≡ what.System → LacksFile BreaksStructure reads (structure_path s.directory) flaw → ⊥
-  outline_unflawed o flaw a sys f =
-      said_unflawed IsStructure BreaksStructure reads steady (structure_path s.directory) o flaw (subst (λ (subject : Subject). OutlinesAlone subject s.directory reads o) sys a) f
+  outline_unflawed : (o : Outline) (asked : List (List ℕ)) (told : List ℕ) (flaw : Flaw) → OutlinesAlone s.subject s.directory reads o → s.subject ≡ what.System →
+      LacksOutline IsStructure BreaksStructure s.directory reads asked told flaw → ⊥
+  outline_unflawed o asked told flaw a sys f =
+      gathers_unflawed s.directory reads steady o asked told flaw (subst (λ (subject : Subject). OutlinesAlone subject s.directory reads o) sys a) f
 
-  no_outline : (o : Outline) (flaw : Flaw) → s.subject ≡ what.System → LacksFile FailsStructure reads (structure_path s.directory) flaw → Outlines s.subject s.directory reads o → ⊥
-  no_outline o flaw sys a f =
-      flawed_unsaid IsStructure BreaksStructure reads steady (structure_path s.directory) o flaw a (subst (λ (subject : Subject). Outlines subject s.directory reads o) sys f)
+  no_outline : (o : Outline) (asked : List (List ℕ)) (told : List ℕ) (flaw : Flaw) → s.subject ≡ what.System → LacksOutline SaysStructure FailsStructure s.directory reads asked told flaw →
+      Outlines s.subject s.directory reads o → ⊥
+  no_outline o asked told flaw sys a f =
+      lacks_ungathered s.directory reads steady o asked told flaw a (subst (λ (subject : Subject). Outlines subject s.directory reads o) sys f)
 
   shape_once : (c : ComponentPart) (one other : Shape) → HasShapeAlone s.per_second s.directory reads c one → HasShape s reads c other → one ≡ other
   shape_once c one other a f = said_once (IsModel s.per_second) (BreaksModel s.per_second) reads steady (model_path s.directory c) one other a f
 
   -- ---- no structure
 
-  pub no_outline_only : (flaw : Flaw) → s.subject ≡ what.System → LacksFile FailsStructure reads (structure_path s.directory) flaw →
-      Agrees s reads (structure_path s.directory ∷ []) (Fails (structure_path s.directory) flaw)
-  no_outline_only flaw sys a others other (NoOutline flaw2 asked finding sys2 f asked_is finding_is) = (
-    sym asked_is,
-    subst (Agree (Fails (structure_path s.directory) flaw)) (sym finding_is)
-        (refl, flawed_once IsStructure BreaksStructure reads steady (structure_path s.directory) flaw flaw2 a f),
-  )
-  no_outline_only flaw sys a others other (NoShape o taken shapes c rest flaw2 asked finding reach f asked_is finding_is) = absurd (no_outline o flaw sys a reach.outline)
-  no_outline_only flaw sys a others other (NoSet o2 shapes2 taken2 given2 b2 rest2 files2 path2 flaw2 asked finding reach f asked_is finding_is) = absurd (no_outline o2 flaw sys a reach.reaches.outline)
-  no_outline_only flaw sys a others other (NoBinding o2 shapes2 given2 n2 in_mapping2 rule2 place2 path2 asked finding reach f told2 asked_is finding_is) = absurd (no_outline o2 flaw sys a reach.reaches.outline)
-  no_outline_only flaw sys a others other (NoSystem o2 shapes2 given2 bound2 rule2 place2 ports2 path2 asked finding reach binds2 f told2 asked_is finding_is) = absurd (no_outline o2 flaw sys a reach.reaches.outline)
-  no_outline_only flaw sys a others other (Whole o2 shapes2 given2 loaded2 asked finding reach binds2 f folders2 asked_is finding_is) = absurd (no_outline o2 flaw sys a reach.reaches.outline)
+  pub no_outline_only : (asked : List (List ℕ)) (told : List ℕ) (flaw : Flaw) → s.subject ≡ what.System → LacksOutline SaysStructure FailsStructure s.directory reads asked told flaw →
+      Agrees s reads asked (Fails told flaw)
+  no_outline_only asked told flaw sys a others other (NoOutline told2 flaw2 asked2 finding sys2 f finding_is) =
+      let once = lacks_once s.directory reads steady asked told flaw others told2 flaw2 a f in
+      (once.0, subst (Agree (Fails told flaw)) (sym finding_is) (once.1, once.2))
+  no_outline_only asked told flaw sys a others other (NoShape o taken shapes c rest flaw2 asked2 finding reach f asked_is finding_is) = absurd (no_outline o asked told flaw sys a reach.outline)
+  no_outline_only asked told flaw sys a others other (NoSet o2 shapes2 taken2 given2 b2 rest2 files2 path2 flaw2 asked2 finding reach f asked_is finding_is) = absurd (no_outline o2 asked told flaw sys a reach.reaches.outline)
+  no_outline_only asked told flaw sys a others other (NoBinding o2 shapes2 given2 n2 in_mapping2 rule2 place2 path2 asked2 finding reach f told2 asked_is finding_is) = absurd (no_outline o2 asked told flaw sys a reach.reaches.outline)
+  no_outline_only asked told flaw sys a others other (NoSystem o2 shapes2 given2 bound2 rule2 node2 ports2 asked2 finding reach binds2 f asked_is finding_is) = absurd (no_outline o2 asked told flaw sys a reach.reaches.outline)
+  no_outline_only asked told flaw sys a others other (Whole o2 shapes2 given2 loaded2 asked2 finding reach binds2 f folders2 asked_is finding_is) = absurd (no_outline o2 asked told flaw sys a reach.reaches.outline)
 
   -- ---- components with a shape, or with a flaw
 
@@ -134,21 +138,21 @@ module _ (s : Search) (reads : List ReadNote) (steady : AreSteady reads) where
         let all : other.systems.components ≡ taken ++ c ∷ rest = ap (λ (x : Outline). x.systems.components) (sym same) ∙ a.is in
         bad c flaw lacks (each_in Good taken c rest (subst (Each Good) all (each_good other.systems.components more each)))
 
-    pub no_shape_only : Agrees s reads (asked_for s (taken ++ c ∷ [])) (Fails (model_path s.directory c) flaw)
-    no_shape_only others other (NoOutline flaw2 asked finding sys f asked_is finding_is) = absurd (outline_unflawed o flaw2 a.outline sys f)
+    pub no_shape_only : Agrees s reads (asked_for s o (taken ++ c ∷ [])) (Fails (model_path s.directory c) flaw)
+    no_shape_only others other (NoOutline told2 flaw2 asked finding sys f finding_is) = absurd (outline_unflawed o others told2 flaw2 a.outline sys f)
     no_shape_only others other (NoShape o2 taken2 shapes2 c2 rest2 flaw2 asked finding reach f asked_is finding_is) =
         let same = outline_once s.subject s.directory o o2 a.outline reach.outline in
         let all : taken ++ c ∷ rest ≡ taken2 ++ c2 ∷ rest2 = sym a.is ∙ ap (λ (x : Outline). x.systems.components) same ∙ reach.is in
         let stops = stops_once Good Bad taken taken2 c c2 rest rest2 all (each_sound taken shapes a.each) (bad c flaw lacks) (each_good taken2 shapes2 reach.each) (flaw2, f) in
         let here : LacksFile (BreaksModel s.per_second) reads (model_path s.directory c) flaw2 =
         subst (λ (x : ComponentPart). LacksFile (BreaksModel s.per_second) reads (model_path s.directory x) flaw2) (sym stops.1) f in (
-          ap (λ (cs : List ComponentPart). asked_for s (cs ++ c ∷ [])) stops.0 ∙ ap (λ (x : ComponentPart). asked_for s (taken2 ++ x ∷ [])) stops.1 ∙ sym asked_is,
+          ap (λ (cs : List ComponentPart). asked_for s o (cs ++ c ∷ [])) stops.0 ∙ (ap (λ (x : ComponentPart). asked_for s o (taken2 ++ x ∷ [])) stops.1 ∙ (ap (λ (x : Outline). asked_for s x (taken2 ++ c2 ∷ [])) same ∙ sym asked_is)),
           subst (Agree (Fails (model_path s.directory c) flaw)) (sym finding_is)
               (ap (model_path s.directory) stops.1, flawed_once (IsModel s.per_second) (BreaksModel s.per_second) reads steady (model_path s.directory c) flaw flaw2 lacks here),
         )
     no_shape_only others other (NoSet o2 shapes2 taken2 given2 b2 rest2 files2 path2 flaw2 asked finding reach f asked_is finding_is) = absurd (not_all o2 shapes2 reach.reaches.outline reach.reaches.each)
     no_shape_only others other (NoBinding o2 shapes2 given2 n2 in_mapping2 rule2 place2 path2 asked finding reach f told2 asked_is finding_is) = absurd (not_all o2 shapes2 reach.reaches.outline reach.reaches.each)
-    no_shape_only others other (NoSystem o2 shapes2 given2 bound2 rule2 place2 ports2 path2 asked finding reach binds2 f told2 asked_is finding_is) = absurd (not_all o2 shapes2 reach.reaches.outline reach.reaches.each)
+    no_shape_only others other (NoSystem o2 shapes2 given2 bound2 rule2 node2 ports2 asked finding reach binds2 f asked_is finding_is) = absurd (not_all o2 shapes2 reach.reaches.outline reach.reaches.each)
     no_shape_only others other (Whole o2 shapes2 given2 loaded2 asked finding reach binds2 f folders2 asked_is finding_is) = absurd (not_all o2 shapes2 reach.reaches.outline reach.reaches.each)
 
   -- ---- all descriptions are taken
@@ -205,7 +209,7 @@ module _ (s : Search) (reads : List ReadNote) (steady : AreSteady reads) where
           stop (each_in GoodBinding taken b rest (subst (Each GoodBinding) bindings_are (bindings_good o.systems.bindings given2 here.each)))
 
       pub no_set_only : Agrees s reads (asked_with s o taken ++ files) (Fails path flaw)
-      no_set_only others other (NoOutline flaw2 asked finding sys f asked_is finding_is) = absurd (outline_unflawed o flaw2 outline sys f)
+      no_set_only others other (NoOutline told2 flaw2 asked finding sys f finding_is) = absurd (outline_unflawed o others told2 flaw2 outline sys f)
       no_set_only others other (NoShape o2 taken2 shapes2 c2 rest2 flaw2 asked finding reach f asked_is finding_is) = absurd (no_flaw o2 taken2 shapes2 c2 rest2 flaw2 reach f)
       no_set_only others other (NoSet o2 shapes2 taken2 given2 b2 rest2 files2 path2 flaw2 asked finding reach f asked_is finding_is) =
           let here = back (λ x xs. ReachesBindings s reads x xs taken2 given2 (b2 ∷ rest2)) o2 shapes2 reach.reaches reach in
@@ -218,7 +222,7 @@ module _ (s : Search) (reads : List ReadNote) (steady : AreSteady reads) where
             subst (Agree (Fails path flaw)) (sym finding_is) (once.1, once.2),
           )
       no_set_only others other (NoBinding o2 shapes2 given2 n2 in_mapping2 rule2 place2 path2 asked finding reach f told2 asked_is finding_is) = absurd (not_all_given o2 shapes2 given2 reach)
-      no_set_only others other (NoSystem o2 shapes2 given2 bound2 rule2 place2 ports2 path2 asked finding reach binds2 f told2 asked_is finding_is) = absurd (not_all_given o2 shapes2 given2 reach)
+      no_set_only others other (NoSystem o2 shapes2 given2 bound2 rule2 node2 ports2 asked finding reach binds2 f asked_is finding_is) = absurd (not_all_given o2 shapes2 given2 reach)
       no_set_only others other (Whole o2 shapes2 given2 loaded2 asked finding reach binds2 f folders2 asked_is finding_is) = absurd (not_all_given o2 shapes2 given2 reach)
 
     -- ---- all bindings are taken
@@ -247,20 +251,20 @@ module _ (s : Search) (reads : List ReadNote) (steady : AreSteady reads) where
       all_asked o2 shapes2 given2 reach = all_back (λ x xs gs. asked_with s x x.systems.bindings ≡ asked_with s o2 o2.systems.bindings) o2 shapes2 given2 reach refl
 
       pub no_binding_only : (n : ℕ) (in_mapping : Bool) (rule : Rule) (place : Place) (path : List ℕ) → BreaksBindingAlone o shapes given n in_mapping rule place →
-          IsBindingToldIn s o n in_mapping path → Agrees s reads (asked_with s o o.systems.bindings) (Fails path (Faulty rule place []))
-      no_binding_only n in_mapping rule place path a told others other (NoOutline flaw2 asked finding sys f asked_is finding_is) = absurd (outline_unflawed o flaw2 outline sys f)
+          IsBindingToldIn s.directory o n in_mapping path → Agrees s reads (asked_with s o o.systems.bindings) (Fails path (Faulty rule place []))
+      no_binding_only n in_mapping rule place path a told others other (NoOutline told2 flaw2 asked finding sys f finding_is) = absurd (outline_unflawed o others told2 flaw2 outline sys f)
       no_binding_only n in_mapping rule place path a told others other (NoShape o2 taken2 shapes2 c2 rest2 flaw2 asked finding reach f asked_is finding_is) =
           absurd (no_flaw o2 taken2 shapes2 c2 rest2 flaw2 reach f)
       no_binding_only n in_mapping rule place path a told others other (NoSet o2 shapes2 taken2 given2 b2 rest2 files2 path2 flaw2 asked finding reach f asked_is finding_is) = absurd (no_bad o2 shapes2 taken2 given2 b2 rest2 files2 path2 flaw2 reach f)
       no_binding_only n in_mapping rule place path a told others other (NoBinding o2 shapes2 given2 n2 in_mapping2 rule2 place2 path2 asked finding reach f told2 asked_is finding_is) =
           let only = a.only n2 in_mapping2 rule2 place2 (all_back (λ x xs gs. BreaksBinding x xs gs n2 in_mapping2 rule2 place2) o2 shapes2 given2 reach f) in
-          let there = all_back (λ x xs gs. IsBindingToldIn s x n2 in_mapping2 path2) o2 shapes2 given2 reach told2 in
-          let here : IsBindingToldIn s o n in_mapping path2 =
-          subst (λ (m : ℕ). IsBindingToldIn s o m in_mapping path2) (sym only.0) (subst (λ (x : Bool). IsBindingToldIn s o n2 x path2) (sym only.1) there) in (
+          let there = all_back (λ x xs gs. IsBindingToldIn s.directory x n2 in_mapping2 path2) o2 shapes2 given2 reach told2 in
+          let here : IsBindingToldIn s.directory o n in_mapping path2 =
+          subst (λ (m : ℕ). IsBindingToldIn s.directory o m in_mapping path2) (sym only.0) (subst (λ (x : Bool). IsBindingToldIn s.directory o n2 x path2) (sym only.1) there) in (
             all_asked o2 shapes2 given2 reach ∙ sym asked_is,
-            subst (Agree (Fails path (Faulty rule place []))) (sym finding_is) (binding_told_once s o n in_mapping path path2 told here, (only.2, only.3)),
+            subst (Agree (Fails path (Faulty rule place []))) (sym finding_is) (binding_told_once s.directory o n in_mapping path path2 told here, (only.2, only.3)),
           )
-      no_binding_only n in_mapping rule place path a told others other (NoSystem o2 shapes2 given2 bound2 rule2 place2 ports2 path2 asked finding reach binds2 f told2 asked_is finding_is) = absurd (a.none bound2 (all_back (λ x xs gs. Binds x xs gs bound2) o2 shapes2 given2 reach binds2))
+      no_binding_only n in_mapping rule place path a told others other (NoSystem o2 shapes2 given2 bound2 rule2 node2 ports2 asked finding reach binds2 f asked_is finding_is) = absurd (a.none bound2 (all_back (λ x xs gs. Binds x xs gs bound2) o2 shapes2 given2 reach binds2))
       no_binding_only n in_mapping rule place path a told others other (Whole o2 shapes2 given2 loaded2 asked finding reach binds2 f folders2 asked_is finding_is) =
           absurd (a.none loaded2.bound (all_back (λ x xs gs. Binds x xs gs loaded2.bound) o2 shapes2 given2 reach binds2))
 
@@ -270,27 +274,30 @@ module _ (s : Search) (reads : List ReadNote) (steady : AreSteady reads) where
         no_broken o2 shapes2 given2 n2 in_mapping2 rule2 place2 reach f =
             binds.none n2 in_mapping2 rule2 place2 (all_back (λ x xs gs. BreaksBinding x xs gs n2 in_mapping2 rule2 place2) o2 shapes2 given2 reach f)
 
-        pub no_system_only : (rule : Rule) (place : Place) (ports : List PortId) (path : List ℕ) → BreaksTogetherAlone o shapes rule place ports →
-            path ≡ outline_path s.subject s.directory → Agrees s reads (asked_with s o o.systems.bindings) (Fails path (Faulty rule place ports))
-        no_system_only rule place ports path a told others other (NoOutline flaw2 asked finding sys f asked_is finding_is) = absurd (outline_unflawed o flaw2 outline sys f)
-        no_system_only rule place ports path a told others other (NoShape o2 taken2 shapes2 c2 rest2 flaw2 asked finding reach f asked_is finding_is) =
+        pub no_system_only : (rule : Rule) (node : ℕ) (ports : List PortId) → BreaksTogetherAlone o shapes rule node ports →
+            Agrees s reads (asked_with s o o.systems.bindings) (Fails (told_in s.directory o node) (Faulty rule (place_in o node) ports))
+        no_system_only rule node ports a others other (NoOutline told2 flaw2 asked finding sys f finding_is) = absurd (outline_unflawed o others told2 flaw2 outline sys f)
+        no_system_only rule node ports a others other (NoShape o2 taken2 shapes2 c2 rest2 flaw2 asked finding reach f asked_is finding_is) =
             absurd (no_flaw o2 taken2 shapes2 c2 rest2 flaw2 reach f)
-        no_system_only rule place ports path a told others other (NoSet o2 shapes2 taken2 given2 b2 rest2 files2 path2 flaw2 asked finding reach f asked_is finding_is) = absurd (no_bad o2 shapes2 taken2 given2 b2 rest2 files2 path2 flaw2 reach f)
-        no_system_only rule place ports path a told others other (NoBinding o2 shapes2 given2 n2 in_mapping2 rule2 place2 path2 asked finding reach f told2 asked_is finding_is) = absurd (no_broken o2 shapes2 given2 n2 in_mapping2 rule2 place2 reach f)
-        no_system_only rule place ports path a told others other (NoSystem o2 shapes2 given2 bound2 rule2 place2 ports2 path2 asked finding reach binds2 f told2 asked_is finding_is) =
-            let only = a.only rule2 place2 ports2 (all_back (λ x xs gs. BreaksTogether x xs rule2 place2 ports2) o2 shapes2 given2 reach f) in (
+        no_system_only rule node ports a others other (NoSet o2 shapes2 taken2 given2 b2 rest2 files2 path2 flaw2 asked finding reach f asked_is finding_is) = absurd (no_bad o2 shapes2 taken2 given2 b2 rest2 files2 path2 flaw2 reach f)
+        no_system_only rule node ports a others other (NoBinding o2 shapes2 given2 n2 in_mapping2 rule2 place2 path2 asked finding reach f told2 asked_is finding_is) = absurd (no_broken o2 shapes2 given2 n2 in_mapping2 rule2 place2 reach f)
+        no_system_only rule node ports a others other (NoSystem o2 shapes2 given2 bound2 rule2 node2 ports2 asked finding reach binds2 f asked_is finding_is) =
+            let only = a.only rule2 node2 ports2 (all_back (λ x xs gs. BreaksTogether x xs rule2 node2 ports2) o2 shapes2 given2 reach f) in
+            let told : told_in s.directory o node2 ≡ told_in s.directory o2 node2 = all_back (λ x xs gs. told_in s.directory x node2 ≡ told_in s.directory o2 node2) o2 shapes2 given2 reach refl in
+            let place : place_in o node2 ≡ place_in o2 node2 = all_back (λ x xs gs. place_in x node2 ≡ place_in o2 node2) o2 shapes2 given2 reach refl in (
               all_asked o2 shapes2 given2 reach ∙ sym asked_is,
-              subst (Agree (Fails path (Faulty rule place ports))) (sym finding_is) (told ∙ sym told2, only),
+              subst (Agree (Fails (told_in s.directory o node) (Faulty rule (place_in o node) ports))) (sym finding_is)
+                  (ap (told_in s.directory o) only.1 ∙ told, (only.0, ap (place_in o) only.1 ∙ place)),
             )
-        no_system_only rule place ports path a told others other (Whole o2 shapes2 given2 loaded2 asked finding reach binds2 f folders2 asked_is finding_is) = absurd (a.none loaded2.system (all_back (λ x xs gs. Makes x xs loaded2.system) o2 shapes2 given2 reach f))
+        no_system_only rule node ports a others other (Whole o2 shapes2 given2 loaded2 asked finding reach binds2 f folders2 asked_is finding_is) = absurd (a.none loaded2.system (all_back (λ x xs gs. Makes x xs loaded2.system) o2 shapes2 given2 reach f))
 
       pub whole_only : (loaded : Loaded) → IsLoaded s.directory o shapes given loaded → Agrees s reads (asked_with s o o.systems.bindings) (Found loaded)
-      whole_only loaded a others other (NoOutline flaw2 asked finding sys f asked_is finding_is) = absurd (outline_unflawed o flaw2 outline sys f)
+      whole_only loaded a others other (NoOutline told2 flaw2 asked finding sys f finding_is) = absurd (outline_unflawed o others told2 flaw2 outline sys f)
       whole_only loaded a others other (NoShape o2 taken2 shapes2 c2 rest2 flaw2 asked finding reach f asked_is finding_is) = absurd (no_flaw o2 taken2 shapes2 c2 rest2 flaw2 reach f)
       whole_only loaded a others other (NoSet o2 shapes2 taken2 given2 b2 rest2 files2 path2 flaw2 asked finding reach f asked_is finding_is) = absurd (no_bad o2 shapes2 taken2 given2 b2 rest2 files2 path2 flaw2 reach f)
       whole_only loaded a others other (NoBinding o2 shapes2 given2 n2 in_mapping2 rule2 place2 path2 asked finding reach f told2 asked_is finding_is) = absurd (no_broken loaded.bound a.binds o2 shapes2 given2 n2 in_mapping2 rule2 place2 reach f)
-      whole_only loaded a others other (NoSystem o2 shapes2 given2 bound2 rule2 place2 ports2 path2 asked finding reach binds2 f told2 asked_is finding_is) =
-          absurd (a.makes.none rule2 place2 ports2 (all_back (λ x xs gs. BreaksTogether x xs rule2 place2 ports2) o2 shapes2 given2 reach f))
+      whole_only loaded a others other (NoSystem o2 shapes2 given2 bound2 rule2 node2 ports2 asked finding reach binds2 f asked_is finding_is) =
+          absurd (a.makes.none rule2 node2 ports2 (all_back (λ x xs gs. BreaksTogether x xs rule2 node2 ports2) o2 shapes2 given2 reach f))
       whole_only loaded a others other (Whole o2 shapes2 given2 loaded2 asked finding reach binds2 f folders2 asked_is finding_is) = (
         all_asked o2 shapes2 given2 reach ∙ sym asked_is,
         subst (Agree (Found loaded)) (sym finding_is) (
@@ -302,16 +309,16 @@ module _ (s : Search) (reads : List ReadNote) (steady : AreSteady reads) where
 
 -- ---- alone
 
-pub no_outline_alone : (s : Search) (reads : List ReadNote) (flaw : Flaw) → s.subject ≡ what.System → LacksFile FailsStructure reads (structure_path s.directory) flaw →
-    ComesAlone s reads (structure_path s.directory ∷ []) (Fails (structure_path s.directory) flaw)
-no_outline_alone s reads flaw sys a = record {
-  comes = NoOutline flaw _ _ sys (is_flawed IsStructure BreaksStructure reads (structure_path s.directory) flaw a) refl refl;
-  only = (λ steady. no_outline_only s reads steady flaw sys a);
+pub no_outline_alone : (s : Search) (reads : List ReadNote) (asked : List (List ℕ)) (told : List ℕ) (flaw : Flaw) → s.subject ≡ what.System →
+    LacksOutline SaysStructure FailsStructure s.directory reads asked told flaw → ComesAlone s reads asked (Fails told flaw)
+no_outline_alone s reads asked told flaw sys a = record {
+  comes = NoOutline told flaw _ _ sys (lacks_plain s.directory reads asked told flaw a) refl;
+  only = (λ steady. no_outline_only s reads steady asked told flaw sys a);
 }
 
 pub no_shape_alone : (s : Search) (reads : List ReadNote) (o : Outline) (taken : List ComponentPart) (shapes : List Shape) (c : ComponentPart) (rest : List ComponentPart) (flaw : Flaw) →
     ReachesAlone s reads o taken shapes (c ∷ rest) → LacksFile (FailsModel s.per_second) reads (model_path s.directory c) flaw →
-    ComesAlone s reads (asked_for s (taken ++ c ∷ [])) (Fails (model_path s.directory c) flaw)
+    ComesAlone s reads (asked_for s o (taken ++ c ∷ [])) (Fails (model_path s.directory c) flaw)
 no_shape_alone s reads o taken shapes c rest flaw a lacks = record {
   comes = NoShape o taken shapes c rest flaw _ _ (reached s reads o taken shapes (c ∷ rest) a)
       (is_flawed (IsModel s.per_second) (BreaksModel s.per_second) reads (model_path s.directory c) flaw lacks) refl refl;
@@ -347,17 +354,17 @@ module _ (s : Search) (reads : List ReadNote) (o : Outline) (shapes : List Shape
   reach_all = reached_bindings s reads o shapes o.systems.bindings given [] a
 
   pub no_binding_alone : (n : ℕ) (in_mapping : Bool) (rule : Rule) (place : Place) (path : List ℕ) → BreaksBindingAlone o shapes given n in_mapping rule place →
-      IsBindingToldIn s o n in_mapping path → ComesAlone s reads (asked_with s o o.systems.bindings) (Fails path (Faulty rule place []))
+      IsBindingToldIn s.directory o n in_mapping path → ComesAlone s reads (asked_with s o o.systems.bindings) (Fails path (Faulty rule place []))
   no_binding_alone n in_mapping rule place path broken told = record {
     comes = NoBinding o shapes given n in_mapping rule place path _ _ reach_all broken.broken told refl refl;
     only = (λ steady. no_binding_only s reads steady o shapes a.outline a.shaped given a.each n in_mapping rule place path broken told);
   }
 
-  pub no_system_alone : (bound : Bound) (rule : Rule) (place : Place) (ports : List PortId) (path : List ℕ) → BindsAlone o shapes given bound →
-      BreaksTogetherAlone o shapes rule place ports → path ≡ outline_path s.subject s.directory → ComesAlone s reads (asked_with s o o.systems.bindings) (Fails path (Faulty rule place ports))
-  no_system_alone bound rule place ports path binds broken told = record {
-    comes = NoSystem o shapes given bound rule place ports path _ _ reach_all binds.is broken.broken told refl refl;
-    only = (λ steady. no_system_only s reads steady o shapes a.outline a.shaped given a.each bound binds rule place ports path broken told);
+  pub no_system_alone : (bound : Bound) (rule : Rule) (node : ℕ) (ports : List PortId) → BindsAlone o shapes given bound →
+      BreaksTogetherAlone o shapes rule node ports → ComesAlone s reads (asked_with s o o.systems.bindings) (Fails (told_in s.directory o node) (Faulty rule (place_in o node) ports))
+  no_system_alone bound rule node ports binds broken = record {
+    comes = NoSystem o shapes given bound rule node ports _ _ reach_all binds.is broken.broken refl refl;
+    only = (λ steady. no_system_only s reads steady o shapes a.outline a.shaped given a.each bound binds rule node ports broken);
   }
 
   pub whole_alone : (loaded : Loaded) → IsLoaded s.directory o shapes given loaded → ComesAlone s reads (asked_with s o o.systems.bindings) (Found loaded)

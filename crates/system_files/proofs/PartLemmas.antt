@@ -60,11 +60,11 @@ module _ {A : Type 0} (Says : List ℕ → A → Type 0) (Breaks : List ℕ → 
 -- its values aren't taken alone, or its mapping isn't
 pub data LacksBindingAlone (s : Search) (reads : List ReadNote) (o : Outline) (b : Binding) : List (List ℕ) → List ℕ → Flaw → Type 0 where
   InValuesAlone : (files : List (List ℕ)) (path : List ℕ) (flaw : Flaw) → LacksPart FailsValues FailsValuesWithin s.directory reads o b.owner b.values flaw →
-      files ≡ part_files s.directory o b.owner b.values → path ≡ part_told s.subject s.directory o b.owner b.values → LacksBindingAlone s reads o b files path flaw
+      files ≡ part_files s.directory o b.owner b.values → path ≡ part_told s.directory o b.owner b.values → LacksBindingAlone s reads o b files path flaw
   InMappingAlone : (origin : Origin) (given : GivenSet) (files : List (List ℕ)) (path : List ℕ) (flaw : Flaw) →
       IsValuesAlone s.directory reads o b.owner b.values given → b.mapping ≡ Some origin →
       LacksPart FailsMapping FailsMappingWithin s.directory reads o b.owner origin flaw → files ≡ binding_files s.directory o b →
-      path ≡ part_told s.subject s.directory o b.owner origin → LacksBindingAlone s reads o b files path flaw
+      path ≡ part_told s.directory o b.owner origin → LacksBindingAlone s reads o b files path flaw
 
 module _ (s : Search) (reads : List ReadNote) (o : Outline) (b : Binding) where
   pub is_values : (given : GivenSet) → IsValuesAlone s.directory reads o b.owner b.values given → IsValuesPart s.directory reads o b.owner b.values given
@@ -141,7 +141,7 @@ module _ (s : Search) (reads : List ReadNote) (o : Outline) (b : Binding) where
     binding_once files more path there flaw other (InMappingAlone origin set f1 p1 x1 v m a files_is path_is) (InMapping origin2 set2 f2 p2 x2 v2 m2 h more_is there_is) =
         let same : origin2 ≡ origin = same_origin origin2 origin m2 m in (
           files_is ∙ sym more_is,
-          path_is ∙ ap (part_told s.subject s.directory o b.owner) (sym same) ∙ sym there_is,
+          path_is ∙ ap (part_told s.directory o b.owner) (sym same) ∙ sym there_is,
           flaw_once IsMapping BreaksMapping IsMappingWithin BreaksMappingWithin s.directory reads o b.owner steady origin flaw other a
               (subst (λ (x : Origin). LacksPart BreaksMapping BreaksMappingWithin s.directory reads o b.owner x other) same h),
         )

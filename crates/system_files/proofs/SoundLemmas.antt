@@ -1,10 +1,12 @@
 -- What is taken is sound, and its names are short.
-use Rattle.std.proofs.Common.{◌≡◌, ℕ, zero, suc, ◌<◌, ◌≤◌, ◌^◌, Bool, List, [], ◌∷◌, length, Option, Some, None, refl, sym, ap, ◌∙◌, ◌+◌, ◌*◌, subst, arith}
-use Rattle.std.specs.Prelude.{All, IsSome, IsSomeAnd, false, slice_get}
+use Rattle.std.proofs.Common.{◌≡◌, ℕ, zero, suc, ◌<◌, ◌≤◌, ◌^◌, Bool, List, [], ◌∷◌, length, Option, Some, None, refl, sym, ap, ◌∙◌, ◌+◌, ◌*◌, subst, arith, get_or, length-append}
+use Rattle.std.specs.Prelude.{All, IfSome, IsSome, IsSomeAnd, false, slice_get}
 use Rattle.std.specs.List.{AllZip}
 use Rattle.std.specs.Option.{option_map}
-use Rattle.std.proofs.lemmas.List.Elements.{All-cons, All-nil}
+use Rattle.std.proofs.lemmas.List.Elements.{All-cons, All-get_or, All-nil, All-weaker}
+use Rattle.std.proofs.lemmas.Option.{slice_get-get_or}
 use Rattle.std.proofs.lemmas.Slice.Zip.{AllZip-long}
+use Rattle.sim_base.specs.Path.{joined_path}
 use Rattle.sim_base.specs.declared.read_book.ReadNote.{ReadNote}
 use Rattle.value_types.specs.declared.shape.Shape.{Shape}
 use Rattle.system_model.specs.Shapes.{IsSoundShape}
@@ -13,7 +15,7 @@ use Rattle.system_model.specs.declared.system.System.{System}
 use Rattle.system_model.proofs.CallerLemmas.{all_at, all_by_place}
 use Rattle.ssd_tree.specs.declared.tree.ComponentPart.{ComponentPart}
 use Rattle.ssd_tree.specs.declared.tree.SystemTree.{SystemTree}
-use Rattle.doc_grammar.specs.Nodes.{Node}
+use Rattle.doc_grammar.specs.Nodes.{Denotes, Node}
 use Rattle.doc_tree.specs.declared.rule.ParameterRule.{ParameterRule}
 use Rattle.doc_tree.specs.declared.rule.ParameterRule.TheVariants as p
 use Rattle.flatten.specs.Given.{AreShapesOf, IsWholeTree}
@@ -21,8 +23,18 @@ use Rattle.parameter_binding.specs.declared.sets.BindingSets.{BindingSets}
 use Rattle.parameter_binding.specs.declared.sets.MappingOf.{MappingOf}
 use Rattle.parameter_binding.specs.Binds.{Triple, mapping_of}
 use Rattle.parameter_binding.specs.Rules as rules
+use Rattle.ssd_tree.specs.declared.tree.Origin.TheVariants.{File, Inline}
+use Rattle.ssd_tree.specs.declared.tree.Setting.{Setting}
 use Rattle.ssd_tree.specs.Named.{IsNamedTree}
-use Rattle.ssd_tree.specs.Parts.{IsPlain, NamesPlainPaths}
+use Rattle.ssd_tree.specs.Parts.{IsPlain}
+use Rattle.ssd_tree.specs.Sources.{LeadsDown}
+use Rattle.ssd_tree.proofs.CallerLemmas.{leads_plain}
+use Rattle.nested_documents.specs.declared.nest.TheConstants.{OUTERMOST}
+use Rattle.nested_documents.specs.declared.numbers.Place as elements
+use Rattle.nested_documents.specs.States.{Document, Gathered}
+use Rattle.nesting_laws.specs.Proper.{IsOriginBelow, IsProper, IsProperDocument}
+use Rattle.nesting_laws.specs.Says.{Says}
+use Rattle.nesting_laws.proofs.CallerLemmas.{proper_added, proper_top, proper_whole}
 use Rattle.parameter_values.specs.Ranges.{AreInRange}
 use Rattle.parameter_values.specs.declared.set.Mapping.{Mapping}
 use Rattle.ssd_tree.specs.declared.tree.Binding.{Binding}
@@ -38,12 +50,16 @@ use Rattle.system_loading.specs.declared.binding.BindingFault.TheVariants as bin
 use Rattle.system_loading.specs.declared.parameters.GivenBinding.{GivenBinding}
 use Rattle.system_loading.specs.declared.parameters.GivenMapping.{GivenMapping}
 use Rattle.system_loading.specs.Binding.{AreReady, TellsBinding, sets_at, sets_from, sets_of}
-use Rattle.system_loading.specs.Outlines.{lone_name, lone_outline, lone_tree}
-use Rattle.system_loading.specs.Readings.{IsModel, IsStructure}
+use Rattle.system_loading.specs.declared.documents.SystemDocument.{SystemDocument}
+use Rattle.system_loading.specs.Documents.{Said}
+use Rattle.system_loading.specs.Outlines.{element_in, lone_name, lone_outline, lone_tree}
+use Rattle.system_loading.specs.Readings.{IsModel}
 use Rattle.system_files.specs.declared.subject.Subject.{Subject}
 use Rattle.system_files.specs.declared.subject.Subject.TheVariants as what
 use Rattle.system_files.specs.Loads.{IsNamed}
-use Rattle.system_files.specs.Steps.{HasBindingPart, HasDocument, HasParts, HasShapeAlone, IsGivenAlone, IsMappingAlone, OutlinesAlone}
+use Rattle.system_files.specs.Documents.{Gathers, GathersAll, Nested, Outermost, top_path}
+use Rattle.system_files.specs.Files.{HasFile}
+use Rattle.system_files.specs.Steps.{HasBindingDocument, HasBindingPart, HasDocument, HasOriginDocument, HasParts, HasShapeAlone, IsGivenAlone, IsMappingAlone, OutlinesAlone, SaysStructure}
 use Rattle.system_files.specs.Order.{origin_of}
 use Rattle.system_files.proofs.ListLemmas.{zip_then}
 
@@ -60,43 +76,115 @@ zip_at R (x ∷ xs) (z ∷ ys) h (suc k) y at = zip_at R xs ys h.1 k y at
 abbrev pub HasShortNames : Outline → Type 0
 HasShortNames o = All (λ (c : ComponentPart). length c.name ≤ 2 ^ 24) o.systems.components
 
-pub outline_whole : ((bytes : List ℕ) (o : Outline) → IsStructure bytes o → IsWholeTree o.systems) → IsWholeTree lone_tree →
-    (subject : Subject) (directory : List ℕ) (reads : List ReadNote) (o : Outline) → OutlinesAlone subject directory reads o → IsWholeTree o.systems
-outline_whole law lone what.Fmu directory reads o a = subst (λ (x : Outline). IsWholeTree x.systems) (sym a) lone
-outline_whole law lone what.System directory reads o a = law a.2.0 o a.2.3.is
-
-within : (m n : ℕ) → m ≤ n → n ≤ 2 ^ 24 → m ≤ 2 ^ 24
-within m n a b = omega arith
-
-pub outline_short : ((bytes : List ℕ) (o : Outline) → IsStructure bytes o → All (λ (c : ComponentPart). length c.name ≤ length bytes) o.systems.components) →
-    (subject : Subject) (directory : List ℕ) (reads : List ReadNote) (o : Outline) → OutlinesAlone subject directory reads o → HasShortNames o
-outline_short law what.Fmu directory reads o a =
-    subst HasShortNames (sym a) (All-cons (λ (c : ComponentPart). length c.name ≤ 2 ^ 24) (record { node = 0; system = 0; name = lone_name; source = [] }) [] (omega arith)
-    (All-nil (λ (c : ComponentPart). length c.name ≤ 2 ^ 24)))
-outline_short law what.System directory reads o a = all_by_place (λ (c : ComponentPart). length c.name ≤ 2 ^ 24) o.systems.components
-    (λ k c at. within (length c.name) (length a.2.0) (all_at (λ (c : ComponentPart). length c.name ≤ length a.2.0) o.systems.components k c (law a.2.0 o a.2.3.is) at) a.2.2)
-
-pub outline_named : ((bytes : List ℕ) (o : Outline) → IsStructure bytes o → IsNamedTree o.systems) → IsNamedTree lone_tree →
-    (subject : Subject) (directory : List ℕ) (reads : List ReadNote) (o : Outline) → OutlinesAlone subject directory reads o → IsNamedTree o.systems
-outline_named law lone what.Fmu directory reads o a = subst (λ (x : Outline). IsNamedTree x.systems) (sym a) lone
-outline_named law lone what.System directory reads o a = law a.2.0 o a.2.3.is
-
 abbrev HasPlainSources : Outline → Type 0
 HasPlainSources o = All (λ (c : ComponentPart). IsPlain c.source) o.systems.components
 
-pub outline_plain : ((bytes : List ℕ) (o : Outline) → IsStructure bytes o → NamesPlainPaths o.systems) →
-    (subject : Subject) (directory : List ℕ) (reads : List ReadNote) (o : Outline) → OutlinesAlone subject directory reads o → HasPlainSources o
+-- what a document without violation says is proper
+abbrev pub DocumentsAreProper : Type 0
+DocumentsAreProper = (bytes : List ℕ) (t : List Node) (s : Setting) (d : Document) → Denotes bytes t → Says s t d → IsProperDocument s d
+
+-- what documents come to is proper, and so many were read
+pub record AreProper (documents : List SystemDocument) (g : Gathered) : Type 0 where
+  pub is : IsProper g
+  pub count : g.documents ≡ length documents
+
+module _ (law : DocumentsAreProper) (directory : List ℕ) (reads : List ReadNote) where
+  said_proper : (s : Setting) (path : List ℕ) (said : Said) → HasFile (SaysStructure s) reads path said → IsProperDocument s said.document
+  said_proper s path said has = let by = has.2.3.is in law has.2.0 by.document s said.document by.denotes by.describes.1
+
+  pub gathered_proper : (documents : List SystemDocument) (g : Gathered) → Gathers SaysStructure directory reads documents g → AreProper documents g
+  gathered_proper documents g (Outermost said _ _ tells begins) = record {
+    is = proper_top said.document g begins.top (said_proper OUTERMOST (joined_path directory top_path) said tells);
+    count = begins.top.documents ∙ sym (ap (λ (ds : List SystemDocument). length ds) begins.documents);
+  }
+  gathered_proper documents g (Nested before old path s said _ _ gathers comes tells adds) =
+      let earlier = gathered_proper before old gathers in
+      let long = ap (λ (ds : List SystemDocument). length ds) adds.documents in
+      let more = length-append before (record { path = path; tree = said.nodes } ∷ []) in
+      let here = adds.added.documents in
+      let count = earlier.count in
+      record {
+        is = proper_added old path s said.document g comes adds.added earlier.is (said_proper s (joined_path directory path) said tells);
+        count = omega (arith, here, count, long, more);
+      }
+
+  module _ (o : Outline) (all : GathersAll SaysStructure directory reads o) where
+    proper : AreProper all.documents all.last
+    proper = gathered_proper all.documents all.last all.gathers
+
+    systems : all.last.tree ≡ o.systems
+    systems = sym all.is.systems
+
+    pub all_whole : IsWholeTree o.systems
+    all_whole = subst IsWholeTree systems (proper_whole all.last proper.is all.all all.is.none)
+
+    pub all_named : IsNamedTree o.systems
+    all_named = subst IsNamedTree systems proper.is.named
+
+    pub all_short : HasShortNames o
+    all_short =
+        subst (λ (t : SystemTree). All (λ (c : ComponentPart). length c.name ≤ 2 ^ 24) t.components) systems
+        (All-weaker (λ (c : ComponentPart). (0 < length c.name) × (length c.name ≤ 2 ^ 24)) (λ (c : ComponentPart). length c.name ≤ 2 ^ 24) (λ c h. h.1) all.last.tree.components proper.is.names)
+
+    pub all_plain : HasPlainSources o
+    all_plain =
+        subst (λ (t : SystemTree). All (λ (c : ComponentPart). IsPlain c.source) t.components) systems
+        (All-weaker (λ (c : ComponentPart). LeadsDown c.source) (λ (c : ComponentPart). IsPlain c.source) (λ c down. leads_plain c.source down) all.last.tree.components proper.is.sources)
+
+    -- an element of the tree stands in a document
+    stands : (node : ℕ) → node < length all.last.elements → IsSome (element_in o node)
+    stands node less =
+        let here : elements.Place = record { document = 0; node = 0 } in
+        let place = get_or all.last.elements node here in
+        let at : slice_get o.numbers node ≡ Some place = ap (λ (xs : List elements.Place). slice_get xs node) all.is.numbers ∙ slice_get-get_or all.last.elements node here less in
+        let below : place.document < all.last.documents = All-get_or (λ (p : elements.Place). p.document < all.last.documents) all.last.elements node here less proper.is.held in
+        let many : length o.documents ≡ length all.documents = ap (λ (ds : List SystemDocument). length ds) all.is.documents in
+        let count = proper.count in
+        let there = slice_get-get_or o.documents place.document nowhere (omega (arith, below, many, count)) in
+        rw (at, there) refl
+      where
+        nowhere : SystemDocument
+        nowhere = record { path = []; tree = [] }
+
+    origin_stands : (g : Origin) → IsOriginBelow (length all.last.elements) g → HasOriginDocument o g
+    origin_stands (File base path) h = tt
+    origin_stands (Inline node) h = stands node h
+
+    mapping_stands : (m : Option Origin) → IfSome m (IsOriginBelow (length all.last.elements)) → IfSome m (HasOriginDocument o)
+    mapping_stands None h = tt
+    mapping_stands (Some g) h = origin_stands g h
+
+    pub all_documents : HasDocument o
+    all_documents =
+        subst (λ (t : SystemTree). All (HasBindingDocument o) t.bindings) systems
+        (λ k d less. (
+          origin_stands (get_or all.last.tree.bindings k d).values (proper.is.parts.values k d less),
+          mapping_stands (get_or all.last.tree.bindings k d).mapping (proper.is.parts.mappings k d less),
+        ))
+
+pub outline_whole : DocumentsAreProper → IsWholeTree lone_tree → (subject : Subject) (directory : List ℕ) (reads : List ReadNote) (o : Outline) → OutlinesAlone subject directory reads o → IsWholeTree o.systems
+outline_whole law lone what.Fmu directory reads o a = subst (λ (x : Outline). IsWholeTree x.systems) (sym a) lone
+outline_whole law lone what.System directory reads o a = all_whole law directory reads o a
+
+pub outline_short : DocumentsAreProper → (subject : Subject) (directory : List ℕ) (reads : List ReadNote) (o : Outline) → OutlinesAlone subject directory reads o → HasShortNames o
+outline_short law what.Fmu directory reads o a =
+    subst HasShortNames (sym a) (All-cons (λ (c : ComponentPart). length c.name ≤ 2 ^ 24) (record { node = 0; system = 0; name = lone_name; source = [] }) [] (omega arith)
+    (All-nil (λ (c : ComponentPart). length c.name ≤ 2 ^ 24)))
+outline_short law what.System directory reads o a = all_short law directory reads o a
+
+pub outline_named : DocumentsAreProper → IsNamedTree lone_tree → (subject : Subject) (directory : List ℕ) (reads : List ReadNote) (o : Outline) → OutlinesAlone subject directory reads o → IsNamedTree o.systems
+outline_named law lone what.Fmu directory reads o a = subst (λ (x : Outline). IsNamedTree x.systems) (sym a) lone
+outline_named law lone what.System directory reads o a = all_named law directory reads o a
+
+pub outline_plain : DocumentsAreProper → (subject : Subject) (directory : List ℕ) (reads : List ReadNote) (o : Outline) → OutlinesAlone subject directory reads o → HasPlainSources o
 outline_plain law what.Fmu directory reads o a =
     subst HasPlainSources (sym a) (All-cons (λ (c : ComponentPart). IsPlain c.source) (record { node = 0; system = 0; name = lone_name; source = [] }) [] refl
     (All-nil (λ (c : ComponentPart). IsPlain c.source)))
-outline_plain law what.System directory reads o a = (law a.2.0 o a.2.3.is).components
+outline_plain law what.System directory reads o a = all_plain law directory reads o a
 
-none_below : HasDocument lone_outline
-none_below n below = absurd (omega (arith, below))
-
-pub outline_document : (subject : Subject) (directory : List ℕ) (reads : List ReadNote) (o : Outline) → OutlinesAlone subject directory reads o → HasDocument o
-outline_document what.Fmu directory reads o a = subst HasDocument (sym a) none_below
-outline_document what.System directory reads o a = λ n below. subst (λ (d : Option (List Node)). IsSome d) (sym a.2.3.is.describes.0) refl
+pub outline_document : DocumentsAreProper → (subject : Subject) (directory : List ℕ) (reads : List ReadNote) (o : Outline) → OutlinesAlone subject directory reads o → HasDocument o
+outline_document law what.Fmu directory reads o a = subst HasDocument (sym a) (All-nil (HasBindingDocument lone_outline))
+outline_document law what.System directory reads o a = all_documents law directory reads o a
 
 -- ---- the shapes
 
@@ -115,6 +203,9 @@ are_shapes sound resolution per_second directory reads t shapes above most each 
 }
 
 -- ---- the components
+
+within : (m n : ℕ) → m ≤ n → n ≤ 2 ^ 24 → m ≤ 2 ^ 24
+within m n a b = omega arith
 
 pub are_named : ((per_second : ℕ) (bytes : List ℕ) (shape : Shape) → IsModel per_second bytes shape → length shape.token ≤ length bytes) →
     (per_second : ℕ) (directory : List ℕ) (reads : List ReadNote) (o : Outline) (shapes : List Shape) (system : System) → IsWholeTree o.systems → HasShortNames o →

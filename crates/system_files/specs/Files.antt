@@ -13,10 +13,6 @@ use Rattle.doc_tree.specs.declared.rule.Rule.{Rule}
 abbrev pub description_path : List ℕ → List ℕ
 description_path directory = directory ++ codes "/modelDescription.xml"
 
--- where a system's description stands in its directory (SSP 1.0, 3: SystemStructure.ssd)
-abbrev pub structure_path : List ℕ → List ℕ
-structure_path directory = directory ++ codes "/SystemStructure.ssd"
-
 -- each path at its first place alone
 abbrev pub first_uses : List (List ℕ) → List (List ℕ)
 first_uses [] = []

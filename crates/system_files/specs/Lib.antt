@@ -1,5 +1,6 @@
 pub mod Rooms
 pub mod Files
+pub mod Documents
 pub mod Order
 pub mod Loads
 pub mod Steps

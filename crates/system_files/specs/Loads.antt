@@ -2,6 +2,7 @@
 use Rattle.std.specs.Prelude.{◌≡◌, ℕ, ◌≤◌, ◌^◌, List, [], ◌∷◌, ◌++◌, Some, Err, length}
 use Rattle.sim_base.specs.Asking.{Asks}
 use Rattle.sim_base.specs.Folder.{FolderView, with_read}
+use Rattle.sim_base.specs.Path.{joined_path}
 use Rattle.sim_base.specs.declared.folder.ReadFault.TheVariants as r
 use Rattle.sim_base.specs.declared.read_book.ReadNote.{ReadNote}
 use Rattle.value_types.specs.declared.shape.Shape.{Shape}
@@ -10,15 +11,20 @@ use Rattle.ssd_tree.specs.declared.tree.ComponentPart.{ComponentPart}
 use Rattle.ssd_tree.specs.declared.tree.Origin.TheVariants.{File}
 use Rattle.ssd_tree.specs.declared.tree.SourceBase.{SourceBase}
 use Rattle.system_model.specs.declared.system.Component.{Component}
+use Rattle.ssd_tree.specs.declared.tree.Setting.{Setting}
+use Rattle.nested_documents.specs.States.{Gathered}
+use Rattle.system_loading.specs.declared.documents.SystemDocument.{SystemDocument}
 use Rattle.system_loading.specs.declared.outline.Outline.{Outline}
 use Rattle.system_loading.specs.declared.parameters.GivenBinding.{GivenBinding}
 use Rattle.system_loading.specs.declared.parameters.GivenSet.{GivenSet}
+use Rattle.system_loading.specs.Documents.{IsStructure}
 use Rattle.system_files.specs.declared.loading.LoadEnd.{LoadEnd}
 use Rattle.system_files.specs.declared.loading.LoadEnd.TheVariants as end
 use Rattle.system_files.specs.declared.named.FileFault.{FileFault}
 use Rattle.system_files.specs.declared.named.FileFault.TheVariants.{Unread, Missing, TooBig, Broken}
 use Rattle.system_files.specs.declared.subject.Subject.TheVariants as what
-use Rattle.system_files.specs.Files.{Absent, Faulty, Long, structure_path}
+use Rattle.system_files.specs.Documents.{ComesDocument, Gathers, document_files}
+use Rattle.system_files.specs.Files.{Absent, Faulty, Long}
 use Rattle.system_files.specs.Order.{ComesAlone, Fails, Finding, IsValuesPart, ReachesShapes, ReachesBindings, Search, asked_for, asked_with, binding_files, model_path, part_files, part_path}
 
 -- these files were read, no read failed, and by what the reads got the order of reading comes to this
@@ -43,12 +49,14 @@ pub data ReachesPart (directory : List ℕ) (reads : List ReadNote) (o : Outline
 
 -- the order of reading comes to the file at a path, the last of these
 pub data ComesTo (s : Search) (reads : List ReadNote) : List (List ℕ) → List ℕ → Type 0 where
-  ToOutline : (asked : List (List ℕ)) (path : List ℕ) → s.subject ≡ what.System →
-      asked ≡ structure_path s.directory ∷ [] →
-      path ≡ structure_path s.directory → ComesTo s reads asked path
+  ToDocument : (documents : List SystemDocument) (source : List ℕ) (setting : Setting)
+      (asked : List (List ℕ)) (path : List ℕ) → s.subject ≡ what.System →
+      ComesDocument IsStructure s.directory reads documents source setting →
+      asked ≡ document_files s.directory documents ++ joined_path s.directory source ∷ [] →
+      path ≡ joined_path s.directory source → ComesTo s reads asked path
   ToShape : (o : Outline) (taken : List ComponentPart) (shapes : List Shape) (c : ComponentPart)
       (rest : List ComponentPart) (asked : List (List ℕ)) (path : List ℕ) →
-      ReachesShapes s reads o taken shapes (c ∷ rest) → asked ≡ asked_for s (taken ++ c ∷ []) →
+      ReachesShapes s reads o taken shapes (c ∷ rest) → asked ≡ asked_for s o (taken ++ c ∷ []) →
       path ≡ model_path s.directory c → ComesTo s reads asked path
   ToPart : (o : Outline) (shapes : List Shape) (taken : List Binding) (given : List GivenBinding)
       (b : Binding) (rest : List Binding) (files : List (List ℕ))
@@ -71,9 +79,13 @@ pub data AsksSome (s : Search) (reads : List ReadNote) : List (List ℕ) → Typ
   Nothing : (asked : List (List ℕ)) → asked ≡ [] → AsksSome s reads asked
   UpTo : (asked : List (List ℕ)) (path : List ℕ) → ComesTo s reads asked path →
       AsksSome s reads asked
+  TakenDocuments : (documents : List SystemDocument) (g : Gathered) (asked : List (List ℕ)) →
+      s.subject ≡ what.System → Gathers IsStructure s.directory reads documents g →
+      asked ≡ document_files s.directory documents → AsksSome s reads asked
   Taken : (o : Outline) (taken : List ComponentPart) (shapes : List Shape)
       (rest : List ComponentPart) (asked : List (List ℕ)) →
-      ReachesShapes s reads o taken shapes rest → asked ≡ asked_for s taken → AsksSome s reads asked
+      ReachesShapes s reads o taken shapes rest → asked ≡ asked_for s o taken →
+      AsksSome s reads asked
   TakenBindings : (o : Outline) (shapes : List Shape) (taken : List Binding)
       (given : List GivenBinding) (rest : List Binding) (asked : List (List ℕ)) →
       ReachesBindings s reads o shapes taken given rest → asked ≡ asked_with s o taken →

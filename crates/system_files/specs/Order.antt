@@ -1,4 +1,4 @@
--- The order of reading: what the files in a directory come to (SSP 1.0, SystemStructure.ssd, SSV and SSM; FMI 3.0, 2.4). First the structure of the system,
+-- The order of reading: what the files in a directory come to (SSP 1.0, SystemStructure.ssd, SSV and SSM; FMI 3.0, 2.4). First the documents of the system,
 -- then the description of each FMU in the order of its first use, then the values and the mapping of each binding, then the rules that they break together.
 use Rattle.std.specs.Prelude.{◌≡◌, ℕ, Bool, true, false, ◌==◌, if◌then◌else◌, List, [], ◌∷◌, ◌++◌, length, map, Option, Some, None, IsSomeAnd, slice_get}
 use Rattle.std.specs.List.{AllZip, flat_map}
@@ -24,12 +24,14 @@ use Rattle.system_loading.specs.declared.parameters.GivenMapping.{GivenMapping}
 use Rattle.system_loading.specs.declared.parameters.GivenSet.{GivenSet}
 use Rattle.system_loading.specs.Assembly.{BreaksTogether, HaveSameParts, Makes}
 use Rattle.system_loading.specs.Binding as parameters
-use Rattle.system_loading.specs.Outlines.{lone_outline}
-use Rattle.system_loading.specs.Readings.{BreaksMapping, BreaksMappingWithin, BreaksModel, BreaksStructure, BreaksValues, BreaksValuesWithin, IsMapping, IsMappingWithin, IsModel, IsStructure, IsValues, IsValuesWithin}
+use Rattle.system_loading.specs.Documents.{BreaksStructure, IsStructure}
+use Rattle.system_loading.specs.Outlines.{lone_outline, place_in}
+use Rattle.system_loading.specs.Readings.{BreaksMapping, BreaksMappingWithin, BreaksModel, BreaksValues, BreaksValuesWithin, IsMapping, IsMappingWithin, IsModel, IsValues, IsValuesWithin}
 use Rattle.system_files.specs.declared.subject.Subject.{Subject}
 use Rattle.system_files.specs.declared.subject.Subject.TheVariants as what
 use Rattle.system_files.specs.declared.loaded.Loaded.{Loaded}
-use Rattle.system_files.specs.Files.{Absent, AreSteady, Faulty, Flaw, HasFile, LacksFile, Long, description_path, first_uses, structure_path}
+use Rattle.system_files.specs.Documents.{GathersAll, LacksOutline, document_files, told_in}
+use Rattle.system_files.specs.Files.{Absent, AreSteady, Faulty, Flaw, HasFile, LacksFile, Long, description_path, first_uses}
 
 -- what is asked for, in which directory, and how many counts a second has
 pub record Search : Type 0 where
@@ -43,16 +45,6 @@ search_of subject directory per_second =
 
 -- ---- files
 
--- the file that tells the outline: that of the FMU alone, or the structure of the system
-abbrev pub outline_path : Subject → List ℕ → List ℕ
-outline_path what.Fmu directory = description_path directory
-outline_path what.System directory = structure_path directory
-
--- the files that are read before the descriptions
-abbrev pub files_before : Subject → List ℕ → List (List ℕ)
-files_before what.Fmu directory = []
-files_before what.System directory = structure_path directory ∷ []
-
 -- the folder of a component's FMU: its source below the directory; without a source the directory itself
 abbrev pub folder_of : List ℕ → ComponentPart → List ℕ
 folder_of directory c = if length c.source == 0 then directory else joined_path directory c.source
@@ -64,16 +56,17 @@ abbrev pub model_path : List ℕ → ComponentPart → List ℕ
 model_path directory c = description_path (folder_of directory c)
 
 -- what is asked for up to the descriptions of these components, each once
-abbrev pub asked_for : Search → List ComponentPart → List (List ℕ)
-asked_for s components =
-    files_before s.subject s.directory ++ first_uses (map (model_path s.directory) components)
+abbrev pub asked_for : Search → Outline → List ComponentPart → List (List ℕ)
+asked_for s o components =
+    document_files s.directory o.documents ++
+    first_uses (map (model_path s.directory) components)
 
 -- ---- the outline and the shapes
 
--- the outline of a subject: an FMU alone has one by itself, and a system that of its structure
+-- the outline of a subject: an FMU alone has one by itself, and a system that of its documents
 abbrev pub Outlines : Subject → List ℕ → List ReadNote → Outline → Type 0
 Outlines what.Fmu directory reads o = o ≡ lone_outline
-Outlines what.System directory reads o = HasFile IsStructure reads (structure_path directory) o
+Outlines what.System directory reads o = GathersAll IsStructure directory reads o
 
 -- the description of the component's FMU is that of this shape
 abbrev pub HasShape : Search → List ReadNote → ComponentPart → Shape → Type 0
@@ -104,9 +97,9 @@ part_files directory o owner (File base path) = part_path directory o owner base
 part_files directory o owner (Inline node) = []
 
 -- the file in which it is told
-abbrev pub part_told : Subject → List ℕ → Outline → Owner → Origin → List ℕ
-part_told subject directory o owner (File base path) = part_path directory o owner base path
-part_told subject directory o owner (Inline node) = outline_path subject directory
+abbrev pub part_told : List ℕ → Outline → Owner → Origin → List ℕ
+part_told directory o owner (File base path) = part_path directory o owner base path
+part_told directory o owner (Inline node) = told_in directory o node
 
 -- a part is this, in its file or in the outline
 abbrev pub IsPart : {A : Type 0} → (List ℕ → A → Type 0) → (Outline → ℕ → A → Type 0) → List ℕ →
@@ -158,14 +151,14 @@ pub data LacksBinding (s : Search) (reads : List ReadNote) (o : Outline) (b : Bi
   InValues : (files : List (List ℕ)) (path : List ℕ) (flaw : Flaw) →
       LacksPart BreaksValues BreaksValuesWithin s.directory reads o b.owner b.values flaw →
       files ≡ part_files s.directory o b.owner b.values →
-      path ≡ part_told s.subject s.directory o b.owner b.values →
+      path ≡ part_told s.directory o b.owner b.values →
       LacksBinding s reads o b files path flaw
   InMapping : (origin : Origin) (given : GivenSet) (files : List (List ℕ))
       (path : List ℕ) (flaw : Flaw) →
       IsValuesPart s.directory reads o b.owner b.values given → b.mapping ≡ Some origin →
       LacksPart BreaksMapping BreaksMappingWithin s.directory reads o b.owner origin flaw →
       files ≡ binding_files s.directory o b →
-      path ≡ part_told s.subject s.directory o b.owner origin →
+      path ≡ part_told s.directory o b.owner origin →
       LacksBinding s reads o b files path flaw
 
 -- each component has its shape, and the first bindings give this
@@ -178,7 +171,7 @@ pub record ReachesBindings (s : Search) (reads : List ReadNote) (o : Outline) (s
 -- what is asked for up to these bindings
 abbrev pub asked_with : Search → Outline → List Binding → List (List ℕ)
 asked_with s o bindings =
-    asked_for s o.systems.components ++ flat_map (binding_files s.directory o) bindings
+    asked_for s o o.systems.components ++ flat_map (binding_files s.directory o) bindings
 
 -- where a binding's set is given, or its mapping
 abbrev pub origin_of : Bool → Binding → Option Origin
@@ -186,11 +179,10 @@ origin_of false b = Some b.values
 origin_of true b = b.mapping
 
 -- the file of a binding's set, or of its mapping
-abbrev pub IsBindingToldIn : Search → Outline → ℕ → Bool → List ℕ → Type 0
-IsBindingToldIn s o n in_mapping path =
+abbrev pub IsBindingToldIn : List ℕ → Outline → ℕ → Bool → List ℕ → Type 0
+IsBindingToldIn directory o n in_mapping path =
     IsSomeAnd (slice_get o.systems.bindings n) (λ (b : Binding).
-    IsSomeAnd (origin_of in_mapping b) (λ origin. path ≡
-    part_told s.subject s.directory o b.owner origin))
+    IsSomeAnd (origin_of in_mapping b) (λ origin. path ≡ part_told directory o b.owner origin))
 
 -- ---- what it comes to
 
@@ -202,16 +194,16 @@ pub data Finding : Type 0 where
 -- the order of reading asks for these files, and comes to this
 pub data Comes (s : Search) (reads : List ReadNote) : List (List ℕ) → Finding → Type 0 where
   -- there is no outline
-  NoOutline : (flaw : Flaw) (asked : List (List ℕ)) (finding : Finding) → s.subject ≡ what.System →
-      LacksFile BreaksStructure reads (structure_path s.directory) flaw →
-      asked ≡ structure_path s.directory ∷ [] →
-      finding ≡ Fails (structure_path s.directory) flaw → Comes s reads asked finding
+  NoOutline : (path : List ℕ) (flaw : Flaw) (asked : List (List ℕ)) (finding : Finding) →
+      s.subject ≡ what.System →
+      LacksOutline IsStructure BreaksStructure s.directory reads asked path flaw →
+      finding ≡ Fails path flaw → Comes s reads asked finding
   -- the descriptions before that of a component are taken, and its own isn't
   NoShape : (o : Outline) (taken : List ComponentPart) (shapes : List Shape) (c : ComponentPart)
       (rest : List ComponentPart) (flaw : Flaw)
       (asked : List (List ℕ)) (finding : Finding) → ReachesShapes s reads o taken shapes (c ∷ rest) →
       LacksFile (BreaksModel s.per_second) reads (model_path s.directory c) flaw →
-      asked ≡ asked_for s (taken ++ c ∷ []) →
+      asked ≡ asked_for s o (taken ++ c ∷ []) →
       finding ≡ Fails (model_path s.directory c) flaw → Comes s reads asked finding
   -- all descriptions and the bindings before one are taken, and its own values or mapping aren't
   NoSet : (o : Outline) (shapes : List Shape) (taken : List Binding) (given : List GivenBinding)
@@ -227,17 +219,16 @@ pub data Comes (s : Search) (reads : List ReadNote) : List (List ℕ) → Findin
       (asked : List (List ℕ)) (finding : Finding) →
       ReachesBindings s reads o shapes o.systems.bindings given [] →
       parameters.BreaksBinding o shapes given n in_mapping rule place →
-      IsBindingToldIn s o n in_mapping path → asked ≡ asked_with s o o.systems.bindings →
+      IsBindingToldIn s.directory o n in_mapping path → asked ≡ asked_with s o o.systems.bindings →
       finding ≡ Fails path (Faulty rule place []) → Comes s reads asked finding
-  -- the bindings give values, and the structure and the descriptions break a rule together, told in the file of the outline
+  -- the bindings give values, and the documents and the descriptions break a rule together, told in the document of the element
   NoSystem : (o : Outline) (shapes : List Shape) (given : List GivenBinding) (bound : Bound)
-      (rule : Rule) (place : Place) (ports : List PortId) (path : List ℕ)
-      (asked : List (List ℕ)) (finding : Finding) →
+      (rule : Rule) (node : ℕ) (ports : List PortId) (asked : List (List ℕ)) (finding : Finding) →
       ReachesBindings s reads o shapes o.systems.bindings given [] →
-      parameters.Binds o shapes given bound → BreaksTogether o shapes rule place ports →
-      path ≡ outline_path s.subject s.directory →
+      parameters.Binds o shapes given bound → BreaksTogether o shapes rule node ports →
       asked ≡ asked_with s o o.systems.bindings →
-      finding ≡ Fails path (Faulty rule place ports) → Comes s reads asked finding
+      finding ≡ Fails (told_in s.directory o node) (Faulty rule (place_in o node) ports) →
+      Comes s reads asked finding
   -- they make a system
   Whole : (o : Outline) (shapes : List Shape) (given : List GivenBinding) (loaded : Loaded)
       (asked : List (List ℕ)) (finding : Finding) →

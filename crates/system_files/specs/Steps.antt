@@ -1,15 +1,18 @@
 -- What each step of a loading finds alone, and how it ends.
-use Rattle.std.specs.Prelude.{◌≡◌, ◌⊎◌, ℕ, ◌<◌, Bool, List, [], ◌∷◌, ◌++◌, map, Option, Some, None, IsSome, IsSomeAnd, Err, length, slice_get}
+use Rattle.std.specs.Prelude.{◌≡◌, ◌⊎◌, ℕ, ◌<◌, Bool, All, List, [], ◌∷◌, ◌++◌, map, Option, Some, None, IfSome, IsSome, IsSomeAnd, Err, slice_get}
 use Rattle.std.specs.List.{AllZip, flat_map}
 use Rattle.sim_base.specs.Asking.{Asks}
 use Rattle.sim_base.specs.Folder.{FolderView, with_read}
+use Rattle.sim_base.specs.Path.{joined_path}
 use Rattle.sim_base.specs.declared.folder.ReadFault.{ReadFault}
 use Rattle.sim_base.specs.declared.folder.ReadFault.TheVariants as r
 use Rattle.sim_base.specs.declared.numbers.PortId.{PortId}
 use Rattle.sim_base.specs.declared.read_book.ReadNote.{ReadNote}
 use Rattle.value_types.specs.declared.shape.Shape.{Shape}
 use Rattle.doc_tree.specs.declared.place.Place.{Place}
+use Rattle.doc_tree.specs.declared.rule.NestingRule.{NestingRule}
 use Rattle.doc_tree.specs.declared.rule.Rule.{Rule}
+use Rattle.doc_tree.specs.declared.rule.Rule.TheVariants.{Nesting}
 use Rattle.system_model.specs.declared.bound.Bound.{Bound}
 use Rattle.parameter_values.specs.Ranges.{AreInRange}
 use Rattle.ssd_tree.specs.declared.tree.Binding.{Binding}
@@ -17,19 +20,24 @@ use Rattle.ssd_tree.specs.declared.tree.ComponentPart.{ComponentPart}
 use Rattle.ssd_tree.specs.declared.tree.Origin.{Origin}
 use Rattle.ssd_tree.specs.declared.tree.Origin.TheVariants.{File, Inline}
 use Rattle.ssd_tree.specs.declared.tree.Owner.{Owner}
+use Rattle.ssd_tree.specs.declared.tree.Setting.{Setting}
+use Rattle.nested_documents.specs.declared.numbers.Place as elements
+use Rattle.nested_documents.specs.States.{Gathered}
 use Rattle.flatten.specs.Flat.{source_at}
 use Rattle.system_loading.specs.declared.fault.Fault.{Fault}
 use Rattle.system_loading.specs.declared.fault.Fault.TheVariants as f
 use Rattle.system_loading.specs.declared.binding.BindingFault.{BindingFault}
 use Rattle.system_loading.specs.declared.binding.BindingFault.TheVariants as binds
+use Rattle.system_loading.specs.declared.documents.SystemDocument.{SystemDocument}
 use Rattle.system_loading.specs.declared.outline.Outline.{Outline}
 use Rattle.system_loading.specs.declared.parameters.GivenBinding.{GivenBinding}
 use Rattle.system_loading.specs.declared.parameters.GivenMapping.{GivenMapping}
 use Rattle.system_loading.specs.declared.parameters.GivenSet.{GivenSet}
 use Rattle.system_loading.specs.Assembly.{BreaksTogetherAlone, MakesAlone}
 use Rattle.system_loading.specs.Binding.{BindsAlone, BreaksBindingAlone}
-use Rattle.system_loading.specs.Outlines.{lone_outline}
-use Rattle.system_loading.specs.Readings.{BreaksAlone, BreaksMapping, BreaksMappingWithin, BreaksModel, BreaksStructure, BreaksValues, BreaksValuesWithin, IsMapping, IsMappingWithin, IsModel, IsStructure, IsValues, IsValuesWithin, SaysAlone}
+use Rattle.system_loading.specs.Documents.{BreaksStructure, IsStructure, Said}
+use Rattle.system_loading.specs.Outlines.{element_in, lone_outline, place_at, place_in}
+use Rattle.system_loading.specs.Readings.{BreaksAlone, BreaksMapping, BreaksMappingWithin, BreaksModel, BreaksValues, BreaksValuesWithin, IsMapping, IsMappingWithin, IsModel, IsValues, IsValuesWithin, SaysAlone}
 use Rattle.system_files.specs.declared.loaded.Loaded.{Loaded}
 use Rattle.system_files.specs.declared.loading.LoadEnd.{LoadEnd}
 use Rattle.system_files.specs.declared.loading.LoadEnd.TheVariants as end
@@ -38,8 +46,9 @@ use Rattle.system_files.specs.declared.named.FileFault.{FileFault}
 use Rattle.system_files.specs.declared.named.FileFault.TheVariants.{Unread, Missing, TooBig, Broken}
 use Rattle.system_files.specs.declared.subject.Subject.{Subject}
 use Rattle.system_files.specs.declared.subject.Subject.TheVariants as what
-use Rattle.system_files.specs.Files.{Absent, Faulty, HasFile, LacksFile, Flaw, Long, first_uses, structure_path}
-use Rattle.system_files.specs.Order.{IsBindingToldIn, IsPart, Search, binding_files, files_before, folders_of, model_path, origin_of, outline_path, part_files, part_path}
+use Rattle.system_files.specs.Documents.{Adds, ComesDocument, Gathers, GathersAll, HasNestingFlaw, document_files, told_at, told_in}
+use Rattle.system_files.specs.Files.{Absent, Faulty, HasFile, LacksFile, Flaw, Long, first_uses}
+use Rattle.system_files.specs.Order.{IsBindingToldIn, IsPart, binding_files, folders_of, model_path, origin_of, part_files, part_path}
 
 -- ---- a file alone
 
@@ -52,12 +61,13 @@ abbrev pub FailsModel : ℕ → List ℕ → Rule → Place → Type 0
 FailsModel per_second bytes rule place =
     BreaksAlone (IsModel per_second bytes) (BreaksModel per_second bytes) rule place
 
--- the same of a structure
-abbrev pub SaysStructure : List ℕ → Outline → Type 0
-SaysStructure bytes outline = SaysAlone (IsStructure bytes) (BreaksStructure bytes) outline
+-- the same of a document of a system, in a setting
+abbrev pub SaysStructure : Setting → List ℕ → Said → Type 0
+SaysStructure s bytes said = SaysAlone (IsStructure s bytes) (BreaksStructure s bytes) said
 
-abbrev pub FailsStructure : List ℕ → Rule → Place → Type 0
-FailsStructure bytes rule place = BreaksAlone (IsStructure bytes) (BreaksStructure bytes) rule place
+abbrev pub FailsStructure : Setting → List ℕ → Rule → Place → Type 0
+FailsStructure s bytes rule place =
+    BreaksAlone (IsStructure s bytes) (BreaksStructure s bytes) rule place
 
 -- the same of a set of parameter values
 abbrev pub SaysValues : List ℕ → GivenSet → Type 0
@@ -144,21 +154,59 @@ fault_end file f.Memory = end.Memory
 -- the outline of a subject, found alone
 abbrev pub OutlinesAlone : Subject → List ℕ → List ReadNote → Outline → Type 0
 OutlinesAlone what.Fmu directory reads o = o ≡ lone_outline
-OutlinesAlone what.System directory reads o =
-    HasFile SaysStructure reads (structure_path directory) o
+OutlinesAlone what.System directory reads o = GathersAll SaysStructure directory reads o
 
--- it was taken, and its file was read where it has one
+-- it was taken, and its documents were read
 pub record TakesOutline (subject : Subject) (directory : List ℕ) (o : Outline)
     (old new : FolderView) : Type 0 where
   pub reads : List ReadNote
   pub is : OutlinesAlone subject directory reads o
-  pub asks : Asks reads (files_before subject directory) old new
+  pub asks : Asks reads (document_files directory o.documents) old new
 
--- the end before there is an outline
+-- these documents were read, and come to this
+pub record GathersFrom (directory : List ℕ) (documents : List SystemDocument) (g : Gathered)
+    (old new : FolderView) : Type 0 where
+  pub reads : List ReadNote
+  pub gathers : Gathers SaysStructure directory reads documents g
+  pub asks : Asks reads (document_files directory documents) old new
+
+-- the document that comes next was read and added
+pub record AddsDocument (directory path : List ℕ) (s : Setting) (before : List SystemDocument)
+    (old_nest : Gathered) (documents : List SystemDocument) (new_nest : Gathered)
+    (old new : FolderView) : Type 0 where
+  pub said : Said
+  pub takes : TakesFile (SaysStructure s) (joined_path directory path) said old new
+  pub adds : Adds said path before old_nest documents new_nest
+
+-- these documents were read, and then comes the one at this path
+pub record ReachesDocument (directory : List ℕ) (documents : List SystemDocument) (path : List ℕ)
+    (s : Setting) (old new : FolderView) : Type 0 where
+  pub reads : List ReadNote
+  pub comes : ComesDocument SaysStructure directory reads documents path s
+  pub asks : Asks reads (document_files directory documents) old new
+
+-- the end tells the rule at an element of a document, unless memory is wanting
+abbrev pub TellsNesting : List ℕ → List SystemDocument → elements.Place → NestingRule → LoadEnd →
+    Type 0
+TellsNesting directory documents place rule (end.File file fault) =
+    (file.path ≡ told_at directory documents place) ×
+    (fault ≡ Broken (Nesting rule) (place_at documents place) [])
+TellsNesting directory documents place rule end.Memory = Unit {0}
+
+-- the end before there is an outline: at a document, where documents stand in one another as they may not, or without memory
 pub data EndsOutline (subject : Subject) (directory : List ℕ) (ended : LoadEnd)
     (old new : FolderView) : Type 0 where
-  AtStructure : subject ≡ what.System →
-      EndsAt FailsStructure (structure_path directory) ended old new →
+  EndsAtDocument : (documents : List SystemDocument) (path : List ℕ) (s : Setting)
+      (mid : FolderView) → subject ≡ what.System →
+      ReachesDocument directory documents path s old mid →
+      EndsAt (FailsStructure s) (joined_path directory path) ended mid new →
+      EndsOutline subject directory ended old new
+  EndsAtNesting : (documents : List SystemDocument) (g : Gathered) (place : elements.Place)
+      (rule : NestingRule) → subject ≡ what.System → GathersFrom directory documents g old new →
+      HasNestingFlaw g place rule → TellsNesting directory documents place rule ended →
+      EndsOutline subject directory ended old new
+  EndsBetween : (documents : List SystemDocument) (g : Gathered) → subject ≡ what.System →
+      GathersFrom directory documents g old new → ended ≡ end.Memory →
       EndsOutline subject directory ended old new
   NoOutlineRoom : ended ≡ end.Memory → new ≡ old → EndsOutline subject directory ended old new
 
@@ -219,9 +267,17 @@ pub data EndsShapes (per_second : ℕ) (directory : List ℕ) (components : List
 
 -- ---- the bindings
 
--- an outline that has bindings has a document
+-- what stands within an element stands in a document
+abbrev pub HasOriginDocument : Outline → Origin → Type 0
+HasOriginDocument o (File base path) = Unit {0}
+HasOriginDocument o (Inline node) = IsSome (element_in o node)
+
+abbrev pub HasBindingDocument : Outline → Binding → Type 0
+HasBindingDocument o b =
+    HasOriginDocument o b.values × IfSome b.mapping (HasOriginDocument o)
+
 abbrev pub HasDocument : Outline → Type 0
-HasDocument o = (n : ℕ) → n < length o.systems.bindings → IsSome o.document
+HasDocument o = All (HasBindingDocument o) o.systems.bindings
 
 -- the end at an element of the outline, which is told in the file at a path
 abbrev pub EndsWithin : (Rule → Place → Type 0) → List ℕ → LoadEnd → Type 0
@@ -239,11 +295,11 @@ TellsWithin fault path end.Memory = Unit {0}
 
 -- the end at a part of a binding
 abbrev pub EndsPart : (List ℕ → Rule → Place → Type 0) → (Outline → ℕ → Rule → Place → Type 0) →
-    Subject → List ℕ → Outline → Owner → Origin → LoadEnd → FolderView → FolderView → Type 0
-EndsPart Breaks Within subject directory o owner (File base path) ended old new =
+    List ℕ → Outline → Owner → Origin → LoadEnd → FolderView → FolderView → Type 0
+EndsPart Breaks Within directory o owner (File base path) ended old new =
     EndsAt Breaks (part_path directory o owner base path) ended old new
-EndsPart Breaks Within subject directory o owner (Inline node) ended old new =
-    (new ≡ old) × EndsWithin (Within o node) (outline_path subject directory) ended
+EndsPart Breaks Within directory o owner (Inline node) ended old new =
+    (new ≡ old) × EndsWithin (Within o node) (told_in directory o node) ended
 
 -- the values of a binding, found alone
 abbrev pub IsValuesAlone : List ℕ → List ReadNote → Outline → Owner → Origin → GivenSet → Type 0
@@ -287,14 +343,14 @@ pub record TakesBinding (directory : List ℕ) (o : Outline) (b : Binding) (give
   pub asks : Asks reads (binding_files directory o b) old new
 
 -- the end at a binding: at its values, or at its mapping where the values were taken
-pub data EndsBinding (subject : Subject) (directory : List ℕ) (o : Outline) (b : Binding)
+pub data EndsBinding (directory : List ℕ) (o : Outline) (b : Binding)
     (ended : LoadEnd) (old new : FolderView) : Type 0 where
-  AtValues : EndsPart FailsValues FailsValuesWithin subject directory o b.owner b.values ended old
-      new → EndsBinding subject directory o b ended old new
+  AtValues : EndsPart FailsValues FailsValuesWithin directory o b.owner b.values ended old
+      new → EndsBinding directory o b ended old new
   AtMapping : (given : GivenSet) (origin : Origin) (mid : FolderView) →
       TakesValues directory o b given old mid → b.mapping ≡ Some origin →
-      EndsPart FailsMapping FailsMappingWithin subject directory o b.owner origin ended mid new →
-      EndsBinding subject directory o b ended old new
+      EndsPart FailsMapping FailsMappingWithin directory o b.owner origin ended mid new →
+      EndsBinding directory o b ended old new
 
 -- each binding gives what it gives, and their files were read
 pub record TakesBindings (directory : List ℕ) (o : Outline) (bindings : List Binding)
@@ -304,14 +360,14 @@ pub record TakesBindings (directory : List ℕ) (o : Outline) (bindings : List B
   pub asks : Asks reads (flat_map (binding_files directory o) bindings) old new
 
 -- the end before each binding is taken: at one of them, or without memory
-pub data EndsBindings (subject : Subject) (directory : List ℕ) (o : Outline) (ended : LoadEnd)
+pub data EndsBindings (directory : List ℕ) (o : Outline) (ended : LoadEnd)
     (old new : FolderView) : Type 0 where
   AtBinding : (taken : List Binding) (given : List GivenBinding) (b : Binding) (rest : List Binding)
       (mid : FolderView) → o.systems.bindings ≡ taken ++ b ∷ rest →
       TakesBindings directory o taken given old mid →
-      EndsBinding subject directory o b ended mid new →
-      EndsBindings subject directory o ended old new
-  NoBindingRoom : ended ≡ end.Memory → new ≡ old → EndsBindings subject directory o ended old new
+      EndsBinding directory o b ended mid new →
+      EndsBindings directory o ended old new
+  NoBindingRoom : ended ≡ end.Memory → new ≡ old → EndsBindings directory o ended old new
 
 -- ---- the system
 
@@ -328,25 +384,25 @@ HasBindingPart o (binds.Broken binding in_mapping rule place) =
 HasBindingPart o binds.Memory = Unit {0}
 
 -- the end at a rule that what bindings give breaks, or that an outline and shapes break together, or without memory
-pub data EndsTogether (s : Search) (o : Outline) (shapes : List Shape) (given : List GivenBinding)
-    (ended : LoadEnd) : Type 0 where
+pub data EndsTogether (directory : List ℕ) (o : Outline) (shapes : List Shape)
+    (given : List GivenBinding) (ended : LoadEnd) : Type 0 where
   AtParameter : (n : ℕ) (in_mapping : Bool) (rule : Rule) (place : Place) (ports : List PortId)
       (file : NamedFile) → BreaksBindingAlone o shapes given n in_mapping rule place →
-      IsBindingToldIn s o n in_mapping file.path → ports ≡ [] →
-      ended ≡ end.File file (Broken rule place ports) → EndsTogether s o shapes given ended
-  AtRule : (bound : Bound) (rule : Rule) (place : Place) (ports : List PortId)
+      IsBindingToldIn directory o n in_mapping file.path → ports ≡ [] →
+      ended ≡ end.File file (Broken rule place ports) → EndsTogether directory o shapes given ended
+  AtRule : (bound : Bound) (rule : Rule) (node : ℕ) (ports : List PortId)
       (file : NamedFile) → BindsAlone o shapes given bound →
-      BreaksTogetherAlone o shapes rule place ports →
-      file.path ≡ outline_path s.subject s.directory →
-      ended ≡ end.File file (Broken rule place ports) → EndsTogether s o shapes given ended
-  NoSystemRoom : ended ≡ end.Memory → EndsTogether s o shapes given ended
+      BreaksTogetherAlone o shapes rule node ports → file.path ≡ told_in directory o node →
+      ended ≡ end.File file (Broken rule (place_in o node) ports) →
+      EndsTogether directory o shapes given ended
+  NoSystemRoom : ended ≡ end.Memory → EndsTogether directory o shapes given ended
 
 -- the shapes and what the bindings give were taken
-pub record TakesParts (s : Search) (o : Outline) (shapes : List Shape) (given : List GivenBinding)
-    (old new : FolderView) : Type 0 where
+pub record TakesParts (per_second : ℕ) (directory : List ℕ) (o : Outline) (shapes : List Shape)
+    (given : List GivenBinding) (old new : FolderView) : Type 0 where
   pub mid : FolderView
-  pub takes : TakesShapes s.per_second s.directory o.systems.components shapes old mid
-  pub gives : TakesBindings s.directory o o.systems.bindings given mid new
+  pub takes : TakesShapes per_second directory o.systems.components shapes old mid
+  pub gives : TakesBindings directory o o.systems.bindings given mid new
 
 -- with these shapes the outline makes this system, and what the bindings give these values
 pub record IsLoaded (directory : List ℕ) (o : Outline) (shapes : List Shape)
@@ -356,21 +412,21 @@ pub record IsLoaded (directory : List ℕ) (o : Outline) (shapes : List Shape)
   pub folders : loaded.folders ≡ folders_of directory o
 
 -- they were taken, and make this system
-pub record TakesModels (s : Search) (o : Outline) (loaded : Loaded)
+pub record TakesModels (per_second : ℕ) (directory : List ℕ) (o : Outline) (loaded : Loaded)
     (old new : FolderView) : Type 0 where
   pub shapes : List Shape
   pub given : List GivenBinding
-  pub takes : TakesParts s o shapes given old new
-  pub is : IsLoaded s.directory o shapes given loaded
+  pub takes : TakesParts per_second directory o shapes given old new
+  pub is : IsLoaded directory o shapes given loaded
 
 -- the end after there is an outline
-pub data EndsModels (s : Search) (o : Outline) (ended : LoadEnd)
+pub data EndsModels (per_second : ℕ) (directory : List ℕ) (o : Outline) (ended : LoadEnd)
     (old new : FolderView) : Type 0 where
-  OfShapes : EndsShapes s.per_second s.directory o.systems.components ended old new →
-      EndsModels s o ended old new
+  OfShapes : EndsShapes per_second directory o.systems.components ended old new →
+      EndsModels per_second directory o ended old new
   OfBindings : (shapes : List Shape) (mid : FolderView) →
-      TakesShapes s.per_second s.directory o.systems.components shapes old mid →
-      EndsBindings s.subject s.directory o ended mid new → EndsModels s o ended old new
+      TakesShapes per_second directory o.systems.components shapes old mid →
+      EndsBindings directory o ended mid new → EndsModels per_second directory o ended old new
   OfSystem : (shapes : List Shape) (given : List GivenBinding) →
-      TakesParts s o shapes given old new → EndsTogether s o shapes given ended →
-      EndsModels s o ended old new
+      TakesParts per_second directory o shapes given old new →
+      EndsTogether directory o shapes given ended → EndsModels per_second directory o ended old new

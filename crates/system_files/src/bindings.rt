@@ -1,15 +1,15 @@
 //! What bindings of parameters give, whose files are read in document order.
-ghost use Rattle.std.specs.Prelude.{◌≡◌, IfErr, IfOk, IsSome};
+ghost use Rattle.std.specs.Prelude.{◌≡◌, IfErr, IfOk};
 ghost use Rattle.parameter_values.specs.Ranges.{AreInRange};
-ghost use Rattle.system_files.specs.Order.{outline_path, part_path, part_told};
-ghost use Rattle.system_files.specs.Steps.{EndsBinding, EndsBindings, EndsPart, EndsWithin, FailsMapping, FailsMappingWithin, FailsValues, FailsValuesWithin, HasDocument, SaysMapping, SaysMappingWithin, SaysValues, SaysValuesWithin, TakesBinding, TakesBindings, TakesPart, TellsWithin};
+ghost use Rattle.system_files.specs.Documents.{told_in};
+ghost use Rattle.system_files.specs.Order.{part_path, part_told};
+ghost use Rattle.system_files.specs.Steps.{EndsBinding, EndsBindings, EndsPart, FailsMapping, FailsMappingWithin, FailsValues, FailsValuesWithin, HasBindingDocument, HasDocument, HasOriginDocument, SaysMapping, SaysMappingWithin, SaysValues, SaysValuesWithin, TakesBinding, TakesBindings, TakesPart, TellsWithin};
 
 use crate::loading::LoadEnd;
 use crate::named::NamedFile;
-use crate::paths::part_path;
-use crate::reading::{name_description, name_structure, read_names, read_set, refuse};
+use crate::paths::{part_path, told_in};
+use crate::reading::{read_names, read_set, refuse};
 use crate::room::NoMemory;
-use crate::subject::Subject;
 use sim_base::Folder;
 use ssd_tree::{Binding, Origin, Owner, SourceBase};
 use std::alloc::Global;
@@ -20,7 +20,6 @@ use system_loading::{
 /// What each binding of an outline gives, in document order: its values, and then its mapping.
 pub(crate) fn load_bindings<F: Folder>(
     alloc: Global,
-    subject: Subject,
     directory: &str,
     outline: &Outline,
     folder: &mut F,
@@ -28,7 +27,7 @@ pub(crate) fn load_bindings<F: Folder>(
     requires { HasDocument outline.now }
     ensures ok { IfOk result (λ given. TakesBindings directory.now outline.now
         outline.now.systems.bindings given.items (F.view folder.old) (F.view folder.new)) }
-    ensures err { IfErr result (λ end. EndsBindings subject directory.now outline.now end
+    ensures err { IfErr result (λ end. EndsBindings directory.now outline.now end
         (F.view folder.old) (F.view folder.new)) }
 {
     let bindings = outline.systems.bindings.as_slice();
@@ -38,7 +37,7 @@ pub(crate) fn load_bindings<F: Folder>(
     let mut given = room;
     for place in 0..bindings.len() {
         let binding = &bindings[place];
-        match load_binding(alloc, subject, directory, outline, binding, folder) {
+        match load_binding(alloc, directory, outline, binding, folder) {
             Ok(one) => given.push_reserved(one),
             Err(end) => return Err(end),
         }
@@ -49,21 +48,19 @@ pub(crate) fn load_bindings<F: Folder>(
 // What a binding gives: its values, and then its mapping.
 fn load_binding<F: Folder>(
     alloc: Global,
-    subject: Subject,
     directory: &str,
     outline: &Outline,
     binding: &Binding,
     folder: &mut F,
 ) -> Result<GivenBinding, LoadEnd>
-    requires { IsSome outline.now.document }
+    requires { HasBindingDocument outline.now binding.now }
     ensures ok { IfOk result (λ given. TakesBinding directory.now outline.now binding.now given
         (F.view folder.old) (F.view folder.new)) }
-    ensures err { IfErr result (λ end. EndsBinding subject directory.now outline.now binding.now end
+    ensures err { IfErr result (λ end. EndsBinding directory.now outline.now binding.now end
         (F.view folder.old) (F.view folder.new)) }
 {
     match load_values(
         alloc,
-        subject,
         directory,
         outline,
         binding.owner,
@@ -73,7 +70,6 @@ fn load_binding<F: Folder>(
         Ok(values) => match &binding.mapping {
             Some(origin) => match load_mapping(
                 alloc,
-                subject,
                 directory,
                 outline,
                 binding.owner,
@@ -98,18 +94,17 @@ fn load_binding<F: Folder>(
 // The values of a binding, from their file or from the outline.
 fn load_values<F: Folder>(
     alloc: Global,
-    subject: Subject,
     directory: &str,
     outline: &Outline,
     owner: Owner,
     origin: &Origin,
     folder: &mut F,
 ) -> Result<GivenSet, LoadEnd>
-    requires { IsSome outline.now.document }
+    requires { HasOriginDocument outline.now origin.now }
     ensures ok { IfOk result (λ given. TakesPart SaysValues SaysValuesWithin directory.now
         outline.now owner origin.now given (F.view folder.old) (F.view folder.new)) }
     ensures range { IfOk result (λ given. AreInRange given.set) }
-    ensures err { IfErr result (λ end. EndsPart FailsValues FailsValuesWithin subject directory.now
+    ensures err { IfErr result (λ end. EndsPart FailsValues FailsValuesWithin directory.now
         outline.now owner origin.now end (F.view folder.old) (F.view folder.new)) }
 {
     match origin {
@@ -126,7 +121,7 @@ fn load_values<F: Folder>(
         },
         Origin::Inline { node } => match values_within(alloc, outline, *node) {
             Ok(given) => Ok(given),
-            Err(fault) => Err(refuse_within(alloc, subject, directory, fault)),
+            Err(fault) => Err(refuse_within(alloc, directory, outline, *node, fault)),
         },
     }
 }
@@ -134,17 +129,16 @@ fn load_values<F: Folder>(
 // The mapping of a binding, from its file or from the outline.
 fn load_mapping<F: Folder>(
     alloc: Global,
-    subject: Subject,
     directory: &str,
     outline: &Outline,
     owner: Owner,
     origin: &Origin,
     folder: &mut F,
 ) -> Result<GivenMapping, LoadEnd>
-    requires { IsSome outline.now.document }
+    requires { HasOriginDocument outline.now origin.now }
     ensures ok { IfOk result (λ given. TakesPart SaysMapping SaysMappingWithin directory.now
         outline.now owner origin.now given (F.view folder.old) (F.view folder.new)) }
-    ensures err { IfErr result (λ end. EndsPart FailsMapping FailsMappingWithin subject
+    ensures err { IfErr result (λ end. EndsPart FailsMapping FailsMappingWithin
         directory.now outline.now owner origin.now end (F.view folder.old) (F.view folder.new)) }
 {
     match origin {
@@ -161,7 +155,7 @@ fn load_mapping<F: Folder>(
         },
         Origin::Inline { node } => match mapping_within(alloc, outline, *node) {
             Ok(given) => Ok(given),
-            Err(fault) => Err(refuse_within(alloc, subject, directory, fault)),
+            Err(fault) => Err(refuse_within(alloc, directory, outline, *node, fault)),
         },
     }
 }
@@ -184,30 +178,27 @@ fn name_part(
     )
 }
 
-/// The file that tells the outline.
-pub(crate) fn name_outline(
+/// The file in which an element of the tree is told.
+pub(crate) fn name_told(
     alloc: Global,
-    subject: Subject,
     directory: &str,
+    outline: &Outline,
+    number: usize,
 ) -> Result<NamedFile, NoMemory>
-    ensures { IfOk result (λ file. file.path ≡ outline_path subject directory.now) }
+    ensures { IfOk result (λ file. file.path ≡ told_in directory.now outline.now number) }
 {
-    match subject {
-        Subject::Fmu => name_description(alloc, directory),
-        Subject::System => name_structure(alloc, directory),
-    }
+    NamedFile::new(alloc, told_in(alloc, directory, outline, number)?)
 }
 
 /// The file in which a part of a binding is told.
 pub(crate) fn name_part_told(
     alloc: Global,
-    subject: Subject,
     directory: &str,
     outline: &Outline,
     owner: Owner,
     origin: &Origin,
 ) -> Result<NamedFile, NoMemory>
-    ensures { IfOk result (λ file. file.path ≡ part_told subject directory.now outline.now owner
+    ensures { IfOk result (λ file. file.path ≡ part_told directory.now outline.now owner
         origin.now) }
 {
     match origin {
@@ -219,15 +210,21 @@ pub(crate) fn name_part_told(
             *base,
             path.as_str(),
         ),
-        Origin::Inline { .. } => name_outline(alloc, subject, directory),
+        Origin::Inline { node } => name_told(alloc, directory, outline, *node),
     }
 }
 
-// The end at an element of the outline that breaks a rule by itself.
-fn refuse_within(alloc: Global, subject: Subject, directory: &str, fault: Fault) -> LoadEnd
-    ensures { TellsWithin fault (outline_path subject directory.now) result }
+// The end at what stands within an element and breaks a rule by itself.
+fn refuse_within(
+    alloc: Global,
+    directory: &str,
+    outline: &Outline,
+    number: usize,
+    fault: Fault,
+) -> LoadEnd
+    ensures { TellsWithin fault (told_in directory.now outline.now number) result }
 {
-    match name_outline(alloc, subject, directory) {
+    match name_told(alloc, directory, outline, number) {
         Ok(file) => refuse(alloc, file, fault),
         Err(_) => LoadEnd::Memory,
     }

@@ -2,6 +2,7 @@
 #![tactic(auto)]
 
 mod bindings;
+mod documents;
 mod loaded;
 mod loading;
 mod named;

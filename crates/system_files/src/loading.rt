@@ -13,13 +13,14 @@ ghost use Rattle.system_files.specs.Order.{Found, search_of};
 ghost use Rattle.system_files.specs.Steps.{EndsModels, EndsOutline, EndsTogether, HasDocument, HasParts, IsLoaded, TakesModels, TakesOutline};
 
 use crate::bindings::load_bindings;
+use crate::documents::read_outline;
 use crate::loaded::Loaded;
 use crate::named::{FileFault, NamedFile};
 use crate::paths::folders_of;
-use crate::reading::{name_structure, read_structure};
 use crate::shapes::load_shapes;
 use crate::subject::Subject;
 use crate::together::{refuse_binding, refuse_together};
+use nesting_laws::nest_laws;
 use sim_base::Folder;
 use std::alloc::Global;
 use system_loading::{
@@ -61,8 +62,9 @@ pub fn load<F: Folder>(
         (F.view folder.old) (F.view folder.new)) }
 {
     loading_laws();
+    nest_laws();
     match load_outline(alloc, subject, directory, folder) {
-        Ok(outline) => load_models(alloc, subject, directory, resolution, &outline, folder),
+        Ok(outline) => load_models(alloc, directory, resolution, &outline, folder),
         Err(end) => Err(end),
     }
 }
@@ -84,17 +86,13 @@ fn load_outline<F: Folder>(
             Ok(outline) => Ok(outline),
             Err(_) => Err(LoadEnd::Memory),
         },
-        Subject::System => match name_structure(alloc, directory) {
-            Ok(file) => read_structure(alloc, file, folder),
-            Err(_) => Err(LoadEnd::Memory),
-        },
+        Subject::System => read_outline(alloc, directory, folder),
     }
 }
 
 // Reads the descriptions of the FMUs and the parameters of the bindings, and puts the system together.
 fn load_models<F: Folder>(
     alloc: Global,
-    subject: Subject,
     directory: &str,
     resolution: u64,
     outline: &Outline,
@@ -108,22 +106,22 @@ fn load_models<F: Folder>(
     requires short { All (λ (c : ComponentPart). length c.name ≤ 2 ^ 24)
         outline.now.systems.components }
     requires plain { All (λ (c : ComponentPart). IsPlain c.source) outline.now.systems.components }
-    ensures ok { IfOk result (λ loaded. TakesModels (search_of subject directory.now resolution)
-        outline.now loaded (F.view folder.old) (F.view folder.new)) }
+    ensures ok { IfOk result (λ loaded. TakesModels resolution directory.now outline.now loaded
+        (F.view folder.old) (F.view folder.new)) }
     ensures sound { IfOk result (λ loaded. IsSound loaded.system) }
     ensures named { IfOk result (λ loaded. All IsNamed loaded.system.components) }
     ensures counts { IfOk result
         (λ loaded. All (λ (c : Component). c.shape.resolution ≡ resolution)
         loaded.system.components) }
     ensures bound { IfOk result (λ loaded. BindsParameters loaded.system loaded.bound) }
-    ensures err { IfErr result (λ end. EndsModels (search_of subject directory.now resolution)
-        outline.now end (F.view folder.old) (F.view folder.new)) }
+    ensures err { IfErr result (λ end. EndsModels resolution directory.now outline.now end
+        (F.view folder.old) (F.view folder.new)) }
 {
     loading_laws();
     let components = outline.systems.components.as_slice();
     match load_shapes(alloc, directory, components, resolution, folder) {
-        Ok(shapes) => match load_bindings(alloc, subject, directory, outline, folder) {
-            Ok(given) => put_together(alloc, subject, directory, outline, &shapes, given),
+        Ok(shapes) => match load_bindings(alloc, directory, outline, folder) {
+            Ok(given) => put_together(alloc, directory, outline, &shapes, given),
             Err(end) => Err(end),
         },
         Err(end) => Err(end),
@@ -133,7 +131,6 @@ fn load_models<F: Folder>(
 // The system of an outline with these shapes, and the values that its bindings give.
 fn put_together(
     alloc: Global,
-    subject: Subject,
     directory: &str,
     outline: &Outline,
     shapes: &[Shape],
@@ -146,9 +143,7 @@ fn put_together(
     ensures ok { IfOk result (IsLoaded directory.now outline.now shapes.now given.items) }
     ensures sound { IfOk result (λ loaded. IsSound loaded.system) }
     ensures bound { IfOk result (λ loaded. BindsParameters loaded.system loaded.bound) }
-    ensures err { IfErr result (λ end. (per_second : ℕ) →
-        EndsTogether (search_of subject directory.now per_second) outline.now shapes.now given.items
-        end) }
+    ensures err { IfErr result (EndsTogether directory.now outline.now shapes.now given.items) }
 {
     match bind_parameters(alloc, outline, shapes, given) {
         Ok(bound) => match assemble(alloc, outline, shapes) {
@@ -160,8 +155,8 @@ fn put_together(
                 }),
                 Err(_) => Err(LoadEnd::Memory),
             },
-            Err(fault) => Err(refuse_together(alloc, subject, directory, fault)),
+            Err(fault) => Err(refuse_together(alloc, directory, outline, fault)),
         },
-        Err(fault) => Err(refuse_binding(alloc, subject, directory, outline, fault)),
+        Err(fault) => Err(refuse_binding(alloc, directory, outline, fault)),
     }
 }

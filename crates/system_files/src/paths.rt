@@ -1,13 +1,15 @@
 //! Where the files stand.
 ghost use Rattle.std.specs.Prelude.{◌≡◌, IfOk};
 ghost use Rattle.sim_base.specs.Path.{joined_path};
-ghost use Rattle.system_files.specs.Files.{description_path, structure_path};
+ghost use Rattle.system_files.specs.Documents.{told_at, told_in};
+ghost use Rattle.system_files.specs.Files.{description_path};
 ghost use Rattle.system_files.specs.Order.{base_folder, folder_of, folders_of, part_path};
 
+use nested_documents::Place;
 use sim_base::{Items, Text, join_path};
 use ssd_tree::{ComponentPart, Owner, SourceBase};
 use std::alloc::{AllocError, Global};
-use system_loading::Outline;
+use system_loading::{Outline, SystemDocument, document_at};
 
 /// The folder of each component's FMU.
 pub(crate) fn folders_of(
@@ -99,11 +101,41 @@ pub(crate) fn description_path(alloc: Global, folder: &str) -> Result<Text, Allo
     join(alloc, folder, "modelDescription.xml")
 }
 
-/// Where the description of a system stands in its directory.
-pub(crate) fn structure_path(alloc: Global, directory: &str) -> Result<Text, AllocError>
-    ensures { IfOk result (λ path. path ≡ structure_path directory.now) }
+/// Where a document of a system stands, by its path below the directory.
+pub(crate) fn document_path(alloc: Global, directory: &str, path: &str) -> Result<Text, AllocError>
+    ensures { IfOk result (λ joined. joined ≡ joined_path directory.now path.now) }
 {
-    join(alloc, directory, "SystemStructure.ssd")
+    join(alloc, directory, path)
+}
+
+/// The path of the file in which an element is told: of its document, or of the description of the FMU that is alone.
+pub(crate) fn told_at(
+    alloc: Global,
+    directory: &str,
+    documents: &[SystemDocument],
+    place: Place,
+) -> Result<Text, AllocError>
+    ensures { IfOk result (λ path. path ≡ told_at directory.now documents.now place) }
+{
+    match document_at(documents, place) {
+        Some(document) => join(alloc, directory, document.path.as_str()),
+        None => description_path(alloc, directory),
+    }
+}
+
+/// The path of the file in which an element of the tree is told.
+pub(crate) fn told_in(
+    alloc: Global,
+    directory: &str,
+    outline: &Outline,
+    number: usize,
+) -> Result<Text, AllocError>
+    ensures { IfOk result (λ path. path ≡ told_in directory.now outline.now number) }
+{
+    match outline.numbers.place(number) {
+        Some(place) => told_at(alloc, directory, outline.documents.as_slice(), place),
+        None => description_path(alloc, directory),
+    }
 }
 
 // A path below a folder.

@@ -1,17 +1,20 @@
 //! One file, read and understood.
 ghost use Rattle.std.specs.Prelude.{◌≡◌, IfErr, IfOk};
 ghost use Rattle.parameter_values.specs.Ranges.{AreInRange};
-ghost use Rattle.system_files.specs.Files.{description_path, structure_path};
+ghost use Rattle.system_loading.specs.Documents.{said_of};
+ghost use Rattle.system_files.specs.Files.{description_path};
 ghost use Rattle.system_files.specs.Steps.{EndsAt, EndsUnread, FailsMapping, FailsModel, FailsStructure, FailsValues, SaysMapping, SaysModel, SaysStructure, SaysValues, TakesFile, fault_end, unread_end};
 
 use crate::loading::LoadEnd;
 use crate::named::{FileFault, NamedFile};
-use crate::paths::{description_path, structure_path};
+use crate::paths::description_path;
 use crate::room::NoMemory;
 use sim_base::{Folder, Items, MOST_FILE_BYTES, ReadFault, Text};
+use ssd_tree::Setting;
 use std::alloc::Global;
 use system_loading::{
-    Fault, GivenMapping, GivenSet, Outline, read_mapping, read_outline, read_shape, read_values,
+    Fault, GivenMapping, GivenSet, ReadDocument, read_mapping, read_shape, read_system_document,
+    read_values,
 };
 use value_types::Shape;
 
@@ -38,20 +41,21 @@ fn name_file(alloc: Global, path: &str) -> Result<NamedFile, NoMemory>
     NamedFile::new(alloc, Text::from_str(alloc, path)?)
 }
 
-/// Reads the structure of a system.
+/// Reads a document of a system, by what counts for it of the documents before.
 pub(crate) fn read_structure<F: Folder>(
     alloc: Global,
     file: NamedFile,
+    setting: Setting,
     folder: &mut F,
-) -> Result<Outline, LoadEnd>
-    ensures ok { IfOk result (λ outline. TakesFile SaysStructure file.path outline
+) -> Result<ReadDocument, LoadEnd>
+    ensures ok { IfOk result (λ read. TakesFile (SaysStructure setting) file.path (said_of read)
         (F.view folder.old) (F.view folder.new)) }
-    ensures err { IfErr result (λ end. EndsAt FailsStructure file.path end (F.view folder.old)
-        (F.view folder.new)) }
+    ensures err { IfErr result (λ end. EndsAt (FailsStructure setting) file.path end
+        (F.view folder.old) (F.view folder.new)) }
 {
     match folder.read(alloc, file.path.as_str(), MOST_FILE_BYTES) {
-        Ok(bytes) => match read_outline(alloc, &bytes) {
-            Ok(outline) => Ok(outline),
+        Ok(bytes) => match read_system_document(alloc, &bytes, setting) {
+            Ok(read) => Ok(read),
             Err(fault) => Err(refuse(alloc, file, fault)),
         },
         Err(fault) => Err(leave_unread(file, fault)),
@@ -125,13 +129,6 @@ pub(crate) fn name_description(alloc: Global, folder: &str) -> Result<NamedFile,
     ensures { IfOk result (λ file. file.path ≡ description_path folder.now) }
 {
     NamedFile::new(alloc, description_path(alloc, folder)?)
-}
-
-/// The structure of a system, before it is read.
-pub(crate) fn name_structure(alloc: Global, directory: &str) -> Result<NamedFile, NoMemory>
-    ensures { IfOk result (λ file. file.path ≡ structure_path directory.now) }
-{
-    NamedFile::new(alloc, structure_path(alloc, directory)?)
 }
 
 // The end at a file that wasn't answered.

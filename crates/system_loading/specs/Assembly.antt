@@ -2,7 +2,6 @@
 use Rattle.std.specs.Prelude.{◌≡◌, ℕ, List, []}
 use Rattle.sim_base.specs.declared.numbers.PortId.{PortId}
 use Rattle.value_types.specs.declared.shape.Shape.{Shape}
-use Rattle.doc_tree.specs.declared.place.Place.{Place}
 use Rattle.doc_tree.specs.declared.rule.Rule.{Rule}
 use Rattle.doc_tree.specs.declared.rule.Rule.TheVariants.{Loop}
 use Rattle.system_model.specs.declared.system.System.{System}
@@ -10,7 +9,6 @@ use Rattle.flatten.specs.Answers.{TellsLoop}
 use Rattle.flatten.specs.Flat.{Flattens}
 use Rattle.flatten.specs.Rules.{IsFirstFlatteningViolation, IsFitting}
 use Rattle.system_loading.specs.declared.outline.Outline.{Outline}
-use Rattle.system_loading.specs.Outlines.{place_in}
 
 -- ---- rules that the files break together
 
@@ -19,17 +17,16 @@ abbrev pub HasNoOrder : Outline → List Shape → Type 0
 HasNoOrder o shapes =
     IsFitting o.systems shapes × ((system : System) → Flattens o.systems shapes system → ⊥)
 
--- the first rule that is broken, its place in the file of the outline, and the ports of a loop
-pub data BreaksTogether (o : Outline) (shapes : List Shape) : Rule → Place →
+-- the first rule that is broken, at an element of the tree, and the ports of a loop
+pub data BreaksTogether (o : Outline) (shapes : List Shape) : Rule → ℕ →
     List PortId → Type 0 where
   -- connectors, connections, saved states, or too many ports
-  ByPart : (node : ℕ) (rule : Rule) (place : Place) (ports : List PortId) →
-      IsFirstFlatteningViolation o.systems shapes node rule → place ≡ place_in o node → ports ≡ [] →
-      BreaksTogether o shapes rule place ports
+  ByPart : (node : ℕ) (rule : Rule) (ports : List PortId) →
+      IsFirstFlatteningViolation o.systems shapes node rule → ports ≡ [] →
+      BreaksTogether o shapes rule node ports
   -- a loop
-  ByLoop : (node : ℕ) (rule : Rule) (place : Place) (ports : List PortId) →
-      HasNoOrder o shapes → TellsLoop o.systems shapes node ports →
-      rule ≡ Loop → place ≡ place_in o node → BreaksTogether o shapes rule place ports
+  ByLoop : (node : ℕ) (rule : Rule) (ports : List PortId) → HasNoOrder o shapes →
+      TellsLoop o.systems shapes node ports → rule ≡ Loop → BreaksTogether o shapes rule node ports
 
 -- ---- the system
 
@@ -46,13 +43,13 @@ HaveSameParts one other = (one.components ≡ other.components) × (one.ports �
 pub record MakesAlone (o : Outline) (shapes : List Shape) (system : System) : Type 0 where
   pub is : Makes o shapes system
   pub only : (other : System) → Makes o shapes other → HaveSameParts system other
-  pub none : (rule : Rule) (place : Place) (ports : List PortId) →
-      BreaksTogether o shapes rule place ports → ⊥
+  pub none : (rule : Rule) (node : ℕ) (ports : List PortId) →
+      BreaksTogether o shapes rule node ports → ⊥
 
--- this rule is broken first, at this place and no other, and no system is made
-pub record BreaksTogetherAlone (o : Outline) (shapes : List Shape) (rule : Rule) (place : Place)
+-- this rule is broken first, at this element and no other, and no system is made
+pub record BreaksTogetherAlone (o : Outline) (shapes : List Shape) (rule : Rule) (node : ℕ)
     (ports : List PortId) : Type 0 where
-  pub broken : BreaksTogether o shapes rule place ports
-  pub only : (other : Rule) (at : Place) (loop : List PortId) →
-      BreaksTogether o shapes other at loop → (rule ≡ other) × (place ≡ at)
+  pub broken : BreaksTogether o shapes rule node ports
+  pub only : (other : Rule) (at : ℕ) (loop : List PortId) →
+      BreaksTogether o shapes other at loop → (rule ≡ other) × (node ≡ at)
   pub none : (system : System) → Makes o shapes system → ⊥

@@ -20,7 +20,7 @@ use Rattle.system_loading.specs.declared.outline.Outline.{Outline}
 use Rattle.system_loading.specs.declared.parameters.Documents.{Documents}
 use Rattle.system_loading.specs.declared.parameters.GivenBinding.{GivenBinding}
 use Rattle.system_loading.specs.declared.parameters.GivenMapping.{GivenMapping}
-use Rattle.system_loading.specs.Outlines.{place_in}
+use Rattle.system_loading.specs.Outlines.{place_within}
 
 -- ---- sets
 
@@ -65,16 +65,16 @@ abbrev pub own_document_at : List Documents → ℕ → Bool → Option (List No
 own_document_at documents n in_mapping =
     option_and_then (own_document in_mapping) (slice_get documents n)
 
--- where an element is told that stands in this document, or in the outline
-abbrev pub place_by : Outline → Option (List Node) → ℕ → Place
-place_by o None node = place_in o node
-place_by o (Some t) node = Element (path_to t node)
+-- where an element is told that stands in this document, or in that of the binding
+abbrev pub place_by : Outline → ℕ → Option (List Node) → ℕ → Place
+place_by o n None node = place_within o n node
+place_by o n (Some t) node = Element (path_to t node)
 
 abbrev pub place_in_part : Outline → List Documents → ℕ → Bool → ℕ → Place
 place_in_part o documents n in_mapping node =
-    place_by o (own_document_at documents n in_mapping) node
+    place_by o n (own_document_at documents n in_mapping) node
 
--- where a place of a set or of a mapping is told: in its own document, or in that of the outline
+-- where a place of a set or of a mapping is told: in its own document, or in that of its binding
 abbrev pub place_at : Outline → List GivenBinding → rules.Place → Place
 place_at o given p = place_in_part o (map documents_of given) p.binding p.in_mapping p.node
 

@@ -1,6 +1,5 @@
 -- What a fault of a file, or of files together, says.
 use Rattle.std.specs.Prelude.{◌≡◌, List}
-use Rattle.sim_base.specs.declared.numbers.PortId.{PortId}
 use Rattle.value_types.specs.declared.shape.Shape.{Shape}
 use Rattle.doc_events.specs.declared.error.DocError.{DocError}
 use Rattle.doc_events.specs.declared.error.DocError.TheVariants as e
@@ -23,8 +22,8 @@ TellsFirst Says Breaks Memory = Unit {0}
 
 -- the same of what an outline and shapes break together
 abbrev pub TellsTogether : Outline → List Shape → AssemblyFault → Type 0
-TellsTogether o shapes (together.Broken rule place ports) =
-    BreaksTogetherAlone o shapes rule place ports
+TellsTogether o shapes (together.Broken rule node ports) =
+    BreaksTogetherAlone o shapes rule node ports
 TellsTogether o shapes together.Memory = Unit {0}
 
 -- ---- what is told
@@ -33,11 +32,6 @@ TellsTogether o shapes together.Memory = Unit {0}
 abbrev pub SaysFault : Rule → Place → Fault → Type 0
 SaysFault rule place (Broken r p) = (r ≡ rule) × (p ≡ place)
 SaysFault rule place Memory = Unit {0}
-
--- the fault tells this rule and place and these ports, unless memory is wanting
-abbrev pub SaysTogether : Rule → Place → List PortId → AssemblyFault → Type 0
-SaysTogether rule place ports (together.Broken r p l) = (r ≡ rule) × (p ≡ place) × (l ≡ ports)
-SaysTogether rule place ports together.Memory = Unit {0}
 
 -- the fault of bytes that are no document
 abbrev pub IsDocumentFault : DocError → Fault → Type 0

@@ -1,5 +1,6 @@
 pub mod Readings
 pub mod Outlines
+pub mod Documents
 pub mod Binding
 pub mod Assembly
 pub mod Faults

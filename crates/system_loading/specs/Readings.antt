@@ -8,19 +8,17 @@ use Rattle.doc_tree.specs.Path.{path_to}
 use Rattle.doc_tree.specs.declared.place.Place.{Place}
 use Rattle.doc_tree.specs.declared.place.Place.TheVariants.{Byte, Element}
 use Rattle.doc_tree.specs.declared.rule.DescriptionRule.{DescriptionRule}
-use Rattle.doc_tree.specs.declared.rule.SystemRule.{SystemRule}
 use Rattle.doc_tree.specs.declared.rule.ParameterRule.{ParameterRule}
 use Rattle.doc_tree.specs.declared.rule.Rule.{Rule}
-use Rattle.doc_tree.specs.declared.rule.Rule.TheVariants.{Document, Description, Parameters, System}
+use Rattle.doc_tree.specs.declared.rule.Rule.TheVariants.{Document, Description, Parameters}
 use Rattle.fmu_description.specs.Rules as model
 use Rattle.fmu_description.specs.Description as model_says
-use Rattle.ssd_tree.specs.Rules as structure
 use Rattle.parameter_sets.specs.Rules.{IsFirstInMapping, IsFirstInSet, IsSoundMapping, IsSoundSet}
 use Rattle.parameter_sets.specs.Sets.{DescribesMapping, DescribesSet}
 use Rattle.system_loading.specs.declared.outline.Outline.{Outline}
 use Rattle.system_loading.specs.declared.parameters.GivenMapping.{GivenMapping}
 use Rattle.system_loading.specs.declared.parameters.GivenSet.{GivenSet}
-use Rattle.system_loading.specs.Outlines.{IsOutlineOf}
+use Rattle.system_loading.specs.Outlines.{element_in}
 
 -- ---- any file
 
@@ -72,16 +70,6 @@ BreaksModel per_second bytes rule place =
     BreaksBy (λ (r : DescriptionRule). Description r) (λ t k r.
     model.IsFirstDescriptionViolation t per_second k r) bytes rule place
 
--- ---- a system structure description (SSP 1.0, SystemStructure.ssd)
-
--- the bytes are a description of this tree of systems
-abbrev pub IsStructure : List ℕ → Outline → Type 0
-IsStructure bytes outline = SaysBy structure.IsSoundStructure IsOutlineOf bytes outline
-
-abbrev pub BreaksStructure : List ℕ → Rule → Place → Type 0
-BreaksStructure bytes rule place =
-    BreaksBy (λ (r : SystemRule). System r) structure.IsFirstStructureViolation bytes rule place
-
 -- ---- a set of parameter values, and a mapping of parameters (SSP 1.0, SSV and SSM)
 
 -- the document gives this set
@@ -109,25 +97,27 @@ BreaksMapping bytes rule place =
     BreaksBy (λ (r : ParameterRule). Parameters r) (λ t k r.
     IsFirstInMapping t None k r) bytes rule place
 
--- ---- the same within an element of the outline's document
+-- ---- the same within an element of one of the outline's documents
 
--- the outline's document has this within the element
+-- the element's document has this within it
 pub record SaysWithin {A : Type 0} (IsSound : List Node → Option ℕ → Type 0)
     (Describes : List Node → Option ℕ → A → Type 0) (outline : Outline) (holder : ℕ)
     (said : A) : Type 0 where
   pub document : List Node
-  pub is : outline.document ≡ Some document
-  pub sound : IsSound document (Some holder)
-  pub describes : Describes document (Some holder) said
+  pub node : ℕ
+  pub is : element_in outline holder ≡ Some (document, node)
+  pub sound : IsSound document (Some node)
+  pub describes : Describes document (Some node) said
 
 -- the rule that what is within the element breaks first, and its place
 pub record BreaksWithin (IsFirst : List Node → Option ℕ → ℕ → ParameterRule → Type 0)
     (outline : Outline) (holder : ℕ) (rule : Rule) (place : Place) : Type 0 where
   pub document : List Node
-  pub is : outline.document ≡ Some document
+  pub node : ℕ
+  pub is : element_in outline holder ≡ Some (document, node)
   pub element : ℕ
   pub broken : ParameterRule
-  pub first : IsFirst document (Some holder) element broken
+  pub first : IsFirst document (Some node) element broken
   pub rule_is : rule ≡ Parameters broken
   pub place_is : place ≡ Element (path_to document element)
 

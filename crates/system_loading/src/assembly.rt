@@ -3,11 +3,10 @@ ghost use Rattle.std.specs.Prelude.{IfErr, IfOk};
 ghost use Rattle.system_model.specs.Sound.{IsSound};
 ghost use Rattle.flatten.specs.Given.{AreShapesOf, IsWholeTree};
 ghost use Rattle.system_loading.specs.Assembly.{MakesAlone};
-ghost use Rattle.system_loading.specs.Faults.{SaysTogether, TellsTogether};
-ghost use Rattle.system_loading.specs.Outlines.{place_in};
+ghost use Rattle.system_loading.specs.Faults.{TellsTogether};
 
 use crate::Outline;
-use doc_tree::{Place, Refusal, Rule};
+use doc_tree::{Refusal, Rule};
 use flatten::flatten;
 use sim_base::{Items, PortId};
 use std::alloc::Global;
@@ -17,17 +16,17 @@ use value_types::Shape;
 /// Why files make no system together.
 #[derive(Debug, Drop)]
 pub enum AssemblyFault {
-    /// They break this rule first, at this place in the outline's file. `ports` are those of a loop.
+    /// They break this rule first, at the element of the tree with this number. `ports` are those of a loop.
     Broken {
         rule: Rule,
-        place: Place,
+        node: usize,
         ports: Items<PortId>,
     },
     /// No memory is left.
     Memory,
 }
 
-/// The system of an outline, where each component has a shape; or the first rule that they break together and its place:
+/// The system of an outline, where each component has a shape; or the first rule that they break together and the element:
 /// a rule of connectors, connections, saved states or ports, or a loop of ports (SSP 1.0, 5.3).
 pub fn assemble(alloc: Global, outline: &Outline, shapes: &[Shape]) -> Result<System, AssemblyFault>
     requires whole { IsWholeTree outline.now.systems }
@@ -45,23 +44,7 @@ pub fn assemble(alloc: Global, outline: &Outline, shapes: &[Shape]) -> Result<Sy
                 ports,
                 ..
             },
-        ) => Err(told_at(alloc, outline, node, rule, ports)),
+        ) => Err(AssemblyFault::Broken { rule, node, ports }),
         Err(Refusal::Memory) => Err(AssemblyFault::Memory),
-    }
-}
-
-// The fault at an element of the outline.
-fn told_at(
-    alloc: Global,
-    outline: &Outline,
-    node: usize,
-    rule: Rule,
-    ports: Items<PortId>,
-) -> AssemblyFault
-    ensures { SaysTogether rule (place_in outline.now node) ports result }
-{
-    match outline.place(alloc, node) {
-        Ok(place) => AssemblyFault::Broken { rule, place, ports },
-        Err(_) => AssemblyFault::Memory,
     }
 }

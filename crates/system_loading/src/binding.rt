@@ -130,7 +130,7 @@ fn told_at(
     }
 }
 
-// Where an element of a set or of a mapping is told: in its own document, or in that of the outline.
+// Where an element of a set or of a mapping is told: in its own document, or in that of its binding.
 fn place_in_part(
     alloc: Global,
     outline: &Outline,
@@ -146,7 +146,7 @@ fn place_in_part(
         Some(document) => Ok(Place::Element {
             path: Text::from_string(document.path(alloc, node)?),
         }),
-        None => outline.place(alloc, node),
+        None => outline.place_within(alloc, binding, node),
     }
 }
 

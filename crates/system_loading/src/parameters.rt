@@ -2,14 +2,16 @@
 use doc_tree::Tree;
 use parameter_values::{Mapping, ParameterSet};
 
-/// A set of parameter values, and the document that it was read from. One that stands in the outline has none.
+/// A set of parameter values, and the document that it was read from. One that stands in a document of the
+/// outline has none.
 #[derive(Drop)]
 pub struct GivenSet {
     pub set: ParameterSet,
     pub document: Option<Tree>,
 }
 
-/// A mapping of parameters, and the document that it was read from. One that stands in the outline has none.
+/// A mapping of parameters, and the document that it was read from. One that stands in a document of the
+/// outline has none.
 #[derive(Drop)]
 pub struct GivenMapping {
     pub mapping: Mapping,

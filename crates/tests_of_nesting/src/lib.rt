@@ -6,4 +6,6 @@ mod documents;
 #[cfg(test)]
 mod nesting_tests;
 #[cfg(test)]
+mod reader_tests;
+#[cfg(test)]
 mod same;

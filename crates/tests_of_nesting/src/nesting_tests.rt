@@ -1,33 +1,26 @@
-use crate::documents::{document, read};
+use crate::documents::{document, read, with_lists};
 use crate::same::same_trees;
-use nested_documents::{Nest, Next, Place, Whole};
+use nested_documents::{Nest, Next, OUTERMOST, Place, Whole};
 use std::alloc::Global;
 use std::test::Fail;
-
-/// What stands before and behind the lists of the outermost System of a document.
-const HEAD: &str = r#"<SystemStructureDescription version="1.0" name="d"><System name="s">"#;
-
-const FOOT: &str = "</System></SystemStructureDescription>";
-
-fn with_lists(alloc: Global, lists: &str) -> Option<String> {
-    let mut text = String::from_str(alloc, HEAD).ok()?;
-    text.push_str(lists).ok()?;
-    text.push_str(FOOT).ok()?;
-    Some(text)
-}
 
 // A nest of an outermost document with these lists.
 fn nest(alloc: Global, lists: &str) -> Option<Nest> {
     let text = with_lists(alloc, lists)?;
-    Nest::new(alloc, document(alloc, text.as_str())?).ok()
+    Nest::new(alloc, document(alloc, OUTERMOST, text.as_str())?).ok()
 }
 
 // The nest with one document more, which has these lists, where that one at this path comes next.
 fn add(alloc: Global, nest: Nest, path: &str, lists: &str) -> Option<Nest> {
     let text = with_lists(alloc, lists)?;
-    let document = document(alloc, text.as_str())?;
     match nest.next(alloc) {
-        Ok(Next::Document { path: wanted }) if wanted.as_str() == path => {
+        Ok(
+            Next::Document {
+                path: wanted,
+                setting,
+            },
+        ) if wanted.as_str() == path => {
+            let document = document(alloc, setting, text.as_str())?;
             nest.add(alloc, document).ok()
         }
         _ => None,
@@ -55,7 +48,7 @@ fn says_inlined(alloc: Global, lists: &str, documents: &[(&str, &str)], inlined:
     let Some(text) = with_lists(alloc, inlined) else {
         return false;
     };
-    let Some((_, wanted)) = read(alloc, text.as_str()) else {
+    let Some(wanted) = read(alloc, text.as_str()) else {
         return false;
     };
     let Some(nest) = nest_of(alloc, lists, documents) else {
@@ -69,10 +62,10 @@ fn says_inlined(alloc: Global, lists: &str, documents: &[(&str, &str)], inlined:
 
 // Three levels with connectors through all, an FMU beside each, and bindings everywhere.
 const TOP: &str =
-    r#"<ParameterBindings><ParameterBinding source="top.ssv"/></ParameterBindings><Elements><Component name="a" source="a"><Connectors><Connector name="y" kind="output"/></Connectors></Component><Component name="P" source="p"><Connectors><Connector name="u" kind="input"/><Connector name="y" kind="output"/></Connectors><ParameterBindings><ParameterBinding source="own.ssv" sourceBase="component"/><ParameterBinding source="of_top.ssv"/></ParameterBindings></Component><Component name="z" source="z"><Connectors><Connector name="u" kind="input"/></Connectors></Component></Elements><Connections><Connection startElement="a" startConnector="y" endElement="P" endConnector="u"/><Connection startElement="P" startConnector="y" endElement="z" endConnector="u"/></Connections>"#;
+    r#"<ParameterBindings><ParameterBinding source="top.ssv"/></ParameterBindings><Elements><Component name="a" source="a"><Connectors><Connector name="y" kind="output"/></Connectors></Component><Component name="P" type="application/x-ssp-package" source="p"><Connectors><Connector name="u" kind="input"/><Connector name="y" kind="output"/></Connectors><ParameterBindings><ParameterBinding source="own.ssv" sourceBase="component"/><ParameterBinding source="of_top.ssv"/></ParameterBindings></Component><Component name="z" source="z"><Connectors><Connector name="u" kind="input"/></Connectors></Component></Elements><Connections><Connection startElement="a" startConnector="y" endElement="P" endConnector="u"/><Connection startElement="P" startConnector="y" endElement="z" endConnector="u"/></Connections>"#;
 
 const PACKAGE: &str =
-    r#"<Connectors><Connector name="y" kind="output"/><Connector name="x" kind="parameter"/><Connector name="u" kind="input"/></Connectors><ParameterBindings><ParameterBinding source="root.ssv"/></ParameterBindings><Elements><Component name="D" source="deep/d.ssd"><Connectors><Connector name="u" kind="input"/><Connector name="y" kind="output"/></Connectors></Component><Component name="b" source="b"><ParameterBindings><ParameterBinding source="b.ssv" sourceBase="component"/></ParameterBindings></Component></Elements><Connections><Connection startConnector="u" endElement="D" endConnector="u"/><Connection startElement="D" startConnector="y" endConnector="y"/></Connections>"#;
+    r#"<Connectors><Connector name="y" kind="output"/><Connector name="x" kind="parameter"/><Connector name="u" kind="input"/></Connectors><ParameterBindings><ParameterBinding source="root.ssv"/></ParameterBindings><Elements><Component name="D" type="application/x-ssp-definition" source="deep/d.ssd"><Connectors><Connector name="u" kind="input"/><Connector name="y" kind="output"/></Connectors></Component><Component name="b" source="b"><ParameterBindings><ParameterBinding source="b.ssv" sourceBase="component"/></ParameterBindings></Component></Elements><Connections><Connection startConnector="u" endElement="D" endConnector="u"/><Connection startElement="D" startConnector="y" endConnector="y"/></Connections>"#;
 
 const DEEP: &str =
     r#"<Connectors><Connector name="u" kind="input"/><Connector name="y" kind="output"/></Connectors><Elements><Component name="c" source="c"><Connectors><Connector name="u" kind="input"/><Connector name="y" kind="output"/></Connectors><ParameterBindings><ParameterBinding source="c.ssv"><ParameterMapping source="c.ssm"/></ParameterBinding></ParameterBindings></Component></Elements><Connections><Connection startConnector="u" endElement="c" endConnector="u"/><Connection startElement="c" startConnector="y" endConnector="y"/></Connections>"#;
@@ -89,13 +82,13 @@ fn documents_say_what_the_inlined_one_says(rt: HostRuntime) {
 
 // Two documents, each of which has a Component that is a package, and one of them a definition within.
 const TWO: &str =
-    r#"<Elements><Component name="P1" source="a"/><System name="s"><Elements><Component name="P2" source="b"/></Elements></System></Elements>"#;
+    r#"<Elements><Component name="P1" type="application/x-ssp-package" source="a"/><System name="s"><Elements><Component name="P2" type="application/x-ssp-package" source="b"/></Elements></System></Elements>"#;
 
 const WITH_DEFINITION: &str =
-    r#"<Elements><Component name="c" source="c"/><Component name="D" source="x/y.ssd"/></Elements>"#;
+    r#"<Elements><Component name="c" source="c"/><Component name="D" type="application/x-ssp-definition" source="x/y.ssd"/></Elements>"#;
 
 const WITH_SIBLING: &str =
-    r#"<Elements><Component name="D" source="z.ssd"/><Component name="c" source="c"/></Elements>"#;
+    r#"<Elements><Component name="D" type="application/x-ssp-definition" source="z.ssd"/><Component name="c" source="c"/></Elements>"#;
 
 const EMPTY: &str = "";
 
@@ -117,7 +110,8 @@ fn a_document_is_followed_by_those_nested_in_it(rt: HostRuntime) {
 }
 
 // A document beside others that names itself.
-const ITSELF: &str = r#"<Elements><Component name="D" source="a.ssd"/></Elements>"#;
+const ITSELF: &str =
+    r#"<Elements><Component name="D" type="application/x-ssp-definition" source="a.ssd"/></Elements>"#;
 
 // Where the next document is refused, with so many more of these before it.
 fn refused_behind(alloc: Global, lists: &str, path: &str, count: usize) -> Option<Place> {
@@ -147,7 +141,9 @@ fn eight_levels_are_read_below_the_outermost(rt: HostRuntime) {
 fn many_packages(alloc: Global, count: usize) -> Option<String> {
     let mut lists = String::from_str(alloc, "<Elements>").ok()?;
     for at in 0..count {
-        let component = format!(in alloc; "<Component name=\"P{at}\" source=\"p\"/>").ok()?;
+        let component = format!(in alloc;
+            "<Component name=\"P{at}\" type=\"application/x-ssp-package\" source=\"p\"/>"
+        ).ok()?;
         lists.push_str(component.as_str()).ok()?;
     }
     lists.push_str("</Elements>").ok()?;
@@ -182,12 +178,12 @@ fn the_257th_document_is_not_read(rt: HostRuntime) {
 
 // The connectors of Components, and Systems that have one of them, one of another kind, and none.
 const NAMING: &str =
-    r#"<Elements><Component name="P1" source="a"><Connectors><Connector name="x" kind="output"/><Connector name="y" kind="output"/></Connectors></Component><Component name="P2" source="b"><Connectors><Connector name="x" kind="output"/></Connectors></Component></Elements>"#;
+    r#"<Elements><Component name="P1" type="application/x-ssp-package" source="a"><Connectors><Connector name="x" kind="output"/><Connector name="y" kind="output"/></Connectors></Component><Component name="P2" type="application/x-ssp-package" source="b"><Connectors><Connector name="x" kind="output"/></Connectors></Component></Elements>"#;
 
 const HAS_X: &str = r#"<Connectors><Connector name="x" kind="output"/></Connectors>"#;
 
 const HAS_BOTH: &str =
-    r#"<Connectors><Connector name="y" kind="output"/><Connector name="x" kind="output"/></Connectors><Elements><Component name="D" source="d.ssd"><Connectors><Connector name="z" kind="input"/></Connectors></Component></Elements>"#;
+    r#"<Connectors><Connector name="y" kind="output"/><Connector name="x" kind="output"/></Connectors><Elements><Component name="D" type="application/x-ssp-definition" source="d.ssd"><Connectors><Connector name="z" kind="input"/></Connectors></Component></Elements>"#;
 
 const OTHER_KIND: &str = r#"<Connectors><Connector name="x" kind="input"/></Connectors>"#;
 
@@ -256,7 +252,8 @@ fn places(alloc: Global) -> Option<[Option<Place>; 4]> {
     }
 }
 
-const ITSELF_ONCE: &str = r#"<Elements><Component name="D" source="b.ssd"/></Elements>"#;
+const ITSELF_ONCE: &str =
+    r#"<Elements><Component name="D" type="application/x-ssp-definition" source="b.ssd"/></Elements>"#;
 
 #[test]
 fn a_document_stands_before_its_component(rt: HostRuntime) {
@@ -279,4 +276,40 @@ fn a_document_stands_before_its_component(rt: HostRuntime) {
         }),
     ];
     assert_eq!(rt; places(rt.alloc()), Some(wanted));
+}
+
+// Components that are FMUs, so many.
+fn many_fmus(alloc: Global, before: &str, count: usize) -> Option<String> {
+    let mut lists = String::from_str(alloc, "<Elements>").ok()?;
+    lists.push_str(before).ok()?;
+    for at in 0..count {
+        let component = format!(in alloc; "<Component name=\"c{at}\" source=\"c\"/>").ok()?;
+        lists.push_str(component.as_str()).ok()?;
+    }
+    lists.push_str("</Elements>").ok()?;
+    Some(lists)
+}
+
+// Whether a package may have so many FMUs, where so many stand around it.
+fn may_have(alloc: Global, around: usize, count: usize) -> Option<bool> {
+    let package = r#"<Component name="P" type="application/x-ssp-package" source="p"/>"#;
+    let outer = many_fmus(alloc, package, around)?;
+    let inner = many_fmus(alloc, "", count)?;
+    let nest = nest(alloc, outer.as_str())?;
+    let text = with_lists(alloc, inner.as_str())?;
+    match nest.next(alloc) {
+        Ok(Next::Document { path: _, setting }) => {
+            Some(document(alloc, setting, text.as_str()).is_some())
+        }
+        _ => None,
+    }
+}
+
+#[test]
+fn the_257th_fmu_of_all_documents_is_refused(rt: HostRuntime) {
+    assert_eq!(rt; may_have(rt.alloc(), 255, 1), Some(true));
+    assert_eq!(rt; may_have(rt.alloc(), 255, 2), Some(false));
+    // the package itself isn't counted
+    assert_eq!(rt; may_have(rt.alloc(), 256, 0), Some(true));
+    assert_eq!(rt; may_have(rt.alloc(), 257, 0), None);
 }

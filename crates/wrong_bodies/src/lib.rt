@@ -14,5 +14,5 @@ pub use documents::{read_document, take_character};
 pub use flattening::flatten_tree;
 pub use loading::{assemble_system, bind_values, shape_of};
 pub use parameters::{read_mapping_file, read_set_file, read_set_within};
-pub use structures::read_structure;
+pub use structures::{read_one_document, read_structure};
 pub use traces::{check_trace, read_text};

@@ -27,7 +27,7 @@ pub fn shape_of(alloc: Global, bytes: &[u8], resolution: u64) -> Result<Shape, F
     read_shape(alloc, bytes, resolution)
 }
 
-/// The system of an outline, or the first rule that its files break together and its place.
+/// The system of an outline, or the first rule that its files break together and the element.
 pub fn assemble_system(
     alloc: Global,
     outline: &Outline,

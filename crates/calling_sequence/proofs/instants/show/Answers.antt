@@ -96,7 +96,7 @@ returns-in-Ok-put_values-clause-puts g c olds before h =
     let s = spot c.args.t c.args.n b in
     let events = c.update.new.schedule.events in
     let told : List Timer → ℕ → Type 0 = λ timers k.
-        Here e olds before (Seen (record s { timers = timers; events = events }) c.with_armed.result.again c.with_armed.result.asked) (instances g.L.Peer.view c.update.new.slots) (g.O.Sink.view c.put_values.new.out) k in
+    Here e olds before (Seen (record s { timers = timers; events = events }) c.with_armed.result.again c.with_armed.result.asked) (instances g.L.Peer.view c.update.new.slots) (g.O.Sink.view c.put_values.new.out) k in
     let timers : timers_in b.schedule ≡ timers_in c.update.new.schedule = sym (ap timers_in c.in-Ok.ensures.clocks) in
     subst (λ (k : ℕ). told (timers_in c.update.new.schedule) k) (sym c.in-Ok-put_values.ensures.counted)
     (subst (λ (ts : List Timer). told ts (b.instants + 1)) timers

@@ -1,6 +1,12 @@
-use Rattle.system_files.specs.Steps.{AtMapping}
+use Rattle.std.proofs.Common.{Option, subst}
+use Rattle.std.specs.Prelude.{IfSome}
+use Rattle.ssd_tree.specs.declared.tree.Origin.{Origin}
+use Rattle.system_files.specs.Steps.{AtMapping, HasOriginDocument}
 use Rattle.system_files.proofs.BindingLemmas.{values_alone, values_mapped}
 use Rattle.system_files.proofs.bindings.load_binding.Goals as goal
+
+pub load_mapping-requires : goal.load_mapping-requires
+load_mapping-requires g c = subst (λ (mapping : Option Origin). IfSome mapping (HasOriginDocument c.args.outline.now)) c.in-Some.is c.requires.1
 
 pub returns-in-Ok-load_mapping-clause-ok : goal.returns-in-Ok-load_mapping-clause-ok
 returns-in-Ok-load_mapping-clause-ok g c =

@@ -1,6 +1,7 @@
-use Rattle.std.proofs.Common.{◌<◌, ◌≤◌, ◌+◌, length, take, List, [], sym, subst, arith}
+use Rattle.std.proofs.Common.{◌<◌, ◌≤◌, ◌+◌, length, take, List, [], sym, subst, arith, All}
+use Rattle.ssd_tree.specs.declared.tree.Binding.{Binding}
 use Rattle.system_loading.specs.declared.parameters.GivenBinding.{GivenBinding}
-use Rattle.system_files.specs.Steps.{TakesBindings}
+use Rattle.system_files.specs.Steps.{HasBindingDocument, TakesBindings}
 use Rattle.system_files.proofs.BindingLemmas.{as_many, ends_more, none_taken, taken_more}
 use Rattle.system_files.proofs.bindings.load_bindings.Goals as goal
 
@@ -12,6 +13,12 @@ loop-place-init g c =
           (none_taken c.args.directory.now c.args.outline.now old);
       room = let cap = c.in-Ok.ensures.capacity in omega (arith, cap);
     }
+
+pub load_binding-requires : goal.load_binding-requires
+load_binding-requires g c =
+    let has = HasBindingDocument c.args.outline.now in
+    let all = subst (λ (bs : List Binding). All has bs) (sym c.as_slice-bindings.ensures) c.requires in
+    subst has (sym c.index-bindings-place.is) (all c.loop-place.place c.index-bindings-place.result c.loop-place-test.true)
 
 pub push_reserved-requires : goal.push_reserved-requires
 push_reserved-requires g c =
@@ -29,7 +36,7 @@ pub returns-in-Err-clause-err : goal.returns-in-Err-clause-err
 returns-in-Err-clause-err g c =
     let view = g.F.Folder.view in
     ends_more c.args.directory.now c.args.outline.now (view c.args.folder.now) (view c.loop-place.folder) c.as_slice-bindings.result.now c.loop-place.place c.index-bindings-place.result
-    c.loop-place.given.items c.loop-place-test.true c.index-bindings-place.is c.loop-place.invariant.takes c.args.subject c.in-Err.end (view c.load_binding.new.folder)
+    c.loop-place.given.items c.loop-place-test.true c.index-bindings-place.is c.loop-place.invariant.takes c.in-Err.end (view c.load_binding.new.folder)
     c.as_slice-bindings.ensures c.in-Err.ensures.err
 
 pub loop-place-preserved : goal.loop-place-preserved

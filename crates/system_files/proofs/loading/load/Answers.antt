@@ -18,22 +18,22 @@ err_so (Err end) P Q h p = h end p
 
 pub load_models-requires-clause-whole : goal.load_models-requires-clause-whole
 load_models-requires-clause-whole g c =
-    outline_whole c.loading_laws.ensures.whole c.loading_laws.ensures.lone c.args.subject c.args.directory.now c.in-Ok.ensures.ok.reads c.in-Ok.outline c.in-Ok.ensures.ok.is
+    outline_whole c.nest_laws.ensures.document c.loading_laws.ensures.lone c.args.subject c.args.directory.now c.in-Ok.ensures.ok.reads c.in-Ok.outline c.in-Ok.ensures.ok.is
 
 pub load_models-requires-clause-tree : goal.load_models-requires-clause-tree
 load_models-requires-clause-tree g c =
-    outline_named c.loading_laws.ensures.named c.loading_laws.ensures.lone_named c.args.subject c.args.directory.now c.in-Ok.ensures.ok.reads c.in-Ok.outline c.in-Ok.ensures.ok.is
+    outline_named c.nest_laws.ensures.document c.loading_laws.ensures.lone_named c.args.subject c.args.directory.now c.in-Ok.ensures.ok.reads c.in-Ok.outline c.in-Ok.ensures.ok.is
 
 pub load_models-requires-clause-document : goal.load_models-requires-clause-document
-load_models-requires-clause-document g c = outline_document c.args.subject c.args.directory.now c.in-Ok.ensures.ok.reads c.in-Ok.outline c.in-Ok.ensures.ok.is
+load_models-requires-clause-document g c = outline_document c.nest_laws.ensures.document c.args.subject c.args.directory.now c.in-Ok.ensures.ok.reads c.in-Ok.outline c.in-Ok.ensures.ok.is
 
 pub load_models-requires-clause-short : goal.load_models-requires-clause-short
 load_models-requires-clause-short g c =
-    outline_short c.loading_laws.ensures.names c.args.subject c.args.directory.now c.in-Ok.ensures.ok.reads c.in-Ok.outline c.in-Ok.ensures.ok.is
+    outline_short c.nest_laws.ensures.document c.args.subject c.args.directory.now c.in-Ok.ensures.ok.reads c.in-Ok.outline c.in-Ok.ensures.ok.is
 
 pub load_models-requires-clause-plain : goal.load_models-requires-clause-plain
 load_models-requires-clause-plain g c =
-    outline_plain c.loading_laws.ensures.plain c.args.subject c.args.directory.now c.in-Ok.ensures.ok.reads c.in-Ok.outline c.in-Ok.ensures.ok.is
+    outline_plain c.nest_laws.ensures.document c.args.subject c.args.directory.now c.in-Ok.ensures.ok.reads c.in-Ok.outline c.in-Ok.ensures.ok.is
 
 pub returns-in-Ok-clause-ok : goal.returns-in-Ok-clause-ok
 returns-in-Ok-clause-ok g c =
@@ -41,7 +41,7 @@ returns-in-Ok-clause-ok g c =
     let old = g.F.Folder.view c.args.folder.now in
     let mid = g.F.Folder.view c.load_outline.new.folder in
     let new = g.F.Folder.view c.load_models.new.folder in
-    ok_so c.load_models.result (λ (loaded : Loaded). TakesModels s c.in-Ok.outline loaded mid new) (λ (loaded : Loaded). Loads s (Found loaded) old new)
+    ok_so c.load_models.result (λ (loaded : Loaded). TakesModels c.args.resolution c.args.directory.now c.in-Ok.outline loaded mid new) (λ (loaded : Loaded). Loads s (Found loaded) old new)
     (λ loaded t. loads s c.in-Ok.outline old mid c.in-Ok.ensures.ok loaded new t) c.load_models.ensures.ok
 
 pub returns-in-Ok-clause-err : goal.returns-in-Ok-clause-err
@@ -50,7 +50,7 @@ returns-in-Ok-clause-err g c =
     let old = g.F.Folder.view c.args.folder.now in
     let mid = g.F.Folder.view c.load_outline.new.folder in
     let new = g.F.Folder.view c.load_models.new.folder in
-    err_so c.load_models.result (λ (end : LoadEnd). EndsModels s c.in-Ok.outline end mid new) (λ (end : LoadEnd). EndsLoading s end old new)
+    err_so c.load_models.result (λ (end : LoadEnd). EndsModels c.args.resolution c.args.directory.now c.in-Ok.outline end mid new) (λ (end : LoadEnd). EndsLoading s end old new)
     (λ end h. ends_models s c.in-Ok.outline old mid c.in-Ok.ensures.ok end new h) c.load_models.ensures.err
 
 pub returns-in-Err-clause-err : goal.returns-in-Err-clause-err

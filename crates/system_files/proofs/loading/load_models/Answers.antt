@@ -1,4 +1,4 @@
-use Rattle.std.proofs.Common.{◌≡◌, ℕ, List, sym, subst}
+use Rattle.std.proofs.Common.{◌≡◌, List, sym, subst}
 use Rattle.std.specs.Prelude.{All, IfErr, IfOk, Result, Ok, Err}
 use Rattle.std.specs.List.{AllZip}
 use Rattle.ssd_tree.specs.Parts.{IsPlain}
@@ -9,7 +9,6 @@ use Rattle.flatten.specs.Given.{AreShapesOf}
 use Rattle.system_files.specs.declared.loaded.Loaded.{Loaded}
 use Rattle.system_files.specs.declared.loading.LoadEnd.{LoadEnd}
 use Rattle.system_files.specs.Loads.{IsNamed}
-use Rattle.system_files.specs.Order.{search_of}
 use Rattle.system_files.specs.Steps.{EndsModels, EndsShapes, EndsTogether, HasShapeAlone, IsLoaded, OfBindings, OfShapes, OfSystem, TakesShapes}
 use Rattle.system_files.proofs.SoundLemmas.{are_counting, are_named, are_ready, are_shapes, has_parts}
 use Rattle.system_files.proofs.loading.load_models.Goals as goal
@@ -71,16 +70,15 @@ returns-in-Ok-load_bindings-clause-counts g c =
 
 pub returns-in-Ok-load_bindings-clause-err : goal.returns-in-Ok-load_bindings-clause-err
 returns-in-Ok-load_bindings-clause-err g c =
-    let s = search_of c.args.subject c.args.directory.now c.args.resolution in
     let old = g.F.Folder.view c.args.folder.now in
     let mid = g.F.Folder.view c.load_shapes.new.folder in
     let new = g.F.Folder.view c.load_bindings.new.folder in
     let t = subst (λ (cs : List ComponentPart). TakesShapes c.args.resolution c.args.directory.now cs c.in-Ok.shapes.items old mid) c.as_slice-components.ensures c.in-Ok.ensures.ok in
     let takes = subst (λ (xs : List Shape). TakesShapes c.args.resolution c.args.directory.now c.args.outline.now.systems.components xs old mid) (sym c.deref.ensures.value) t in
     err_so c.put_together.result
-    (λ (end : LoadEnd). (per_second : ℕ) → EndsTogether (search_of c.args.subject c.args.directory.now per_second) c.args.outline.now c.deref.result.now c.in-Ok-load_bindings.given.items end)
-    (λ (end : LoadEnd). EndsModels s c.args.outline.now end old new)
-    (λ end h. OfSystem c.deref.result.now c.in-Ok-load_bindings.given.items (record { mid = mid; takes = takes; gives = c.in-Ok-load_bindings.ensures.ok }) (h c.args.resolution))
+    (λ (end : LoadEnd). EndsTogether c.args.directory.now c.args.outline.now c.deref.result.now c.in-Ok-load_bindings.given.items end)
+    (λ (end : LoadEnd). EndsModels c.args.resolution c.args.directory.now c.args.outline.now end old new)
+    (λ end h. OfSystem c.deref.result.now c.in-Ok-load_bindings.given.items (record { mid = mid; takes = takes; gives = c.in-Ok-load_bindings.ensures.ok }) h)
     c.put_together.ensures.err
 
 pub returns-in-Ok-clause-err : goal.returns-in-Ok-clause-err

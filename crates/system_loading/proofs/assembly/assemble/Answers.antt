@@ -7,5 +7,5 @@ returns-in-Ok-clause-ok c =
 
 pub returns-in-Err-At-clause-err : goal.returns-in-Err-At-clause-err
 returns-in-Err-At-clause-err c =
-    refusal_told c.args.outline.now c.args.shapes.now c.in-Err-At.field-0 c.in-Err-At.field-0-0 c.in-Err-At.node c.in-Err-At.rule c.in-Err-At.ports c.told_at.result
-    c.in-Err-At.field-0-is c.in-Err-At.ensures.fault c.in-Err-At.ensures.exact c.in-Err-At.ensures.only c.told_at.ensures
+    refusal_told c.args.outline.now c.args.shapes.now c.in-Err-At.field-0 c.in-Err-At.field-0-0 c.in-Err-At.node c.in-Err-At.rule c.in-Err-At.ports
+    c.in-Err-At.field-0-is c.in-Err-At.ensures.fault c.in-Err-At.ensures.exact c.in-Err-At.ensures.only

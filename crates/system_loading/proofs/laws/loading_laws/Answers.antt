@@ -11,17 +11,5 @@ returns-clause-token c = λ per_second bytes shape is.
     subst (λ (x : List ℕ). length x ≤ length bytes) (sym is.describes.token)
     (token_within (length bytes) is.document (codes "instantiationToken") (c.document_laws.ensures.bounded bytes is.document is.denotes))
 
-pub returns-clause-whole : goal.returns-clause-whole
-returns-clause-whole c = λ bytes outline is. c.whole_tree.ensures is.document outline.systems is.sound is.describes.1
-
-pub returns-clause-named : goal.returns-clause-named
-returns-clause-named c = λ bytes outline is. c.named_trees.ensures bytes is.document outline.systems is.denotes is.sound is.describes.1
-
 pub returns-clause-lone_named : goal.returns-clause-lone_named
 returns-clause-lone_named c = lone_named
-
-pub returns-clause-names : goal.returns-clause-names
-returns-clause-names c = λ bytes outline is. c.read_structures.ensures.names bytes is.document outline.systems is.denotes is.sound is.describes.1
-
-pub returns-clause-plain : goal.returns-clause-plain
-returns-clause-plain c = λ bytes outline is. c.plain_paths.ensures is.document outline.systems is.sound is.describes.1

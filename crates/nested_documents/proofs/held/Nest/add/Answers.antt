@@ -2,17 +2,17 @@ use Rattle.std.proofs.Common.{◌≡◌, ◌∙◌, ℕ, suc, Some, Option, leng
 use Rattle.std.proofs.lemmas.Option.{slice_get_read}
 use Rattle.nested_documents.specs.declared.numbers.Place.{Place}
 use Rattle.nested_documents.specs.declared.seam.Seam.{Seam}
-use Rattle.nested_documents.specs.Between.{AreBetween, places_of, waiting_places}
+use Rattle.ssd_tree.specs.Lists.{AreBetween, places_of, tree_of}
+use Rattle.nested_documents.specs.Between.{waiting_places}
 use Rattle.nested_documents.specs.Inlining.{seam_of}
 use Rattle.nested_documents.specs.Nest.{earlier_place, lacking_in}
-use Rattle.nested_documents.specs.Numbers.{elements_of, with_elements}
-use Rattle.nested_documents.specs.Parts.{tree_of}
+use Rattle.nested_documents.specs.Numbers.{with_elements}
 use Rattle.nested_documents.proofs.NestLemmas.{placed_added, rest_behind, taken, waits_added, within_parts}
 use Rattle.nested_documents.proofs.SeamLemmas.{component_at, connectors_within}
 use Rattle.nested_documents.proofs.held.Nest.add.Goals as goal
 
-pub lacking_in-here-requires : goal.lacking_in-here-requires
-lacking_in-here-requires c =
+pub lacking_in-requires : goal.lacking_in-requires
+lacking_in-requires c =
     let nest = c.args.self in
     let next = c.remove-next.result in
     let waits = taken nest next c.remove-next.new.self.items c.requires c.remove-next.ensures.value c.remove-next.ensures.items in
@@ -52,18 +52,18 @@ returns c =
     let at : slice_get nest.parts.components.items next.component ≡ Some component = slice_get_read nest.parts.components.items (length nest.parts.components.items) next.component component refl less c.index.ensures in
     let seam = seam_of (tree_of nest.parts) next.component component (tree_of document.parts) document.elements in
     let same : c.seam_of-seam.result ≡ seam = c.seam_of-seam.ensures component at in
-    let here : c.lacking_in-here.result ≡ lacking_in (elements_of nest.numbers) c.seam_of-seam.result nest.parts.connectors.items document.parts.connectors.items = rw (c.deref.ensures.value, c.deref-2.ensures.value) at c.lacking_in-here.ensures in
-    let there : c.lacking_in-here.result ≡ lacking_in (elements_of nest.numbers) seam nest.parts.connectors.items document.parts.connectors.items =
-    subst (λ (s : Seam). c.lacking_in-here.result ≡ lacking_in (elements_of nest.numbers) s nest.parts.connectors.items document.parts.connectors.items) same here in record {
+    let here : c.in_ok-here.here ≡ lacking_in nest.numbers c.seam_of-seam.result nest.parts.connectors.items document.parts.connectors.items = rw (c.deref.ensures.value, c.deref-2.ensures.value) at c.in_ok-here.ensures in
+    let there : c.in_ok-here.here ≡ lacking_in nest.numbers seam nest.parts.connectors.items document.parts.connectors.items =
+    subst (λ (s : Seam). c.in_ok-here.here ≡ lacking_in nest.numbers s nest.parts.connectors.items document.parts.connectors.items) same here in record {
       next = next;
       rest = rest;
       component = component;
       first = record { waits = waits; at = at };
       frame = c.in_ok-frame.frame;
       is_frame = c.in_ok-frame.ensures;
-      parts = c.in_ok-parts.ensures component at;
+      tree = c.in_ok-parts.ensures component at;
       waiting = waits_added c.seam_of-seam.result seam next.component nest.documents next.level document.nested.items rest c.in_ok-waits.waits.items c.in_ok-rest.rest.items c.append.new.self.items same c.in_ok-waits.ensures c.in_ok-rest.ensures c.in_ok-append.ensures.items;
-      numbers = subst (λ (s : Seam). elements_of c.insert.new.self ≡ with_elements s.node nest.documents document.elements (elements_of nest.numbers)) same c.in_ok-insert.ensures;
+      elements = subst (λ (s : Seam). c.insert.new.self ≡ with_elements s.node nest.documents document.elements nest.numbers) same c.in_ok-insert.ensures;
       documents = omega arith;
       lacking = c.earlier_place.ensures ∙ ap (λ (p : Option Place). earlier_place nest.lacking p) there;
     }

@@ -1,6 +1,7 @@
 use Rattle.std.proofs.Common.{◌≡◌, ◌∙◌, ℕ, List, ap, subst, sym, vec_len}
 use Rattle.nested_documents.specs.declared.components.Waiting.{Waiting}
-use Rattle.nested_documents.specs.Between.{AreBetween, places_of, waiting_places}
+use Rattle.ssd_tree.specs.Lists.{AreBetween, places_of}
+use Rattle.nested_documents.specs.Between.{waiting_places}
 use Rattle.nested_documents.proofs.BetweenLemmas.{places_top}
 use Rattle.nested_documents.proofs.held.Nest.new.Goals as goal
 

@@ -16,4 +16,4 @@ returns c =
     let at : slice_get nest.parts.components.items w.component ≡ Some component = slice_get_read nest.parts.components.items (length nest.parts.components.items) w.component component refl within c.index-component.ensures in
     let read : is_refused w nest.documents ≡ false = sym c.is_refused.ensures ∙ c.if-is_refused.false in
     let path : c.in_ok-document_path.field-0 ≡ document_path w.kind component.source = rw c.as_str.ensures at c.in_ok-document_path.ensures in
-    (w, rest, component, record { waits = waits; at = at }, read, path)
+    (w, rest, component, record { waits = waits; at = at }, read, path, c.in_ok-setting.ensures)

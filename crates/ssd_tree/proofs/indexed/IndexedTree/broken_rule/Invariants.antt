@@ -6,4 +6,4 @@ use Rattle.ssd_tree.specs.Rules.{ViolatesStructure}
 use Rattle.ssd_tree.proofs.indexed.IndexedTree.broken_rule.Given as goal
 
 abbrev pub invariant-loop-rule : goal.invariant-loop-rule
-invariant-loop-rule l = KeepsBelow system_number (ViolatesStructure l.self.tree.now) SYSTEM_RULES r.Structure l.node l.rule-index
+invariant-loop-rule l = KeepsBelow system_number (ViolatesStructure l.self.setting l.self.tree.now) SYSTEM_RULES r.Structure l.node l.rule-index

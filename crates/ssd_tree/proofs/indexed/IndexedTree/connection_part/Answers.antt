@@ -6,11 +6,11 @@ use Rattle.ssd_tree.proofs.indexed.IndexedTree.connection_part.Goals as goal
 
 pub unwrap-from-requires : goal.unwrap-from-requires
 unwrap-from-requires c =
-    some_end (IsStart c.args.self.now.tree.now c.args.node) c.start.result (λ none. c.requires.sound r.NoEnd c.args.node (c.requires.is, inl none)) c.start.ensures
+    some_end (IsStart c.args.self.now.tree.now c.args.node) c.start.result (λ none. c.requires.sound.1 r.NoEnd c.args.node (c.requires.is, inl none)) c.start.ensures
 
 pub unwrap-to-requires : goal.unwrap-to-requires
 unwrap-to-requires c =
-    some_end (IsStop c.args.self.now.tree.now c.args.node) c.stop.result (λ none. c.requires.sound r.NoEnd c.args.node (c.requires.is, inr none)) c.stop.ensures
+    some_end (IsStop c.args.self.now.tree.now c.args.node) c.stop.result (λ none. c.requires.sound.1 r.NoEnd c.args.node (c.requires.is, inr none)) c.stop.ensures
 
 pub connector_place-requires-clause-is : goal.connector_place-requires-clause-is
 connector_place-requires-clause-is c =

@@ -9,11 +9,13 @@ use Rattle.ssd_tree.proofs.indexed.IndexedTree.first_violation.Goals as goal
 
 pub loop-node-preserved : goal.loop-node-preserved
 loop-node-preserved c =
+    let s = c.args.self.now.setting in
     let t = c.args.self.now.tree.now in
-    below_more (BreaksNoRule (ViolatesStructure t)) c.loop-node.node c.loop-node.invariant
-    (MatchOption-at_none (BreaksNoRule (ViolatesStructure t) c.loop-node.node) (IsLeast system_number (ViolatesStructure t) c.loop-node.node) c.in_default.is c.in_ok-rule.ensures)
+    below_more (BreaksNoRule (ViolatesStructure s t)) c.loop-node.node c.loop-node.invariant
+    (MatchOption-at_none (BreaksNoRule (ViolatesStructure s t) c.loop-node.node) (IsLeast system_number (ViolatesStructure s t) c.loop-node.node) c.in_default.is c.in_ok-rule.ensures)
 
 pub returns : goal.returns
 returns c =
+    let s = c.args.self.now.setting in
     let t = c.args.self.now.tree.now in
-    all_sound system_number (ViolatesStructure t) c.loop-node.node (λ k past. breaks_none t k (omega (arith, past)) (λ e. omega (arith, past, e))) c.loop-node.invariant
+    all_sound system_number (ViolatesStructure s t) c.loop-node.node (λ k past. breaks_none s t k (omega (arith, past)) (λ e. omega (arith, past, e))) c.loop-node.invariant

@@ -1,0 +1,4 @@
+mod ListLemmas
+mod FlatLemmas
+mod ReachLemmas
+mod BindLemmas

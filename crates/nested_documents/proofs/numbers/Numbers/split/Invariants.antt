@@ -1,9 +1,0 @@
-use Rattle.std.proofs.Common.{◌≡◌, ◌++◌, drop, take}
-use Rattle.nested_documents.specs.Numbers.{elements_in}
-use Rattle.nested_documents.proofs.numbers.Numbers.split.Given as goal
-
-abbrev pub invariant-loop-run : goal.invariant-loop-run
-invariant-loop-run l = record {
-  first : elements_in l.front.items ++ take l.left (elements_in (drop l.run-index l.self.runs.items)) ≡ take l.fn.at (elements_in l.self.runs.items);
-  others : elements_in l.back.items ++ drop l.left (elements_in (drop l.run-index l.self.runs.items)) ≡ drop l.fn.at (elements_in l.self.runs.items);
-}

@@ -1,0 +1,27 @@
+//! A document in the place of a Component of another.
+ghost use Rattle.std.specs.Prelude.{◌≡◌, ℕ, ◌<◌, Some, IfOk, slice_get, vec_len};
+ghost use Rattle.ssd_tree.specs.declared.tree.ComponentPart.{ComponentPart};
+ghost use Rattle.ssd_tree.specs.Lists.{tree_of};
+ghost use Rattle.nested_documents.specs.Inlining.{inlined};
+
+use nested_documents::{Frame, inlined};
+use ssd_tree::Parts;
+use std::alloc::{AllocError, Global};
+
+/// The parts of two documents where the inner one, which has so many elements, stands in the place of a Component of the
+/// outer one.
+pub fn inline_document(
+    alloc: Global,
+    outer: Parts,
+    place: usize,
+    frame: &Frame,
+    inner: Parts,
+    elements: usize,
+) -> Result<Parts, AllocError>
+    requires { place < vec_len outer.components }
+    ensures { (c : ComponentPart) → slice_get outer.components.items place ≡ Some c →
+        IfOk result (λ whole. tree_of whole ≡
+        inlined (tree_of outer) place c frame.now (tree_of inner) elements) }
+{
+    inlined(alloc, outer, place, frame, inner, elements)
+}
