@@ -225,7 +225,11 @@ fn host_model<I: Source, O: Sink>(
         return HostEnd::Unknown;
     };
     match QuietMachine::new(alloc, model, shape) {
-        Ok(mut machine) => HostEnd::Served(serve(alloc, input, output, &mut machine)),
+        Ok(mut machine) => {
+            let end = serve(alloc, input, output, &mut machine);
+            drop(machine);
+            HostEnd::Served(end)
+        }
         Err(_) => HostEnd::Memory,
     }
 }
