@@ -7,6 +7,7 @@
     drive_host.py --alarm HOST DIR R        steps that end early, and are undone, for the alarm
     drive_host.py --pulse HOST DIR R        three ticks of a changing Clock, for the pulse
     drive_host.py --waker HOST DIR R        the steps to a next event time, for the waker
+    drive_host.py --batches HOST DIR R      batches of Gets and of Sets, for the counter
     drive_host.py --odd HOST DIR R          what is no frame, ends inside one, or is no call for a counter
 
 Status and error line are those of ssprun where the link fails (5), a call is refused (6) or a reply is of another kind
@@ -27,6 +28,9 @@ TYPES = "Int8 UInt8 Int16 UInt16 Int32 UInt32 Int64 UInt64 Boolean Enumeration".
 STATUSES = "OK Warning Discard Error Fatal".split()
 FRAME = struct.Struct(">BBBBIQQ")
 SECONDS_TO_WAIT = 20
+
+# The first byte of a batch.
+BATCH = 19
 
 
 class Stopped(Exception):
@@ -73,10 +77,26 @@ class Host:
             raise Stopped(6, f"fmu fmu {kind} {STATUSES[status]}")
         return flags, qualifier, first, second
 
-    def instantiate(self, name, token, event_mode=False, early_return=False):
+    def instantiate(self, name, token, event_mode=False, early_return=False, batches=False):
+        """Whether the host takes batches."""
         name, token = name.encode(), token.encode()
-        bits = (1 if event_mode else 0) | (2 if early_return else 0)
-        self.ask("Instantiate", reference=bits, first=len(name), second=len(token), texts=name + token)
+        bits = (1 if event_mode else 0) | (2 if early_return else 0) | (4 if batches else 0)
+        flags, _, _, _ = self.ask("Instantiate", reference=bits, first=len(name), second=len(token), texts=name + token)
+        return flags == 1
+
+    def ask_together(self, kind, *calls):
+        """The statuses and first numbers of the replies to a batch of calls, each a type, a reference and a first number."""
+        number = KINDS.index(kind) + 1
+        frames = [FRAME.pack(number, type, 0, 0, reference, first, 0) for type, reference, first in calls]
+        self.send(FRAME.pack(BATCH, 0, 0, 0, len(frames), 0, 0) + b"".join(frames))
+        head = self.receive()
+        count = int.from_bytes(head[4:8], "big")
+        if head != FRAME.pack(BATCH, 0, 0, 0, count, 0, 0):
+            raise Stopped(5, f"link fmu {kind}")
+        replies = [FRAME.unpack(self.receive()) for _ in range(count)]
+        if any(reply[0] != number for reply in replies):
+            raise Stopped(5, f"link fmu {kind}")
+        return [(reply[1], reply[5]) for reply in replies]
 
     def end(self):
         """Closes the host's input, and gives what is left of its output, and the status that it ends with."""
@@ -335,7 +355,13 @@ NO_FRAMES = (
     ("an Int32 that isn't extended by its sign", FRAME.pack(9, 5, 0, 0, 1, 0xFFFFFFFD, 0)),
     ("the Boolean 2", FRAME.pack(9, 9, 0, 0, 1, 2, 0)),
     ("Instantiate without a name", FRAME.pack(1, 0, 0, 0, 0, 0, 1) + b"t"),
-    ("Instantiate with unknown flags", FRAME.pack(1, 0, 0, 0, 4, 1, 0) + b"n"),
+    ("Instantiate with unknown flags", FRAME.pack(1, 0, 0, 0, 8, 1, 0) + b"n"),
+    ("a batch without a call", FRAME.pack(BATCH, 0, 0, 0, 0, 0, 0)),
+    ("a batch of 65 calls", FRAME.pack(BATCH, 0, 0, 0, 65, 0, 0)),
+    ("a batch with a type", FRAME.pack(BATCH, 5, 0, 0, 1, 0, 0) + FRAME.pack(8, 5, 0, 0, 2, 0, 0)),
+    ("a batch of a DoStep", FRAME.pack(BATCH, 0, 0, 0, 1, 0, 0) + FRAME.pack(6, 0, 0, 0, 0, 0, 10)),
+    ("a batch of a Get and a Set", FRAME.pack(BATCH, 0, 0, 0, 2, 0, 0) + FRAME.pack(8, 5, 0, 0, 2, 0, 0) + FRAME.pack(9, 5, 0, 0, 1, 0, 0)),
+    ("a part of a batch", FRAME.pack(BATCH, 0, 0, 0, 2, 0, 0) + FRAME.pack(8, 5, 0, 0, 2, 0, 0)),
     ("a name that is too long", FRAME.pack(1, 0, 0, 0, 0, 2**24 + 1, 0)),
     ("one byte", b"\x06"),
     ("23 bytes", FRAME.pack(6, 0, 0, 0, 0, 0, 1)[:23]),
@@ -395,6 +421,34 @@ def drive_odd(program, directory, resolution):
         expect("behind it", host.end(), (b"", 0))
 
 
+def drive_batches(program, directory, resolution):
+    """Parameters are set in one batch and read in others, up to the first reply that isn't good."""
+    host = Host(program, directory, resolution)
+    if host.instantiate("fmu", Description(directory).token):
+        raise Stopped(7, "batches that nobody asked for")
+    host.ask("FreeInstance")
+    host.end()
+    host = Host(program, directory, resolution)
+    if not host.instantiate("fmu", Description(directory).token, batches=True):
+        raise Stopped(7, "no batches")
+    inc, y, unknown = 1, 2, 99
+    told = [host.ask_together("Set", (5, inc, 3))]
+    host.ask("EnterInitialization", first=0, second=20)
+    host.ask("ExitInitialization")
+    host.ask("DoStep", first=0, second=10)
+    told.append(host.ask_together("Get", *[(5, y, 0)] * 64))
+    expect("replies", told, [[(0, 0)], [(0, 3)] * 64])
+    try:
+        expect("up to an unknown variable", host.ask_together("Get", (5, y, 0), (5, unknown, 0), (5, y, 0)), [(0, 3), (3, 0)])
+        host.ask("FreeInstance")
+        expect("behind FreeInstance", host.end(), (b"", 0))
+    except Stopped as end:
+        # A host that tests what is permitted, as fmu_host, ends there, and answers none of the batch.
+        if end.status != 5:
+            raise
+        expect("a call that isn't permitted", host.end(), (b"", 6))
+
+
 def main(words):
     try:
         if len(words) == 5 and words[0] == "--page":
@@ -407,6 +461,8 @@ def main(words):
             drive_pulse(*words[1:3], int(words[3]))
         elif len(words) == 4 and words[0] == "--waker":
             drive_waker(*words[1:3], int(words[3]))
+        elif len(words) == 4 and words[0] == "--batches":
+            drive_batches(*words[1:])
         elif len(words) == 4 and words[0] == "--odd":
             drive_odd(*words[1:])
         elif len(words) == 5:

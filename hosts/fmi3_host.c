@@ -60,7 +60,13 @@ enum type { INT8 = 1, UINT8, INT16, UINT16, INT32, UINT32, INT64, UINT64, BOOLEA
 enum { EVENT_NEEDED = 1, NEEDS_UPDATE = 1, TERMINATE_ASKED = 2, EARLY_RETURN = 4, NEXT_EVENT_TIME = 4 };
 
 /* Bits in the reference of Instantiate. */
-enum { EVENT_MODE_USED = 1, EARLY_RETURN_ALLOWED = 2 };
+enum { EVENT_MODE_USED = 1, EARLY_RETURN_ALLOWED = 2, BATCHES_ASKED_FOR = 4 };
+
+/* The flag in the reply to Instantiate. */
+enum { BATCHES_TAKEN = 1 };
+
+/* The first byte of a batch, and the most calls in it. */
+enum { BATCH = 19, MOST_CALLS = 64 };
 
 #define FRAME_LENGTH 24
 #define LONGEST_TEXT (UINT64_C(1) << 24)
@@ -143,14 +149,18 @@ static char *read_text(FILE *calls, uint64_t length)
     return text;
 }
 
-enum input { A_CALL, THE_END, NO_FRAME };
+enum input { A_FRAME, THE_END, NO_FRAME };
 
-static enum input read_call(FILE *calls, struct call *call)
+/* What comes in one frame: a call, or a batch of calls, all of which read variables or all of which set them. */
+struct frame {
+    bool is_batch;
+    int count;
+    struct call calls[MOST_CALLS];
+};
+
+/* The call of these 24 bytes; false where they are none. */
+static bool take_call(const unsigned char *bytes, struct call *call)
 {
-    unsigned char bytes[FRAME_LENGTH];
-    size_t length = fread(bytes, 1, FRAME_LENGTH, calls);
-    if (length < FRAME_LENGTH)
-        return length == 0 ? THE_END : NO_FRAME;
     call->kind = bytes[0];
     call->type = bytes[1];
     call->reference = (uint32_t)read_number(bytes + 4, 4);
@@ -158,27 +168,62 @@ static enum input read_call(FILE *calls, struct call *call)
     call->second = read_number(bytes + 16, 8);
 
     if (call->kind < INSTANTIATE || call->kind > FREE_INSTANCE)
-        return NO_FRAME;
+        return false;
     const struct layout *layout = &layouts[call->kind];
     if ((!layout->type && call->type != 0) || bytes[2] != 0 || bytes[3] != 0)
-        return NO_FRAME;
+        return false;
     if ((!layout->reference && call->reference != 0) || (!layout->first && call->first != 0) ||
         (!layout->second && call->second != 0))
-        return NO_FRAME;
+        return false;
     if (layout->type && (call->type < INT8 || call->type > ENUMERATION))
-        return NO_FRAME;
-    if (call->kind == SET && !is_word_of(call->type, call->first))
-        return NO_FRAME;
+        return false;
+    if (call->kind == INSTANTIATE &&
+        (call->reference > 7 || call->first == 0 || call->first > LONGEST_TEXT || call->second > LONGEST_TEXT))
+        return false;
+    return call->kind != SET || is_word_of(call->type, call->first);
+}
 
-    if (call->kind == INSTANTIATE) {
-        if (call->reference > 3 || call->first == 0 || call->first > LONGEST_TEXT || call->second > LONGEST_TEXT)
+/* The calls of a batch with this head. */
+static enum input read_batch(FILE *calls, const unsigned char *head, struct frame *frame)
+{
+    unsigned char bytes[FRAME_LENGTH * MOST_CALLS], expected[FRAME_LENGTH] = {BATCH};
+    uint32_t count = (uint32_t)read_number(head + 4, 4);
+    write_number(expected + 4, 4, count);
+    if (count < 1 || count > MOST_CALLS || memcmp(head, expected, FRAME_LENGTH) != 0)
+        return NO_FRAME;
+    if (fread(bytes, FRAME_LENGTH, count, calls) < count)
+        return NO_FRAME;
+    for (uint32_t i = 0; i < count; i++) {
+        struct call *call = &frame->calls[i];
+        if (!take_call(bytes + i * FRAME_LENGTH, call) || (call->kind != GET && call->kind != SET) ||
+            call->kind != frame->calls[0].kind)
             return NO_FRAME;
+    }
+    frame->is_batch = true;
+    frame->count = (int)count;
+    return A_FRAME;
+}
+
+static enum input read_frame(FILE *calls, struct frame *frame)
+{
+    unsigned char bytes[FRAME_LENGTH];
+    size_t length = fread(bytes, 1, FRAME_LENGTH, calls);
+    if (length < FRAME_LENGTH)
+        return length == 0 ? THE_END : NO_FRAME;
+    if (bytes[0] == BATCH)
+        return read_batch(calls, bytes, frame);
+    struct call *call = &frame->calls[0];
+    if (!take_call(bytes, call))
+        return NO_FRAME;
+    frame->is_batch = false;
+    frame->count = 1;
+    if (call->kind == INSTANTIATE) {
         name = read_text(calls, call->first);
         token = name != NULL ? read_text(calls, call->second) : NULL;
         if (token == NULL)
             return NO_FRAME;
     }
-    return A_CALL;
+    return A_FRAME;
 }
 
 static bool is_good(fmi3Status status)
@@ -187,9 +232,9 @@ static bool is_good(fmi3Status status)
 }
 
 /* From the status fmi3Discard on all behind it is 0. */
-static bool write_reply(FILE *replies, int kind, const struct reply *reply)
+static void put_reply(unsigned char *bytes, int kind, const struct reply *reply)
 {
-    unsigned char bytes[FRAME_LENGTH] = {0};
+    memset(bytes, 0, FRAME_LENGTH);
     bytes[0] = (unsigned char)kind;
     bytes[1] = (unsigned char)reply->status;
     if (is_good(reply->status)) {
@@ -198,7 +243,18 @@ static bool write_reply(FILE *replies, int kind, const struct reply *reply)
         write_number(bytes + 8, 8, reply->first);
         write_number(bytes + 16, 8, reply->second);
     }
-    return fwrite(bytes, 1, FRAME_LENGTH, replies) == FRAME_LENGTH && fflush(replies) == 0;
+}
+
+/* So many replies to a frame, in one piece. */
+static bool write_replies(FILE *replies, const struct frame *frame, const struct reply *given, int count)
+{
+    unsigned char bytes[FRAME_LENGTH * (MOST_CALLS + 1)] = {BATCH};
+    write_number(bytes + 4, 4, (uint64_t)count);
+    for (int i = 0; i < count; i++)
+        put_reply(bytes + FRAME_LENGTH * (i + 1), frame->calls[i].kind, &given[i]);
+    size_t skipped = frame->is_batch ? 0 : FRAME_LENGTH;
+    size_t length = (size_t)FRAME_LENGTH * (size_t)(count + 1) - skipped;
+    return fwrite(bytes + skipped, 1, length, replies) == length && fflush(replies) == 0;
 }
 
 /* ---- The FMU */
@@ -518,7 +574,7 @@ static bool is_to_log(void)
 }
 
 /* fmi3InstantiateCoSimulation (2.3): without a window and intermediate update. */
-static fmi3Status instantiate(const struct call *call)
+static fmi3Status instantiate(const struct call *call, struct reply *reply)
 {
     if (instance != NULL)
         return complain("there is an instance already", "");
@@ -536,6 +592,7 @@ static fmi3Status instantiate(const struct call *call)
         (call->reference & EARLY_RETURN_ALLOWED) != 0, NULL, 0, name, log_message, NULL);
     free(root);
     free(resources);
+    reply->flags = (call->reference & BATCHES_ASKED_FOR) != 0 ? BATCHES_TAKEN : 0;
     return instance != NULL ? fmi3OK : complain("the FMU gave no instance", "");
 }
 
@@ -758,7 +815,7 @@ static fmi3Status free_instance(void)
 static fmi3Status answer(const struct call *call, struct reply *reply)
 {
     if (call->kind == INSTANTIATE)
-        return instantiate(call);
+        return instantiate(call, reply);
     if (instance == NULL)
         return complain("there is no instance", "");
     switch (call->kind) {
@@ -939,23 +996,31 @@ int main(int count, char **words)
         complain("can't set up its streams", "");
         return 1;
     }
-    for (struct call call;;) {
-        switch (read_call(calls, &call)) {
+    static struct frame frame;
+    for (;;) {
+        switch (read_frame(calls, &frame)) {
         case THE_END: await_answer(true); return 0;
         case NO_FRAME: complain("the input is no frame", ""); return 1;
-        case A_CALL: break;
+        case A_FRAME: break;
         }
-        await_answer(true);
-        struct reply reply = {fmi3OK, 0, 0, 0, 0};
-        fmi3Status status = answer(&call, &reply);
-        if (is_child)
-            _exit(1); /* the call came back in a child too, which has nobody to answer, and nothing of the FMU to end */
-        bool is_known = status >= fmi3OK && status <= fmi3Fatal;
-        reply.status = is_known ? status : complain("a status that FMI doesn't have", "");
-        if (!write_reply(replies, call.kind, &reply))
+        static struct reply given[MOST_CALLS];
+        int count = 0;
+        do { /* the calls of a batch in their order, up to the first whose answer isn't good */
+            await_answer(true);
+            struct reply *reply = &given[count];
+            *reply = (struct reply){fmi3OK, 0, 0, 0, 0};
+            fmi3Status status = answer(&frame.calls[count], reply);
+            if (is_child)
+                _exit(1); /* the call came back in a child too, which has nobody to answer, and nothing of the FMU to end */
+            bool is_known = status >= fmi3OK && status <= fmi3Fatal;
+            reply->status = is_known ? status : complain("a status that FMI doesn't have", "");
+            count++;
+        } while (count < frame.count && is_good(given[count - 1].status));
+        if (!write_replies(replies, &frame, given, count))
             return 1;
-        await_answer(call.kind == FREE_INSTANCE); /* its own end may take no longer either: the library may hang in it */
-        if (call.kind == FREE_INSTANCE)
+        bool is_last = frame.calls[0].kind == FREE_INSTANCE;
+        await_answer(is_last); /* its own end may take no longer either: the library may hang in it */
+        if (is_last)
             return 0;
     }
 }

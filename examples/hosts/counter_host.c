@@ -4,7 +4,8 @@
  *     cc -std=c99 -o counter_host counter_host.c
  *     counter_host DIR R
  *
- * It reads the calls of ssprun on standard input and answers each on standard output with a reply of 24 bytes.
+ * It reads the calls of ssprun on standard input and answers each on standard output with a reply of 24 bytes, or a batch
+ * of calls with a batch of replies.
  * docs/HOST_PROTOCOL.md describes them. To write a host of your own, copy this file and put your model in the place of
  * the part "The model"; what stands above it reads and writes frames and can stay as it is.
  *
@@ -55,6 +56,12 @@ enum type {
 
 /* Flags in the reply to DoStep. */
 enum { EVENT_NEEDED = 1, TERMINATE_SIMULATION = 2, EARLY_RETURN = 4 };
+
+/* The bit of Instantiate that asks for batches, and the flag in its reply that says that they are taken. */
+enum { BATCHES_ASKED_FOR = 4, BATCHES_TAKEN = 1 };
+
+/* The first byte of a batch, and the most calls in it. */
+enum { BATCH = 19, MOST_CALLS = 64 };
 
 #define FRAME_LENGTH 24
 #define LONGEST_TEXT (UINT64_C(1) << 24)
@@ -130,7 +137,14 @@ static uint64_t wrapped(int type, uint64_t word)
     return is_negative ? word | ~ones : word & ones;
 }
 
-enum input { A_CALL, THE_END, NO_FRAME };
+enum input { A_FRAME, THE_END, NO_FRAME };
+
+/* What comes in one frame: a call, or a batch of calls, all of which read variables or all of which set them. */
+struct frame {
+    bool is_batch;
+    int count;
+    struct call calls[MOST_CALLS];
+};
 
 /* Passes over a text. This host has no use for the instance's name and token, and doesn't look if they are UTF-8. */
 static bool skip_text(uint64_t length)
@@ -140,15 +154,9 @@ static bool skip_text(uint64_t length)
     return length == 0;
 }
 
-/* Reads the next call from standard input. */
-static enum input read_call(struct call *call)
+/* Takes the call of 24 bytes; false where they are none. */
+static bool take_call(const unsigned char *bytes, struct call *call)
 {
-    unsigned char bytes[FRAME_LENGTH];
-    size_t length = fread(bytes, 1, FRAME_LENGTH, stdin);
-    if (length == 0)
-        return THE_END;
-    if (length < FRAME_LENGTH)
-        return NO_FRAME;
     call->kind = bytes[0];
     call->type = bytes[1];
     call->reference = (uint32_t)read_number(bytes + 4, 4);
@@ -156,38 +164,87 @@ static enum input read_call(struct call *call)
     call->second = read_number(bytes + 16, 8);
 
     if (call->kind < INSTANTIATE || call->kind > FREE_INSTANCE)
-        return NO_FRAME;
+        return false;
     const struct layout *layout = &layouts[call->kind];
     if ((!layout->type && call->type != 0) || bytes[2] != 0 || bytes[3] != 0)
-        return NO_FRAME;
+        return false;
     if ((!layout->reference && call->reference != 0) || (!layout->first && call->first != 0) ||
         (!layout->second && call->second != 0))
-        return NO_FRAME;
+        return false;
     if (layout->type && (call->type < INT8 || call->type > ENUMERATION))
-        return NO_FRAME;
-    if (call->kind == SET && call->first != wrapped(call->type, call->first))
-        return NO_FRAME;
-
-    if (call->kind == INSTANTIATE) {
-        if (call->reference > 3 || call->first == 0 || call->first > LONGEST_TEXT || call->second > LONGEST_TEXT)
-            return NO_FRAME;
-        if (!skip_text(call->first) || !skip_text(call->second))
-            return NO_FRAME;
-    }
-    return A_CALL;
+        return false;
+    if (call->kind == INSTANTIATE &&
+        (call->reference > 7 || call->first == 0 || call->first > LONGEST_TEXT || call->second > LONGEST_TEXT))
+        return false;
+    return call->kind != SET || call->first == wrapped(call->type, call->first);
 }
 
-/* Writes the reply to a call on standard output. ssprun sends the next call only behind it, so it leaves at once. */
-static bool write_reply(int kind, const struct reply *reply)
+/* Reads the calls of a batch with this head. */
+static enum input read_batch(const unsigned char *head, struct frame *frame)
 {
-    unsigned char bytes[FRAME_LENGTH] = {0};
+    unsigned char bytes[FRAME_LENGTH * MOST_CALLS], expected[FRAME_LENGTH] = {BATCH};
+    uint32_t count = (uint32_t)read_number(head + 4, 4);
+    write_number(expected + 4, 4, count);
+    if (count < 1 || count > MOST_CALLS || memcmp(head, expected, FRAME_LENGTH) != 0)
+        return NO_FRAME;
+    if (fread(bytes, FRAME_LENGTH, count, stdin) < count)
+        return NO_FRAME;
+    for (uint32_t i = 0; i < count; i++) {
+        struct call *call = &frame->calls[i];
+        if (!take_call(bytes + i * FRAME_LENGTH, call) || (call->kind != GET && call->kind != SET) ||
+            call->kind != frame->calls[0].kind)
+            return NO_FRAME;
+    }
+    frame->is_batch = true;
+    frame->count = (int)count;
+    return A_FRAME;
+}
+
+/* Reads the next frame from standard input. */
+static enum input read_frame(struct frame *frame)
+{
+    unsigned char bytes[FRAME_LENGTH];
+    size_t length = fread(bytes, 1, FRAME_LENGTH, stdin);
+    if (length == 0)
+        return THE_END;
+    if (length < FRAME_LENGTH)
+        return NO_FRAME;
+    if (bytes[0] == BATCH)
+        return read_batch(bytes, frame);
+    struct call *call = &frame->calls[0];
+    if (!take_call(bytes, call))
+        return NO_FRAME;
+    if (call->kind == INSTANTIATE && (!skip_text(call->first) || !skip_text(call->second)))
+        return NO_FRAME;
+    frame->is_batch = false;
+    frame->count = 1;
+    return A_FRAME;
+}
+
+static void put_reply(unsigned char *bytes, int kind, const struct reply *reply)
+{
+    memset(bytes, 0, FRAME_LENGTH);
     bytes[0] = (unsigned char)kind;
     bytes[1] = (unsigned char)reply->status;
     bytes[2] = (unsigned char)reply->flags;
     write_number(bytes + 4, 4, reply->qualifier);
     write_number(bytes + 8, 8, reply->first);
     write_number(bytes + 16, 8, reply->second);
-    return fwrite(bytes, 1, FRAME_LENGTH, stdout) == FRAME_LENGTH && fflush(stdout) == 0;
+}
+
+/*
+ * Writes so many replies to a frame on standard output: to a batch with a head that counts them. ssprun sends the next
+ * frame only behind them, so they leave at once.
+ */
+static bool write_replies(const struct frame *frame, const struct reply *given, int count)
+{
+    unsigned char bytes[FRAME_LENGTH * (MOST_CALLS + 1)] = {BATCH};
+    write_number(bytes + 4, 4, (uint64_t)count);
+    for (int i = 0; i < count; i++)
+        put_reply(bytes + FRAME_LENGTH * (i + 1), frame->calls[i].kind, &given[i]);
+    size_t skipped = frame->is_batch ? 0 : FRAME_LENGTH;
+    size_t length = (size_t)FRAME_LENGTH * (size_t)(count + 1) - skipped;
+    return fwrite(bytes + skipped, 1, length, stdout) == length && fflush(stdout) == 0;
 }
 
 /* ---- The model: each step adds `inc` to a count, and `y` shows it */
@@ -273,10 +330,18 @@ static struct reply free_saved(struct counter *counter)
     return done;
 }
 
+static struct reply instantiate(uint32_t asked_for)
+{
+    struct reply reply = done;
+    reply.flags = (asked_for & BATCHES_ASKED_FOR) != 0 ? BATCHES_TAKEN : 0;
+    return reply;
+}
+
 /* Does what a call asks for. */
 static struct reply answer(struct counter *counter, const struct call *call)
 {
     switch (call->kind) {
+    case INSTANTIATE: return instantiate(call->reference);
     case DO_STEP: return do_step(counter, call->first, call->second);
     case GET: return get(counter, call->type, call->reference);
     case SET: return set(counter, call->reference, call->first);
@@ -378,21 +443,26 @@ int main(int count, char **words)
     counter.long_step = find_start(description, LONG);
     free(description);
 
-    struct call call;
+    static struct frame frame;
+    static struct reply given[MOST_CALLS];
     for (;;) {
-        switch (read_call(&call)) {
+        switch (read_frame(&frame)) {
         case THE_END:
             return 0;
         case NO_FRAME:
             fprintf(stderr, "counter_host: the input is no frame\n");
             return 1;
-        case A_CALL:
+        case A_FRAME:
             break;
         }
-        struct reply reply = answer(&counter, &call);
-        if (!write_reply(call.kind, &reply))
+        int count = 0;
+        do { /* the calls of a batch in their order, up to the first whose answer isn't good */
+            given[count] = answer(&counter, &frame.calls[count]);
+            count++;
+        } while (count < frame.count && given[count - 1].status <= WARNING);
+        if (!write_replies(&frame, given, count))
             return 1;
-        if (call.kind == FREE_INSTANCE)
+        if (frame.calls[0].kind == FREE_INSTANCE)
             return 0;
     }
 }

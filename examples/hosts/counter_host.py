@@ -3,7 +3,8 @@
 
     counter_host.py DIR R
 
-It reads the calls of ssprun on standard input and answers each on standard output with a reply of 24 bytes.
+It reads the calls of ssprun on standard input and answers each on standard output with a reply of 24 bytes, or a batch
+of calls with a batch of replies.
 docs/HOST_PROTOCOL.md describes them. To write a host of your own, copy this file and put your model in the place of
 the class Counter; what stands above it reads and writes frames and can stay as it is.
 
@@ -71,6 +72,14 @@ EVENT_NEEDED = 1
 TERMINATE_SIMULATION = 2
 EARLY_RETURN = 4
 
+# The bit of Instantiate that asks for batches, and the flag in its reply that says that they are taken.
+BATCHES_ASKED_FOR = 4
+BATCHES_TAKEN = 1
+
+# The first byte of a batch, and the most calls in it.
+BATCH = 19
+MOST_CALLS = 64
+
 # Kind, type or status, flags, 0, reference or qualifier, and two numbers of 8 bytes: 24 bytes, big-endian.
 FRAME = struct.Struct(">BBBBIQQ")
 
@@ -136,11 +145,8 @@ def read_text(stream, length):
         raise NoFrame("a text isn't UTF-8") from error
 
 
-def read_call(stream):
-    """The next call, or None at the end of the input."""
-    data = read_bytes(stream, FRAME.size)
-    if not data:
-        return None
+def take_call(data):
+    """The call of 24 bytes, without its texts."""
     number, type_number, flags, zero, reference, first, second = FRAME.unpack(data)
     if number not in list(Kind):
         raise NoFrame(f"no kind has the number {number}")
@@ -157,11 +163,36 @@ def read_call(stream):
     if call.kind == Kind.SET and word_of(value_of(type_number, first)) != first:
         raise NoFrame("the word of a Set isn't one of its type")
 
+    if call.kind == Kind.INSTANTIATE and (reference > 7 or not 1 <= first <= LONGEST_TEXT or second > LONGEST_TEXT):
+        raise NoFrame("Instantiate has unknown flags or a length past its limit")
+    return call
+
+
+def read_batch(stream, head):
+    """The calls of a batch with this head: all of which read variables, or all of which set them."""
+    count = int.from_bytes(head[4:8], "big")
+    if not 1 <= count <= MOST_CALLS or head != FRAME.pack(BATCH, 0, 0, 0, count, 0, 0):
+        raise NoFrame("a head with the kind 19 has a count from 1 to 64, and else zeros")
+    data = read_bytes(stream, count * FRAME.size)
+    if not data:
+        raise NoFrame("the input ends inside a frame")
+    calls = [take_call(data[i : i + FRAME.size]) for i in range(0, len(data), FRAME.size)]
+    if calls[0].kind not in (Kind.GET, Kind.SET) or any(call.kind != calls[0].kind for call in calls):
+        raise NoFrame("the calls of a batch are all Get, or all Set")
+    return calls
+
+
+def read_frame(stream):
+    """The next call, or a list of the calls of the next batch, or None at the end of the input."""
+    data = read_bytes(stream, FRAME.size)
+    if not data:
+        return None
+    if data[0] == BATCH:
+        return read_batch(stream, data)
+    call = take_call(data)
     if call.kind != Kind.INSTANTIATE:
         return call
-    if reference > 3 or not 1 <= first <= LONGEST_TEXT or second > LONGEST_TEXT:
-        raise NoFrame("Instantiate has unknown flags or a length past its limit")
-    return call._replace(name=read_text(stream, first), token=read_text(stream, second))
+    return call._replace(name=read_text(stream, call.first), token=read_text(stream, call.second))
 
 
 def reply(kind, status=Status.OK, flags=0, qualifier=0, first=0, second=0):
@@ -247,20 +278,33 @@ class Counter:
         if call.kind in (Kind.GET_CLOCK, Kind.SET_CLOCK, Kind.GET_INTERVAL, Kind.GET_SHIFT):
             return refused
 
+        if call.kind == Kind.INSTANTIATE:
+            return reply(call.kind, flags=BATCHES_TAKEN if call.reference & BATCHES_ASKED_FOR else 0)
+
         # The others only lead from one state to the next, and ssprun sends each where it may stand. An Update that is
         # answered without flags asks for no other instant.
         return reply(call.kind)
 
 
+def answer_batch(model, calls):
+    """The batch of the replies to these calls, up to the first that isn't good."""
+    replies = []
+    for call in calls:
+        replies.append(model.answer(call))
+        if replies[-1][1] > Status.WARNING:
+            break
+    return FRAME.pack(BATCH, 0, 0, 0, len(replies), 0, 0) + b"".join(replies)
+
+
 def serve(model, calls, replies):
-    """Answers each call with one reply, until the instance is freed or the input ends."""
+    """Answers each call with one reply, and each batch of calls with a batch, until the instance is freed or the input ends."""
     while True:
-        call = read_call(calls)
-        if call is None:
+        frame = read_frame(calls)
+        if frame is None:
             return
-        replies.write(model.answer(call))
-        replies.flush()  # ssprun sends the next call only behind this reply
-        if call.kind == Kind.FREE_INSTANCE:
+        replies.write(answer_batch(model, frame) if isinstance(frame, list) else model.answer(frame))
+        replies.flush()  # ssprun sends the next frame only behind this reply
+        if not isinstance(frame, list) and frame.kind == Kind.FREE_INSTANCE:
             return
 
 

@@ -8,7 +8,7 @@
 # compares the two.
 BEGIN {
     most = "4611686018427387904"
-    run = "resolution step stop start workers max-iterations host"
+    run = "resolution step stop start workers max-iterations link host"
     options["one"] = options["run"] = run
     options["check"] = "resolution"
     options["trace-check"] = ""
@@ -18,11 +18,12 @@ BEGIN {
     positionals["one"] = positionals["run"] = positionals["check"] = "DIR"
     positionals["trace-check"] = "DIR FILE"
     positionals["bench"] = "SEED N"
-    least_of["resolution"] = least_of["step"] = least_of["workers"] = least_of["max-iterations"] = "1"
+    least_of["resolution"] = least_of["step"] = least_of["workers"] = least_of["max-iterations"] = least_of["link"] = "1"
     least_of["stop"] = least_of["start"] = least_of["SEED"] = "0"
     least_of["N"] = "1"
     most_of["resolution"] = most_of["step"] = most_of["stop"] = most_of["start"] = most
     most_of["workers"] = "64"
+    most_of["link"] = "2"
     most_of["SEED"] = "2147483647"
     most_of["N"] = "256"
     most_of["max-iterations"] = "10000"
@@ -32,6 +33,7 @@ BEGIN {
     is["SEED"] = "what the system is drawn by"
     is["N"] = "components"
     is["max-iterations"] = "instants at a point"
+    is["link"] = "the version of the link"
 
     if (ARGC < 2) fault("a command is missing: one, run, check, trace-check or bench")
     command = ARGV[1]

@@ -142,7 +142,7 @@ content_of b shape n values (C.GetShift reference) =
 content_of b shape n values C.Update =
     A.Update (b.asks_again shape.variables n values) false
     (b.event_time shape.variables n values)
-content_of b shape n values (C.Instantiate event_mode early_return) = A.Instantiate
+content_of b shape n values (C.Instantiate event_mode early_return batches) = A.Instantiate false
 content_of b shape n values (C.EnterInitialization start stop) = A.EnterInitialization
 content_of b shape n values C.ExitInitialization = A.ExitInitialization
 content_of b shape n values C.EnterEvent = A.EnterEvent

@@ -47,7 +47,7 @@ keeps_mark : (b : Behaviour) (shape : Shape) (s : MachineState) (call : Call) �
 keeps_mark b shape s (C.EnterInitialization start stop) other = absurd (cc)
 keeps_mark b shape s C.ExitInitialization other = absurd (cc)
 keeps_mark b shape s (C.DoStep at size) other = refl
-keeps_mark b shape s (C.Instantiate event_mode early_return) other = refl
+keeps_mark b shape s (C.Instantiate event_mode early_return batches) other = refl
 keeps_mark b shape s C.EnterEvent other = refl
 keeps_mark b shape s C.EnterStep other = refl
 keeps_mark b shape s C.Update other = refl
@@ -181,7 +181,7 @@ own_is_lawful b shape own (C.GetClock reference) output s xs ys looked found mod
     ap (λ (x : ℤ). Done false (A.GetClock (word_of (wrapped Clock x))))
     (shown_same b shape own reference output s xs ys
     (same_Some reference output looked) found agree)
-own_is_lawful b shape own (C.Instantiate event_mode early_return) output s xs ys looked
+own_is_lawful b shape own (C.Instantiate event_mode early_return batches) output s xs ys looked
     found mode agree = refl
 own_is_lawful b shape own (C.EnterInitialization start stop) output s xs ys looked
     found mode agree = refl

@@ -159,7 +159,7 @@ impl BuiltInState {
             (values_in shape.now.variables self.now) call.now }
     {
         match *call {
-            Call::Instantiate { .. } => Content::Instantiate,
+            Call::Instantiate { .. } => Content::Instantiate { batches: false },
             Call::EnterInitialization { .. } => Content::EnterInitialization,
             Call::ExitInitialization => Content::ExitInitialization,
             Call::EnterEvent => Content::EnterEvent,

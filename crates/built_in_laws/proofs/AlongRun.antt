@@ -2,7 +2,7 @@
 use Rattle.std.proofs.Common.{◌≡◌, ℕ, ℤ, Bool, true, false, List, length, map, filter, Option, Some, None, if◌then◌else◌, refl, sym, ap, ◌∙◌, subst}
 use Rattle.std.specs.List.{IsDistinct, slice_get}
 use Rattle.std.specs.Option.{option_and_then, option_map, option_map_or}
-use Rattle.std.specs.Prelude.{nat_eq, position}
+use Rattle.std.specs.Prelude.{◌==◌, nat_eq, position}
 use Rattle.std.proofs.lemmas.List.{length-map}
 use Rattle.std.proofs.lemmas.Option.{same_Some, slice_get-map}
 use Rattle.value_types.specs.Shape.{is_input, variable_at}
@@ -97,7 +97,7 @@ module _ (r : Run) (sound : IsSound r.system) (i : ℕ) (c : Component) (b : Beh
 
   instantiated : AreFirstIn (I.instantiated r)
   instantiated s at =
-      let before = S.fmu_before r (I.first_states r) (λ k x m z. after m z (C.Instantiate x.shape.has_event_mode x.shape.might_return_early)) i c (machine_of b c.shape) s (record { component = of_c; machine = of_m; state = at }) in
+      let before = S.fmu_before r (I.first_states r) (λ k x m z. after m z (C.Instantiate x.shape.has_event_mode x.shape.might_return_early (r.plan.link == 2))) i c (machine_of b c.shape) s (record { component = of_c; machine = of_m; state = at }) in
       ap (λ (x : MachineState). x.values) before.is ∙ first before.before before.fmu.state
 
   configured : AreSetIn (I.configured r)

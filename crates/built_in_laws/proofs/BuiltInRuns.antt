@@ -39,7 +39,8 @@ answers b shape ends s (C.GetInterval reference) may untimed = absurd (cc)
 answers b shape ends s (C.GetShift reference) may untimed = absurd (cc)
 answers b shape ends s (C.DoStep at size) may untimed =
     good _ (step_right shape at size (b.asks_to_end shape.variables s.values size) (b.early_end shape s.values at size) may (ends s.values at size))
-answers b shape ends s (C.Instantiate event_mode early_return) may untimed = refl
+answers b shape ends s (C.Instantiate event_mode early_return true) may untimed = refl
+answers b shape ends s (C.Instantiate event_mode early_return false) may untimed = refl
 answers b shape ends s (C.EnterInitialization start stop) may untimed = refl
 answers b shape ends s C.ExitInitialization may untimed = refl
 answers b shape ends s C.EnterEvent may untimed = refl

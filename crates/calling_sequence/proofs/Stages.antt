@@ -61,7 +61,7 @@ pub by_walk : (e : Experiment) (p q : Place) → shown q ≡ [] → (mids news :
 by_walk e p q quiet mids news count rules past order values is leads (Ok x) w = λ v olds before h.
     on_quietly e olds before p mids news v count h w.log w.told q values (subst (λ (part : Part). Does e.system part values w.log) (sym is) w.says) (leads w.log) quiet
 by_walk e p q quiet mids news count rules past order values is leads (Err bad) w = λ v olds before h.
-    off e olds before p mids news v count h w.log w.told bad (subst (λ (part : Part). Falls e.system part bad w.log) (sym is) (values, w.says))
+    off e olds before p mids news v count h w.log w.told bad (subst (λ (part : Part). Falls e.system part bad w.log) (sym is) w.says)
 
 -- the same values, by another name
 pub walks_as : (system : System) (rules : Rules) (order : List ℕ) (mids news : List Instance) (r : Result (Unit {0}) BadAnswer) (a b c d : List (Option ℤ)) → a ≡ b → c ≡ d → Walks system rules a order c mids news r → Walks system rules b order d mids news r

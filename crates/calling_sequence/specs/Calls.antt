@@ -30,9 +30,9 @@ binding_from i (values ∷ lists) = sets_of i values ++ binding_from (i + 1) lis
 abbrev pub binding : Bound → List Asking
 binding bound = binding_from 0 bound.components
 
--- each instance is made
-abbrev pub making : System → List Asking
-making system = to_each instantiate_of (shapes_of system)
+-- each instance is made, over links of this version
+abbrev pub making : ℕ → System → List Asking
+making link system = to_each (instantiate_of link) (shapes_of system)
 
 -- each enters Initialization Mode, between the start and the stop of the plan
 abbrev pub entering : System → Plan → List Asking

@@ -17,6 +17,7 @@ use Rattle.fmu_peer.specs.declared.talk_room.TalkRoom.{TalkRoom}
 use Rattle.fmu_peer.specs.Machine.{Machine}
 use Rattle.fmu_peer.specs.Start.{SpawnerView}
 use Rattle.fmu_peer.specs.View.{View}
+use Rattle.fmu_link.specs.Batches.{GoAsAgreed}
 use Rattle.fmu_link.specs.Exchange.{Exchanged}
 use Rattle.fmu_link.specs.Piped.{line_view, piped_view}
 use Rattle.fmu_link.specs.Wire.{WireView, wire_view}
@@ -72,6 +73,16 @@ AnswersBy view (Child old) call result (Child new) =
     (line_view view old.value.peer) (line_view view new.value.peer) result
 AnswersBy view (BuiltIn old) call result (Child new) = ⊥
 AnswersBy view (Child old) call result (BuiltIn new) = ⊥
+
+-- of several calls: a child is sent them as was agreed, in one batch or one by one
+abbrev pub AnswersManyBy : {W : Type 0} → (W → WireView) → HostLink W → List Call → List Reply →
+    Result ℕ PeerFault → HostLink W → Type 0
+AnswersManyBy view (BuiltIn old) calls replies result (BuiltIn new) = Unit {0}
+AnswersManyBy view (Child old) calls replies result (Child new) =
+    GoAsAgreed old.value.peer.instance.takes_batches calls (line_view view old.value.peer)
+    (line_view view new.value.peer) replies result
+AnswersManyBy view (BuiltIn old) calls replies result (Child new) = ⊥
+AnswersManyBy view (Child old) calls replies result (BuiltIn new) = ⊥
 
 -- it is a built-in machine that keeps no talk
 abbrev pub KeepsNoTalk : {W : Type 0} → HostLink W → Type 0

@@ -2,8 +2,10 @@ ghost use Rattle.std.specs.Prelude.{◌≡◌, ◌↔◌, ◌≤◌, ◌^◌, If
 ghost use Rattle.std.specs.IoError.{error_kind};
 ghost use Rattle.fmi_calls.specs.Permission.{Permitted};
 ghost use Rattle.fmi_calls.specs.declared.phase.InstanceState.TheVariants.{Gone};
+ghost use Rattle.fmu_link.specs.Batches.{GoAsAgreed};
 ghost use Rattle.fmu_link.specs.Exchange.{Exchanged};
 ghost use Rattle.fmu_link.specs.Piped.{line_view};
+ghost use Rattle.fmu_peer.specs.Many.{AreOfOneSort, AskedMany, MayAskAll};
 ghost use Rattle.fmu_peer.specs.View.{Asked};
 ghost use Rattle.fmu_peer.specs.declared.spawner.StartFault.TheVariants.{Unknown};
 ghost use Rattle.child_hosts.specs.Links.{child_view, start_fault};
@@ -183,5 +185,22 @@ impl<W: Wire + Send> Peer for ChildFmu<W> {
             (line_view W.view self.new.peer) result }
     {
         self.peer.call(call)
+    }
+
+    #[inline(never)]
+    fn call_many(&mut self, calls: &[Call], replies: &mut [Reply]) -> Result<usize, PeerFault>
+        requires sort { AreOfOneSort calls.now }
+        requires places { length replies.old ≡ length calls.now }
+        requires may { MayAskAll self.old.peer.instance.shape self.old.peer.instance.phase
+            calls.now }
+        ensures places { length replies.new ≡ length calls.now }
+        ensures asked { AskedMany (child_view W.view self.old) calls.now replies.old replies.new
+            result (child_view W.view self.new) }
+
+        // Where batches were agreed, the child is sent the calls in one.
+        ensures agreed { GoAsAgreed self.old.peer.instance.takes_batches calls.now
+            (line_view W.view self.old.peer) (line_view W.view self.new.peer) replies.new result }
+    {
+        self.peer.call_many(calls, replies)
     }
 }

@@ -1,7 +1,8 @@
-ghost use Rattle.std.specs.Prelude.{IsOk};
+ghost use Rattle.std.specs.Prelude.{◌≡◌, IsOk, length};
 ghost use Rattle.fmi_calls.specs.Permission.{Permitted};
+ghost use Rattle.fmu_peer.specs.Many.{AreOfOneSort, AskedMany, MayAskAll};
 ghost use Rattle.fmu_peer.specs.View.{Asked};
-ghost use Rattle.child_hosts.specs.Links.{AnswersBy, KeepsNoTalk, link_view};
+ghost use Rattle.child_hosts.specs.Links.{AnswersBy, AnswersManyBy, KeepsNoTalk, link_view};
 
 use crate::ChildFmu;
 use bench_fmus::BuiltIn;
@@ -68,6 +69,22 @@ impl<W: Wire + Send> Peer for HostLink<W> {
         match self {
             HostLink::BuiltIn(peer) => return peer.call(call),
             HostLink::Child(peer) => return peer.call(call),
+        }
+    }
+
+    fn call_many(&mut self, calls: &[Call], replies: &mut [Reply]) -> Result<usize, PeerFault>
+        requires sort { AreOfOneSort calls.now }
+        requires places { length replies.old ≡ length calls.now }
+        requires may { MayAskAll (link_view W.view self.old).fixed.shape
+            (link_view W.view self.old).phase calls.now }
+        ensures places { length replies.new ≡ length calls.now }
+        ensures asked { AskedMany (link_view W.view self.old) calls.now replies.old replies.new
+            result (link_view W.view self.new) }
+        ensures answers { AnswersManyBy W.view self.old calls.now replies.new result self.new }
+    {
+        match self {
+            HostLink::BuiltIn(peer) => return peer.call_many(calls, replies),
+            HostLink::Child(peer) => return peer.call_many(calls, replies),
         }
     }
 }

@@ -1,5 +1,5 @@
 -- The command lines of the program: `one DIR --resolution R --step H --stop T [--start S] [--workers W]
--- [--max-iterations N] [--host PROGRAM]`, `run` with the same words behind it, `check DIR --resolution R`, `trace-check DIR FILE`,
+-- [--max-iterations N] [--link L] [--host PROGRAM]`, `run` with the same words behind it, `check DIR --resolution R`, `trace-check DIR FILE`,
 -- and `bench SEED N [--workers W]`.
 use Rattle.std.specs.Prelude.{◌≡◌, ℕ, ◌^◌, ◌<◌, ◌≤◌, Bool, true, false, List, [], ◌∷◌, map, find, Option, Some, None, if◌then◌else◌, codes, decimal, String, string_bytes}
 use Rattle.std.specs.Str.{bytes_eq}
@@ -64,6 +64,10 @@ start_row = count_row (codes "start") 0 (2 ^ 62) (Some 0)
 abbrev pub workers_row : CountRow
 workers_row = count_row (codes "workers") 1 64 (Some 1)
 
+-- the version of the link to an FMU in a process of its own
+abbrev pub link_row : CountRow
+link_row = count_row (codes "link") 1 2 (Some 1)
+
 -- the most instants at one point
 abbrev pub limit_row : CountRow
 limit_row = count_row (codes "max-iterations") 1 10000 (Some 100)
@@ -84,7 +88,7 @@ abbrev pub run_options : List OptionRow
 run_options =
     CountOption resolution_row ∷ CountOption step_row ∷ CountOption stop_row ∷
     CountOption start_row ∷ CountOption workers_row ∷ CountOption limit_row
-    ∷ TextOption host_row ∷ []
+    ∷ CountOption link_row ∷ TextOption host_row ∷ []
 
 -- a command with a directory and these options
 abbrev pub directory_row : Word → List OptionRow → CommandRow
@@ -233,6 +237,7 @@ pub record GivesPlan (get : Lookup) (plan : Plan) : Type 0 where
   pub start : Counts start_row (get start_row.name) plan.start
   pub limit : Counts limit_row (get limit_row.name) plan.limit
   pub workers : Counts workers_row (get workers_row.name) plan.workers
+  pub link : Counts link_row (get link_row.name) plan.link
   pub ordered : plan.start ≤ plan.stop
 
 -- a line of a run gives the directory, the host and the plan
@@ -300,11 +305,12 @@ run_in (One line) = Some line
 run_in (Run line) = Some line
 run_in (Check line) = None
 
--- the limits of a plan, of the counts that a second has and of the workers
+-- the limits of a plan, of the counts that a second has, of the workers and of the version of the link
 pub record IsWithin (plan : Plan) : Type 0 where
   pub resolution : (1 ≤ plan.resolution) × (plan.resolution ≤ 2 ^ 62)
   pub plan_is : IsPlan plan
   pub workers : (1 ≤ plan.workers) × (plan.workers ≤ 64)
+  pub link : (1 ≤ plan.link) × (plan.link ≤ 2)
 
 -- the counts of a line keep their limits
 abbrev pub KeepsLimits : Line → Type 0

@@ -1,7 +1,7 @@
 ghost use Rattle.std.specs.Prelude.{◌≡◌, ℕ, ◌≤◌, ◌^◌, IfOk, IfErr, IfSome, IsSomeAnd};
 ghost use Rattle.clap.specs.Words.{app_of, first_of, found_of, rows_of, subcommand_rows_of};
 ghost use Rattle.command_line.specs.App.{app_of_rows};
-ghost use Rattle.command_line.specs.Line.{AreFew, Asked, Asks, AsksBench, AsksCheck, AsksRun, AsksTrace, BenchLine, CheckLine, Counts, GivesPlan, IsAsked, IsLineOf, IsWithin, IsWithinLimits, Lookup, RunLine, TraceLine, asked_of, bench_of, check_of, commands, run_of, texts, trace_of, workers_row};
+ghost use Rattle.command_line.specs.Line.{AreFew, Asked, Asks, AsksBench, AsksCheck, AsksRun, AsksTrace, BenchLine, CheckLine, Counts, GivesPlan, IsAsked, IsLineOf, IsWithin, IsWithinLimits, Lookup, RunLine, TraceLine, asked_of, bench_of, check_of, commands, link_row, run_of, texts, trace_of, workers_row};
 ghost use Rattle.command_line.specs.Table.{GivesLine, SubAsks};
 ghost use Rattle.command_line.specs.Words.{Word};
 ghost use Rattle.command_line.specs.declared.fault.WordsFault.TheVariants.{NoLine};
@@ -17,13 +17,14 @@ use std::alloc::{AllocError, Global};
 use system_model::Plan;
 
 // The options of a run.
-const RUN_OPTIONS: [&str; 7] = [
+const RUN_OPTIONS: [&str; 8] = [
     "resolution",
     "step",
     "stop",
     "start",
     "workers",
     "max-iterations",
+    "link",
     "host",
 ];
 
@@ -35,6 +36,9 @@ const DEFAULT_LIMIT: u64 = 100;
 
 // The most workers.
 const MOST_WORKERS: u64 = 64;
+
+// The newest version of the link to an FMU in a process of its own.
+const NEWEST_LINK: u64 = 2;
 
 // The greatest seed and the most components of a generated system.
 const MOST_SEED: u64 = 2_147_483_647;
@@ -249,6 +253,18 @@ fn read_workers(matches: &ArgMatches<'_>) -> Option<u32>
     Some(workers as u32)
 }
 
+// The version of the link to hosts, which is 1 where no option says it.
+fn read_link(matches: &ArgMatches<'_>) -> Option<u32>
+    ensures ok { IfSome result
+        (Counts link_row (first_of link_row.name (rows_of (found_of matches.now)))) }
+    ensures only { (n : ℕ) →
+        Counts link_row (first_of link_row.name (rows_of (found_of matches.now))) n →
+        result ≡ Some n }
+{
+    let link = option_count(matches, "link", 1, NEWEST_LINK, Some(1))?;
+    Some(link as u32)
+}
+
 fn read_plan(matches: &ArgMatches<'_>) -> Option<Plan>
     ensures ok { IfSome result (GivesPlan (λ n. first_of n (rows_of (found_of matches.now)))) }
     ensures only { (plan : Plan) → GivesPlan (λ n. first_of n (rows_of (found_of matches.now)))
@@ -267,6 +283,7 @@ fn read_plan(matches: &ArgMatches<'_>) -> Option<Plan>
             Some(DEFAULT_LIMIT),
         )?,
         workers: read_workers(matches)?,
+        link: read_link(matches)?,
     };
     if plan.start <= plan.stop {
         Some(plan)

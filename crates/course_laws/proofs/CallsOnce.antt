@@ -216,10 +216,10 @@ module _ (system : System) (sound : IsSound system) (k : ℕ) (c : Component) (o
   own_each : (call : Shape → Call) → own k (to_each call (shapes_of system)) ≡ call c.shape ∷ []
   own_each call = own_there everyone call system k c of
 
-  made_so : IsSo (limit_at e Made) (own k (making system))
-  made_so =
-      let call = instantiate_of c.shape in
-      subst (IsSo (limit_at e Made)) (sym (own_each instantiate_of)) (record {
+  made_so : (link : ℕ) → IsSo (limit_at e Made) (own k (making link system))
+  made_so link =
+      let call = instantiate_of link c.shape in
+      subst (IsSo (limit_at e Made)) (sym (own_each (instantiate_of link))) (record {
         runs = All-cons IsRunCall call [] refl (All-nil IsRunCall);
         once = ((λ once. All-nil _), tt);
         seen = All-cons (IsSeen (limit_at e Made)) call [] (NamesNone refl refl tt) (All-nil (IsSeen (limit_at e Made)));
@@ -402,13 +402,13 @@ module _ (system : System) (sound : IsSound system) (k : ℕ) (c : Component) (o
 
     -- the calls that made it and those of a log
     abbrev upto : List Sent → List Call
-    upto log = own k (making system) ++ mine log
+    upto log = own k (making plan.link system) ++ mine log
 
     upto_on : (a b : List Sent) → upto a ++ mine b ≡ upto (a ++ b)
-    upto_on a b = append_assoc (own k (making system)) (mine a) (mine b) ∙ ap (λ (l : List Call). own k (making system) ++ l) (sym (own_log k a b))
+    upto_on a b = append_assoc (own k (making plan.link system)) (mine a) (mine b) ∙ ap (λ (l : List Call). own k (making plan.link system) ++ l) (sym (own_log k a b))
 
     course_so : (p : Place) (log : List Sent) (is : List Instant) → Course system bound plan p log is → IsLater p × AtPlace p (upto log)
-    course_so = along system bound plan (λ p log is. IsLater p × AtPlace p (upto log)) (tt, subst (IsSo (limit_at e Made)) (sym (append-nil (own k (making system)))) made_so)
+    course_so = along system bound plan (λ p log is. IsLater p × AtPlace p (upto log)) (tt, subst (IsSo (limit_at e Made)) (sym (append-nil (own k (making plan.link system)))) (made_so plan.link))
         (λ p q values front more is course so does leads. (
           later_on system plan p q values more leads so.0,
           subst (AtPlace q) (upto_on front more) (leads_so (upto front) p q values more leads so.0 so.1 (adds p (upto front) so.0 so.1) does),
@@ -429,17 +429,17 @@ module _ (system : System) (sound : IsSound system) (k : ℕ) (c : Component) (o
   abbrev all : List Sent → List Call
   all log = own k (askings log)
 
-  behind_made : (made log : List Sent) → IsAnswered (shapes_of system) (making system) made → AreNeeded (own k (making system) ++ all log) → AreNeeded (all (made ++ log))
-  behind_made made log answered so = subst AreNeeded (ap (λ (cs : List Call). cs ++ all log) (sym (ap (own k) answered.calls_are)) ∙ sym (own_log k made log)) so
+  behind_made : (link : ℕ) (made log : List Sent) → IsAnswered (shapes_of system) (making link system) made → AreNeeded (own k (making link system) ++ all log) → AreNeeded (all (made ++ log))
+  behind_made link made log answered so = subst AreNeeded (ap (λ (cs : List Call). cs ++ all log) (sym (ap (own k) answered.calls_are)) ∙ sym (own_log k made log)) so
 
   comes_needed : (bad : Option BadAnswer) (log : List Sent) → Comes system bad log → AreNeeded (all log)
-  comes_needed _ _ (Unmade bad log stops) =
+  comes_needed _ _ (Unmade link bad log stops) =
       let l = limit_at (e system sound k c of) Made in
-      needed_front l [] (all log) (own k stops.left) (subst (IsSo l) (ap (own k) stops.calls_are ∙ own_append k (askings log) stops.left) (made_so system sound k c of))
+      needed_front l [] (all log) (own k stops.left) (subst (IsSo l) (ap (own k) stops.calls_are ∙ own_append k (askings log) stops.left) (made_so system sound k c of link))
   comes_needed _ _ (Stands bound plan p made log is binds counts answered course halts) =
-      behind_made made log answered (needed_at system sound k c of bound plan binds p _ (course_so system sound k c of bound plan binds p log is course).1)
+      behind_made plan.link made log answered (needed_at system sound k c of bound plan binds p _ (course_so system sound k c of bound plan binds p log is course).1)
   comes_needed _ _ (Falling bound plan p bad made front more is binds counts answered course falls) =
-      behind_made made (front ++ more) answered (falls_needed system sound k c of bound plan binds p front more is bad course falls)
+      behind_made plan.link made (front ++ more) answered (falls_needed system sound k c of bound plan binds p front more is bad course falls)
 
 pub no_call_twice : NoCallTwice
 no_call_twice system bad log sound comes k within =

@@ -151,8 +151,8 @@ module _ (system : System) where
         (λ p q values front more is course good does leads. All-append (IsGoodOf ss) front more good (part_good (part_at system bound plan p) values more does))
 
 pub first_bad_answer : FirstBadAnswer
-first_bad_answer system _ _ sound (Unmade bad log stops) =
-    first_of_parts (shapes_of system) bad log (stops_badly (shapes_of system) bad [] log (All-nil (IsGoodOf (shapes_of system))) (making system) (those system everyone instantiate_of) stops)
+first_bad_answer system _ _ sound (Unmade link bad log stops) =
+    first_of_parts (shapes_of system) bad log (stops_badly (shapes_of system) bad [] log (All-nil (IsGoodOf (shapes_of system))) (making link system) (those system everyone (instantiate_of link)) stops)
 first_bad_answer system _ _ sound (Stands bound plan p made log is binds counts answered course halts) =
     good_part (shapes_of system) (made ++ log) (All-append (IsGoodOf (shapes_of system)) made log answered.good (course_good system bound plan sound binds p log is course))
 first_bad_answer system _ _ sound (Falling bound plan p bad made front more is binds counts answered course falls) =

@@ -28,7 +28,7 @@ shown_halts : (p : Place) (i : Instant) → shown p ≡ i ∷ [] → IsHalt p
 shown_halts (Seen s again asked) i shows = tt
 shown_halts p i shows = absurd (cc)
 
-module _ (system : System) (bound : Bound) (plan : Plan) (binds : BindsParameters system bound) (counts : CountsBy system plan) (made : List Sent) (answered : IsAnswered (shapes_of system) (making system) made) where
+module _ (system : System) (bound : Bound) (plan : Plan) (binds : BindsParameters system bound) (counts : CountsBy system plan) (made : List Sent) (answered : IsAnswered (shapes_of system) (making plan.link system) made) where
   abbrev ComesTo : RunEnd → List Sent → Type 0
   ComesTo end log = (bad : Option BadAnswer) × TellsEnd end bad × Comes system bad (made ++ log)
 

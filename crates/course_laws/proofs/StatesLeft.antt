@@ -530,8 +530,8 @@ module _ (system : System) where
   none_past : ArePast []
   none_past k d w = record { unheld = refl; freed = λ front e is frees. absurd (never front e [] (sym is)) }
 
-  made_past : (made : List Sent) → askings made ≡ making system → ArePast made
-  made_past made is = others_on [] made (λ k. mine k IsOther made (λ i. subst (λ (cs : List Asking). All IsOther (own i cs)) (sym is) (those system IsOther everyone instantiate_of (λ s. tt) i))) none_past
+  made_past : (link : ℕ) (made : List Sent) → askings made ≡ making link system → ArePast made
+  made_past link made is = others_on [] made (λ k. mine k IsOther made (λ i. subst (λ (cs : List Asking). All IsOther (own i cs)) (sym is) (those system IsOther everyone (instantiate_of link) (λ s. tt) i))) none_past
 
   -- ---- whatever talks they end
 
@@ -710,7 +710,7 @@ module _ (system : System) (sound : IsSound system) (bound : Bound) (plan : Plan
   halted (Agreed w m asked) halts log at = absurd halts
   halted p halts log at = past_left system log at
 
-  module _ (made : List Sent) (answered : IsAnswered (shapes_of system) (making system) made) where
+  module _ (made : List Sent) (answered : IsAnswered (shapes_of system) (making plan.link system) made) where
     record IsAt (p : Place) (log : List Sent) : Type 0 where
       later : IsLater p
       before : Before system (task p) log
@@ -718,7 +718,7 @@ module _ (system : System) (sound : IsSound system) (bound : Bound) (plan : Plan
 
     course_at : (p : Place) (log : List Sent) (is : List Instant) → Course system bound plan p log is → IsAt p (made ++ log)
     course_at = along system bound plan (λ p log is. IsAt p (made ++ log))
-        (subst (IsAt Made) (sym (append-nil made)) (record { later = tt; before = made_past system made answered.calls_are; good = answered.good }))
+        (subst (IsAt Made) (sym (append-nil made)) (record { later = tt; before = made_past system plan.link made answered.calls_are; good = answered.good }))
         (λ p q values front more is course at does leads.
         let good = part_good system (part_at system bound plan p) values more does in
         let sorts = does_all system (IsOf (sort_at p)) (part_at system bound plan p) (sorts_are system sound bound plan binds p) values more does in
@@ -767,9 +767,9 @@ one_or_not {X} n one other = by (n == 1) refl where
 
 -- where none might, or several
 several_left : (system : System) → IsSound system → early_count (shapes_of system) ≢ 1 → (bad : Option BadAnswer) (log : List Sent) → Comes system bad log → (talks : List Talk) → EndAs system log talks → (k : ℕ) (d : Shape) → k < length system.components → LeavesState talks (get_or (shapes_of system) k d) (part k log)
-several_left system sound several _ _ (Unmade bad log stops) talks ends k d w =
+several_left system sound several _ _ (Unmade link bad log stops) talks ends k d w =
     fell system several Keeping [] log bad (none_past system) (All-nil (IsGoodOf (shapes_of system)))
-    (λ i. mine system i IsOther log (falls_all system IsOther (Calls (making system)) (those system IsOther everyone instantiate_of (λ s. tt)) bad log stops)) talks ends k d w
+    (λ i. mine system i IsOther log (falls_all system IsOther (Calls (making link system)) (those system IsOther everyone (instantiate_of link) (λ s. tt)) bad log stops)) talks ends k d w
 several_left system sound several _ _ (Stands bound plan p made log is binds counts answered course halts) talks ends k d w =
     let at = course_at system sound bound plan binds several made answered p log is course in
     left_so system (made ++ log) talks ends (halted system sound bound plan binds several p halts (made ++ log) at.before) k d w

@@ -70,11 +70,11 @@ module _ (system : System) where
   stateless_on : (front more : List Sent) → Throughout system IsStateless front → Throughout system IsStateless more → Throughout system IsStateless (front ++ more)
   stateless_on front more f m i = subst (All IsStateless) (sym (own_log i front more)) (All-append IsStateless (own i (askings front)) (own i (askings more)) (f i) (m i))
 
-  made_stateless : (i : ℕ) → All IsStateless (own i (making system))
-  made_stateless = those system IsStateless everyone instantiate_of (λ s. tt)
+  made_stateless : (link i : ℕ) → All IsStateless (own i (making link system))
+  made_stateless link = those system IsStateless everyone (instantiate_of link) (λ s. tt)
 
-  made_all : (made : List Sent) → IsAnswered (shapes_of system) (making system) made → Throughout system IsStateless made
-  made_all made answered i = subst (λ (cs : List Asking). All IsStateless (own i cs)) (sym answered.calls_are) (made_stateless i)
+  made_all : (link : ℕ) (made : List Sent) → IsAnswered (shapes_of system) (making link system) made → Throughout system IsStateless made
+  made_all link made answered i = subst (λ (cs : List Asking). All IsStateless (own i cs)) (sym answered.calls_are) (made_stateless link i)
 
   weaken : (P Q : Call → Type 0) → ((c : Call) → P c → Q c) → (part : Part) → IsThroughout system P part → IsThroughout system Q part
   weaken P Q h (Calls calls) all = λ i. All-weaker P Q h (own i calls) (all i)
@@ -124,11 +124,11 @@ module _ (system : System) where
           ))
 
     pub comes_stateless : (bad : Option BadAnswer) (log : List Sent) → Comes system bad log → Throughout system IsStateless log
-    comes_stateless _ _ (Unmade bad log stops) = falls_all system IsStateless (Calls (making system)) made_stateless bad log stops
-    comes_stateless _ _ (Stands bound plan p made log is binds counts answered course halts) = stateless_on made log (made_all made answered) (course_stateless bound plan binds p log is course).1
+    comes_stateless _ _ (Unmade link bad log stops) = falls_all system IsStateless (Calls (making link system)) (made_stateless link) bad log stops
+    comes_stateless _ _ (Stands bound plan p made log is binds counts answered course halts) = stateless_on made log (made_all plan.link made answered) (course_stateless bound plan binds p log is course).1
     comes_stateless _ _ (Falling bound plan p bad made front more is binds counts answered course falls) =
         let at = course_stateless bound plan binds p front is course in
-        stateless_on made (front ++ more) (made_all made answered) (stateless_on front more at.1 (falls_stateless bound plan binds p at.0 bad more falls))
+        stateless_on made (front ++ more) (made_all plan.link made answered) (stateless_on front more at.1 (falls_stateless bound plan binds p at.0 bad more falls))
 
 pub nothing_saved : NothingSaved
 nothing_saved system bad log sound comes few k = subst (All IsStateless) (sym (own_calls k log)) (comes_stateless system sound few bad log comes k)

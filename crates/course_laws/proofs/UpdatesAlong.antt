@@ -198,13 +198,13 @@ module _ (system : System) (sound : IsSound system) (bound : Bound) (plan : Plan
     fallen (Leaving w) bad log a falls all = (still system front log a.m a.flag a.talks.table all).needed
     fallen p bad log a falls all = (still system front log a.m a.flag a.talks.table (no_of_quiet log all)).needed
 
-  module _ (made : List Sent) (answered : askings made ≡ making system) where
+  module _ (made : List Sent) (answered : askings made ≡ making plan.link system) where
     -- behind the calls that made the instances
     made_at : IsAt Made made
     made_at = record {
       m = 0;
       flag = false;
-      talks = quiet system [] made 0 false (nothing_yet system) (λ i. subst (λ (l : List Asking). All IsQuiet (own i l)) (sym answered) (those system IsQuiet everyone instantiate_of (λ s. tt) i));
+      talks = quiet system [] made 0 false (nothing_yet system) (λ i. subst (λ (l : List Asking). All IsQuiet (own i l)) (sym answered) (those system IsQuiet everyone (instantiate_of plan.link) (λ s. tt) i));
       besides = refl;
     }
 
@@ -220,8 +220,8 @@ module _ (system : System) (sound : IsSound system) (bound : Bound) (plan : Plan
         (fallen (made ++ front) p bad more (course_at p front is course).1 falls (λ i. All-weaker (IsOf (sort_at p)) (calls_from p) (calls_are p) (own i (askings more)) (falls_all system (IsOf (sort_at p)) (part_at system bound plan p) (sorts_are system sound bound plan binds p) bad more falls i)))
 
 comes_asked : (system : System) (bad : Option BadAnswer) (log : List Sent) → IsSound system → Comes system bad log → AreAskedFor (length system.components) (marks_in log)
-comes_asked system _ _ sound (Unmade bad log stops) =
-    let q = falls_all system IsQuiet (Calls (making system)) (those system IsQuiet everyone instantiate_of (λ s. tt)) bad log stops in
+comes_asked system _ _ sound (Unmade link bad log stops) =
+    let q = falls_all system IsQuiet (Calls (making link system)) (those system IsQuiet everyone (instantiate_of link) (λ s. tt)) bad log stops in
     (quiet system [] log 0 false (nothing_yet system) q).table.needed
 comes_asked system _ _ sound (Stands bound plan p made log is binds counts answered course halts) = (course_at system sound bound plan binds counts made answered.calls_are p log is course).1.talks.table.needed
 comes_asked system _ _ sound (Falling bound plan p bad made front more is binds counts answered course falls) = falls_asked system sound bound plan binds counts made answered.calls_are p bad front more is course falls

@@ -1,5 +1,5 @@
 -- How far a run has come by its log, for any replies, from the first Instantiate on (FMI 3.0, 4.2.1).
-use Rattle.std.specs.Prelude.{◌≡◌, List, ◌++◌, Option, Some, None}
+use Rattle.std.specs.Prelude.{◌≡◌, ℕ, List, ◌++◌, Option, Some, None}
 use Rattle.sim_base.specs.Sink.{SinkView}
 use Rattle.system_model.specs.declared.bound.Bound.{Bound}
 use Rattle.system_model.specs.declared.plan.Plan.{Plan}
@@ -27,16 +27,16 @@ IsHalt p = ⊥
 
 -- the log of a run of a system that came to a bad answer, or to none so far: an instance couldn't be made; or all were made, and with these parameters and this plan the run stands where it may stop, or came from there to that answer
 pub data Comes (system : System) : Option BadAnswer → List Sent → Type 0 where
-  Unmade : (bad : BadAnswer) (log : List Sent) →
-      StopsAt (shapes_of system) (making system) bad log → Comes system (Some bad) log
+  Unmade : (link : ℕ) (bad : BadAnswer) (log : List Sent) →
+      StopsAt (shapes_of system) (making link system) bad log → Comes system (Some bad) log
   Stands : (bound : Bound) (plan : Plan) (p : Place) (made log : List Sent) (is : List Instant) →
       BindsParameters system bound → CountsBy system plan →
-      IsAnswered (shapes_of system) (making system) made → Course system bound plan p log is →
+      IsAnswered (shapes_of system) (making plan.link system) made → Course system bound plan p log is →
       IsHalt p → Comes system None (made ++ log)
   Falling : (bound : Bound) (plan : Plan) (p : Place) (bad : BadAnswer)
       (made front more : List Sent) (is : List Instant) →
       BindsParameters system bound → CountsBy system plan →
-      IsAnswered (shapes_of system) (making system) made → Course system bound plan p front is →
+      IsAnswered (shapes_of system) (making plan.link system) made → Course system bound plan p front is →
       Falls system (part_at system bound plan p) bad more →
       Comes system (Some bad) (made ++ (front ++ more))
 
@@ -54,6 +54,6 @@ abbrev pub EndsCome : Type 0
 EndsCome =
     (system : System) (bound : Bound) (plan : Plan) (made log : List Sent) (is : List Instant)
     (end : RunEnd) (before after : SinkView) → BindsParameters system bound →
-    CountsBy system plan → IsAnswered (shapes_of system) (making system) made →
+    CountsBy system plan → IsAnswered (shapes_of system) (making plan.link system) made →
     EndsBy system bound plan log is end before after →
     (bad : Option BadAnswer) × TellsEnd end bad × Comes system bad (made ++ log)

@@ -1,13 +1,11 @@
 -- Which Clocks of a schedule are due at a point: those whose timers are.
-use Rattle.std.proofs.Common.{◌≡◌, ℕ, zero, suc, ◌+◌, ◌*◌, ◌<◌, ◌≤◌, Bool, true, false, List, [], ◌∷◌, Option, Some, None, refl, sym, ap, ◌∙◌, subst, arith, length, map, inl, inr, mul-le-mul_right}
+use Rattle.std.proofs.Common.{◌≡◌, ℕ, zero, suc, ◌+◌, ◌*◌, ◌<◌, ◌≤◌, Bool, true, false, List, [], ◌∷◌, Some, None, refl, sym, ap, ◌∙◌, subst, arith, length, map, inl, inr, mul-le-mul_right}
 use Rattle.std.specs.Prelude.{◌↔◌, ◌==◌, IsSomeAnd, IsTrue, slice_get}
 use Rattle.std.specs.Option.{option_map_or}
 use Rattle.std.proofs.lemmas.Bool.{cases_lt, eq-eqb, eqb-true}
 use Rattle.std.proofs.lemmas.Option.{same_Some, slice_get_within}
 use Rattle.system_model.specs.declared.system.System.{System}
-use Rattle.system_model.specs.Ports.{numbers}
-use Rattle.system_model.specs.Sound.{IsSound}
-use Rattle.system_model.proofs.CallerLemmas.{all_at, at_contains, true_false}
+use Rattle.system_model.proofs.CallerLemmas.{all_at, true_false}
 use Rattle.tick_schedule.specs.declared.clock.ClockState.{ClockState}
 use Rattle.tick_schedule.specs.declared.clock.ClockState.TheVariants as S
 use Rattle.tick_schedule.specs.Timetable.{IsToTick, TicksAt, Timetable}
@@ -17,14 +15,6 @@ use Rattle.event_iteration.specs.Clocks.{AreTicks, IsNextFrom, StandsAt, is_due_
 use Rattle.event_iteration.proofs.Fmus.{got}
 
 -- ---- one Clock
-
--- a tick that is still to be made isn't before the next
-next_least : (start t : ℕ) (is_first : Bool) (place : ClockState) → IsNextFrom start t is_first place → (point : ℕ) → IsToTick start place point → t ≤ point
-next_least start t is_first S.Unasked next point tick = absurd tick
-next_least start t true (S.Periodic interval shift ticks) next point tick = let a = next.0 in let b = tick.1 in omega (arith, a, b)
-next_least start t false (S.Periodic interval shift ticks) next point tick = let a = next.0 in let b = tick.1 in omega (arith, a, b)
-next_least start t is_first (S.Countdown None) next point tick = absurd (cc)
-next_least start t is_first (S.Countdown (Some armed)) next point tick = subst (λ n. t ≤ n) (same_Some _ _ tick) next
 
 -- it is due where it has a tick to make at the point
 due_to_tick : (start t : ℕ) (is_first : Bool) (place : ClockState) → IsNextFrom start t is_first place → IsToTick start place t → is_due_in start t place ≡ true
@@ -77,13 +67,6 @@ module _ (system : System) (t : ℕ) (is_first : Bool) (table : Timetable) (stan
   next_at : (p : ℕ) (place : ClockState) → slice_get table.clocks p ≡ Some place → IsNextFrom table.start t is_first place
   next_at p place is = all_at (IsNextFrom table.start t is_first) table.clocks p place stands.next is
 
-  pub none_below : (other point : ℕ) → TicksAt table other point → t ≤ point
-  none_below other point ticks = by (slice_get table.clocks other) refl ticks.1
-    where
-      by : (o : Option ClockState) → slice_get table.clocks other ≡ o → IsSomeAnd o (λ state. IsToTick table.start state point) → t ≤ point
-      by None is h = absurd h
-      by (Some place) is h = next_least table.start t is_first place (next_at other place is) point h
-
   -- what the schedule tells of a Clock
   told_due : (p : ℕ) (place : ClockState) → slice_get table.clocks p ≡ Some place → (b : Bool) → (IsTrue b ↔ TicksAt table p t) → b ≡ is_due_in table.start t place
   told_due p place is true told =
@@ -111,7 +94,3 @@ module _ (system : System) (t : ℕ) (is_first : Bool) (table : Timetable) (stan
         λ due. due_at table t p place is
             ∙ timer_due table.start t n is_first place count (next_at p place is) (subst (λ x. IsDue table.start x t n) (timer_at table.clocks p place is) due),
       )
-
-  -- the port whose turn it is has a place
-  pub place_within : IsSound system → (k p : ℕ) → slice_get (numbers system.instant_order) k ≡ Some p → p < length table.clocks
-  place_within sound k p at = subst (λ n. p < n) (sym stands.len) (sound.instant_order.only p (at_contains (numbers system.instant_order) k p at))

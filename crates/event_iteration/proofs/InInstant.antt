@@ -1,5 +1,5 @@
 -- The walk through an instant: each call of it is permitted, and each value is one of its port's type.
-use Rattle.std.proofs.Common.{◌≡◌, ◌⊎◌, inl, inr, ℕ, ◌<◌, ℤ, pos, Bool, true, false, not, List, [], ◌∷◌, ◌++◌, Option, Some, None, Err, Contains, refl, sym, ap, ◌∙◌, subst, append-nil, arith, length, get_or, Result, Ok}
+use Rattle.std.proofs.Common.{◌≡◌, ◌⊎◌, inl, inr, ℕ, ◌<◌, ℤ, pos, Bool, true, false, not, List, [], ◌∷◌, ◌++◌, Option, Some, None, Contains, refl, sym, ap, ◌∙◌, subst, append-nil, arith, length, get_or}
 use Rattle.std.specs.Prelude.{All, IfSome, ◌&&◌, ◌||◌, ◌==◌, if◌then◌else◌, is_some, option_map, slice_get}
 use Rattle.std.specs.List.{list_any}
 use Rattle.std.specs.Ordering.{int_eq}
@@ -44,13 +44,12 @@ use Rattle.system_model.specs.Values.{value, is_active, is_present}
 use Rattle.run_model.specs.Equations.{fed, value_in}
 use Rattle.run_model.specs.Machines.{AreFitting}
 use Rattle.run_model.proofs.CallerLemmas.{present_alike, reply_fits, none_in, push_cases}
-use Rattle.slot_calls.specs.declared.bad_answer.BadAnswer.{BadAnswer}
 use Rattle.slot_calls.specs.Log.{Sent, Told, part}
 use Rattle.slot_calls.specs.Stage.{shapes, shapes_of}
-use Rattle.slot_calls.proofs.CallerLemmas.{shapes_same, part_append}
+use Rattle.slot_calls.proofs.CallerLemmas.{part_append}
 use Rattle.event_iteration.specs.Instants.{BeginsInstant, HasPlacedClocks, asks_in_instant, in_instant, seen_or, takes_in_instant}
 use Rattle.event_iteration.specs.Questions.{AreActive, InstanceMode, mode_of, modes}
-use Rattle.event_iteration.specs.Turns.{IsPaired, MayAsk, MayTurn, TakesTurn, Turn, Walked, Stops, TurnSays}
+use Rattle.event_iteration.specs.Turns.{IsPaired, MayAsk, MayTurn, Turn, Walked}
 use Rattle.event_iteration.proofs.Activity.{active_by, active_by-append, active_keeps, any_from, any_some, length-active, marked_here, talks_active}
 use Rattle.event_iteration.proofs.Fmus.{exchanges_of, got, part_own_of}
 use Rattle.event_iteration.proofs.Marks.{unmarked}
@@ -392,17 +391,11 @@ module _ (system : System) (sound : IsSound system) (pre : List ℕ) (p : ℕ) (
 
 -- ---- a turn of the loop
 
-pub port_within : (system : System) → IsSound system → (k p : ℕ) → slice_get (numbers system.instant_order) k ≡ Some p → p < length system.ports
-port_within system sound k p is = sound.instant_order.only p (at_contains (numbers system.instant_order) k p is)
-
 module _ (system : System) (sound : IsSound system) (ticks : ℕ → Bool) (is_first : Bool) (before : List (Option ℤ)) (len : length before ≡ length system.ports) (fits : AreFitting system before)
     (olds mids : List Instance) (same : shapes olds ≡ shapes_of system) (begins : All (λ (x : Instance). BeginsInstant x.view) olds)
     (taken : List ℕ) (values : List (Option ℤ)) (log : List Sent) (told : Told log olds mids) (walked : Walked system (in_instant ticks is_first) before taken values log) where
   pub fits_now : AreFitting system values
   fits_now = (fits_along system (in_instant ticks is_first) (takes_fitting system sound ticks is_first) before len fits taken values log walked).1
-
-  pub shapes_mid : shapes mids ≡ shapes_of system
-  shapes_mid = shapes_same log olds mids told ∙ same
 
   calls : All (IsCallOf ReadsOrSets system taken) log
   calls = calls_of ReadsOrSets system (in_instant ticks is_first) (reads_or_sets system sound ticks is_first) before taken values log walked
@@ -458,9 +451,6 @@ module _ (system : System) (sound : IsSound system) (ticks : ℕ → Bool) (is_f
       ∙ ap (λ (xs : List Bool). is_marked c.shape xs port.reference) active
       ∙ active_along system sound ticks is_first before len taken [] values log (whole ∙ sym (append-nil taken)) walked port.component.0 c of old.view.phase.active room q port among is refl clock one
 
-  pub fits_until : {p : ℕ} {next : List (Option ℤ)} {news : List Instance} {bad : BadAnswer} → TakesTurn system (in_instant ticks is_first) p values next mids news (Err bad) → AreFitting system next
-  fits_until turn = subst (AreFitting system) (sym turn.says.2) fits_now
-
 -- each port's Clocks are ports
 pub clocks_placed : (system : System) → IsSound system → All (HasPlacedClocks (length system.ports)) system.ports
 clocks_placed system sound = all_by_place (HasPlacedClocks (length system.ports)) system.ports (λ p port is.
@@ -468,35 +458,3 @@ clocks_placed system sound = all_by_place (HasPlacedClocks (length system.ports)
     let there = clock_at system sound p port (place_of system sound p port is) clock.0
     (at_contains (numbers port.clocks) k clock.0 (slice_get-map (λ (x : PortId). x.0) port.clocks k ∙ ap (option_map (λ (x : PortId). x.0)) at)) in
     slice_get_within system.ports clock.0 there.clock there.is))
-
--- ---- a turn is about the tick of its own port
-
-module _ (system : System) (ticks : ℕ → Bool) (is_first : Bool) (p : ℕ) where
-  turn_by : {reply : Option Reply} {values next : List (Option ℤ)} {sent : List Sent} → Turn system (in_instant (λ q. ticks p) is_first) p reply values next sent → Turn system (in_instant ticks is_first) p reply values next sent
-  turn_by turn = record { port = turn.port; is = turn.is; component = turn.component; of = turn.of; paired = turn.paired; sent_is = turn.sent_is; next_is = turn.next_is }
-
-  stops_by : {bad : BadAnswer} {values : List (Option ℤ)} {last : Sent} → Stops system (in_instant (λ q. ticks p) is_first) p bad values last → Stops system (in_instant ticks is_first) p bad values last
-  stops_by stops = record {
-    port = stops.port;
-    is = stops.is;
-    component = stops.component;
-    of = stops.of;
-    asks = stops.asks;
-    sent_to = stops.sent_to;
-    told_of = stops.told_of;
-    why = stops.why;
-  }
-
-  says_by : (values next : List (Option ℤ)) (log : List Sent) (result : Result (Unit {0}) BadAnswer) → TurnSays system (in_instant (λ q. ticks p) is_first) p values next log result → TurnSays system (in_instant ticks is_first) p values next log result
-  says_by values next log (Ok x) (reply, turn) = (reply, turn_by turn)
-  says_by values next log (Err bad) (last, log_is, next_is, stops) = (last, log_is, next_is, stops_by stops)
-
-  -- the turn by this tick is that by the ticks of all
-  pub takes_by : (tick : Bool) → tick ≡ ticks p → (values next : List (Option ℤ)) (olds news : List Instance) (result : Result (Unit {0}) BadAnswer) → TakesTurn system (in_instant (λ q. tick) is_first) p values next olds news result →
-      TakesTurn system (in_instant ticks is_first) p values next olds news result
-  takes_by tick same values next olds news result turn =
-      let here = subst (λ b. TakesTurn system (in_instant (λ q. b) is_first) p values next olds news result) same turn in
-      record { log = here.log; told = here.told; says = says_by values next here.log result here.says }
-
-  pub may_by : (tick : Bool) → ticks p ≡ tick → (values : List (Option ℤ)) (is : List Instance) → MayTurn system (in_instant ticks is_first) p values is → MayTurn system (in_instant (λ q. tick) is_first) p values is
-  may_by tick same values is may = subst (λ b. MayTurn system (in_instant (λ q. b) is_first) p values is) same may

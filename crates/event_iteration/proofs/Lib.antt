@@ -28,3 +28,10 @@ pub mod OverMachines
 pub mod ClockTicks
 pub mod Activity
 pub mod WalkOnce
+pub mod Turned
+pub mod Hypothetical
+pub mod Gathering
+pub mod Steps
+pub mod Runs
+pub mod WalkNeeds
+pub mod ByWalk

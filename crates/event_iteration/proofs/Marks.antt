@@ -60,7 +60,7 @@ marked_beside shape marks a r other = by (place_of shape.variables a) refl (plac
     by (Some j) at_a (Some k) at_r = get_or-set_other marks j k true false (λ same. other (places_apart shape.variables r a j (at_r ∙ ap Some same) at_a))
 
 -- whatever the state, a Set leaves the mark of each other variable
-set_beside : (state : InstanceState) (shape : Shape) (marks : List Bool) (a r : ℕ) → (r ≡ a → ⊥) → is_marked shape (marks_after_set state shape marks a) r ≡ is_marked shape marks r
+pub set_beside : (state : InstanceState) (shape : Shape) (marks : List Bool) (a r : ℕ) → (r ≡ a → ⊥) → is_marked shape (marks_after_set state shape marks a) r ≡ is_marked shape marks r
 set_beside P.Event shape marks a r other = marked_beside shape marks a r other
 set_beside P.Step shape marks a r other = marked_beside shape marks a r other
 set_beside state shape marks a r other = refl

@@ -71,7 +71,7 @@ pub seen_fits : (port : Port) (reply : Option Reply) → IfSome (seen port reply
 seen_fits port None = tt
 seen_fits port (Some reply) = reply_fits port.kind reply
 
-taken_fits : (system : System) → IsSound system → (values : List (Option ℤ)) → AreFitting system values → (p : ℕ) (port : Port) → slice_get system.ports p ≡ Some port → (role : Role) → port.role ≡ role → (reply : Option Reply) →
+pub taken_fits : (system : System) → IsSound system → (values : List (Option ℤ)) → AreFitting system values → (p : ℕ) (port : Port) → slice_get system.ports p ≡ Some port → (role : Role) → port.role ≡ role → (reply : Option Reply) →
     IfSome (takes_initially role system.ports port values reply) (Fits port.kind)
 taken_fits system sound values fits p port is (Input (Some feed)) same reply =
     if_fits (is_set_from_feed system.ports port feed) port.kind (fed feed values) (fed_fits system sound values fits p feed.from.0 port is (ap source_of same))

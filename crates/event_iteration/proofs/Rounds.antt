@@ -1,8 +1,7 @@
 -- The loop over the stored order for Initialization.
-use Rattle.std.proofs.Common.{◌≡◌, ℕ, Bool, ◌<◌, ◌≤◌, ℤ, List, [], ◌∷◌, Option, Some, None, Err, refl, sym, ap, ◌∙◌, subst, arith, length, get_or, map, take}
-use Rattle.std.specs.Prelude.{All, IfSome, false, option_map, slice_get, true}
-use Rattle.std.specs.Option.{option_map_or}
-use Rattle.std.proofs.lemmas.List.{length-map, take_all}
+use Rattle.std.proofs.Common.{◌≡◌, ℕ, ◌<◌, ℤ, List, [], ◌∷◌, Option, Some, None, refl, sym, ap, ◌∙◌, subst, length, get_or, map}
+use Rattle.std.specs.Prelude.{All, IfSome, option_map, slice_get}
+use Rattle.std.proofs.lemmas.List.{length-map}
 use Rattle.std.proofs.lemmas.List.Elements.{All-cons, All-head, All-nil, All-tail}
 use Rattle.std.proofs.lemmas.Option.{get_or_from_slice_get, slice_get-get_or, slice_get-map, slice_get_within}
 use Rattle.value_types.specs.Values.{Fits}
@@ -12,17 +11,15 @@ use Rattle.fmu_peer.specs.CloseAll.{Instance}
 use Rattle.system_model.specs.declared.system.Component.{Component}
 use Rattle.system_model.specs.declared.system.Port.{Port}
 use Rattle.system_model.specs.declared.system.System.{System}
-use Rattle.system_model.specs.Needs.{is_unclocked, is_unclocked_at}
 use Rattle.system_model.specs.Ports.{numbers, source_of}
 use Rattle.system_model.specs.Sound.{IsSound}
-use Rattle.system_model.proofs.CallerLemmas.{all_by_place, at_contains, true_false, place_of, source_at}
+use Rattle.system_model.proofs.CallerLemmas.{all_by_place, place_of, source_at}
 use Rattle.run_model.specs.Machines.{AreFitting}
-use Rattle.slot_calls.specs.declared.bad_answer.BadAnswer.{BadAnswer}
 use Rattle.slot_calls.specs.Log.{Sent, Told}
 use Rattle.slot_calls.specs.Stage.{shapes, shapes_of}
 use Rattle.slot_calls.proofs.CallerLemmas.{map_at, shape_of, shapes_same}
-use Rattle.event_iteration.specs.Initialization.{AreReads, IsInitializing, IsPlaced, initially, no_values}
-use Rattle.event_iteration.specs.Turns.{MayTurn, TakesTurn, Walked}
+use Rattle.event_iteration.specs.Initialization.{IsInitializing, IsPlaced, initially, no_values}
+use Rattle.event_iteration.specs.Turns.{MayTurn, Walked}
 use Rattle.event_iteration.proofs.Permits.{Keeps, keeps, may_ask, still}
 use Rattle.event_iteration.proofs.Walking.{none_at}
 
@@ -32,9 +29,6 @@ use Rattle.event_iteration.proofs.Walking.{none_at}
 pub number_at : (order read : List PortId) (k : ℕ) (d : PortId) → read ≡ order → k < length read → slice_get (numbers order) k ≡ Some (get_or read k d).0
 number_at order read k d same lt =
     slice_get-map (λ (x : PortId). x.0) order k ∙ ap (option_map (λ (x : PortId). x.0)) (ap (λ xs. slice_get xs k) (sym same) ∙ slice_get-get_or read k d lt)
-
-pub whole_order : (order read : List PortId) (k : ℕ) → read ≡ order → length read ≤ k → take k (numbers order) ≡ numbers order
-whole_order order read k same le = take_all k (numbers order) (let n = length-map order (λ (x : PortId). x.0) in let e = ap length same in omega (arith, n, e, le))
 
 -- what holds of each slot's instance
 pub all_instances : {A B : Type 0} (f : A → B) (P : B → Type 0) (xs : List A) → All (λ (a : A). P (f a)) xs → All P (map f xs)
@@ -51,20 +45,7 @@ fits_none system p port is = subst (λ o. IfSome o (Fits port.kind)) (sym (none_
 
 -- ---- what a sound system gives
 
-unclocked_within : (ports : List Port) (p : ℕ) → is_unclocked_at ports p ≡ true → p < length ports
-unclocked_within ports p h = by (slice_get ports p) refl h
-  where
-    by : (o : Option Port) → slice_get ports p ≡ o → is_unclocked_at ports p ≡ true → p < length ports
-    by None e u = absurd (true_false (sym u ∙ ap (λ o. option_map_or is_unclocked o false) e))
-    by (Some port) e u = slice_get_within ports p port e
-
 module _ (system : System) (sound : IsSound system) where
-  pub port_within : (k p : ℕ) → slice_get (numbers system.initial_order) k ≡ Some p → p < length system.ports
-  port_within k p is = unclocked_within system.ports p (sound.initial_order.only p (at_contains (numbers system.initial_order) k p is))
-
-  pub reads_within : (reads : List Bool) → AreReads system reads → (k p : ℕ) → slice_get (numbers system.initial_order) k ≡ Some p → p < length reads
-  reads_within reads are k p is = subst (λ n. p < n) (sym are.places) (port_within k p is)
-
   pub sources_placed : All (IsPlaced (length system.ports)) system.ports
   sources_placed = all_by_place (IsPlaced (length system.ports)) system.ports (λ p port is. by p port is (source_of port.role) refl)
     where
@@ -95,6 +76,3 @@ module _ (system : System) (sound : IsSound system) where
         map_at shape_of mids port.component.0 x c.shape within here ∙ ap (λ (ss : List Shape). get_or ss port.component.0 c.shape) shapes_mid
         ∙ sym (map_at (λ (y : Component). y.shape) system.components port.component.0 c c.shape (slice_get_within system.components port.component.0 c of) (sym (get_or_from_slice_get system.components port.component.0 c c of))) in
         may_ask system sound values kept.fits p port is x.view state c of shape port.role refl
-
-    pub fits_until : {p : ℕ} {next : List (Option ℤ)} {news : List Instance} {bad : BadAnswer} → TakesTurn system (initially system) p values next mids news (Err bad) → AreFitting system next
-    fits_until turn = subst (AreFitting system) (sym turn.says.2) kept.fits

@@ -87,7 +87,7 @@ module _ (r : Run) (machines : AreMachines r) where
   first_all = record { machines = machines.count; states = length-map r.machines (λ (m : Machine). m.first) ∙ machines.count }
 
   pub made_all : AreAll r (I.instantiated r)
-  made_all = all_on r (I.first_states r) first_all (λ i c m s. after m s (instantiate_of c.shape))
+  made_all = all_on r (I.first_states r) first_all (λ i c m s. after m s (instantiate_of r.plan.link c.shape))
 
   pub configured_all : AreAll r (I.configured r)
   configured_all = all_on r (I.instantiated r) made_all (λ i c m s. I.with_bound m (I.bound_values r i) s)

@@ -20,7 +20,7 @@ use Rattle.slot_calls.specs.Log.{Sent, Told}
 use Rattle.slot_calls.specs.declared.bad_answer.BadAnswer.{BadAnswer}
 use Rattle.slot_calls.proofs.CallerLemmas.{told_on}
 use Rattle.event_iteration.specs.Turns.{IsPaired, Rules, Turn, Walked, Begun, Went, sent_of, TakesTurn}
-use Rattle.event_iteration.specs.Explains.{Explains, all_said, call_at, said, ExplainsUntil, Walks}
+use Rattle.event_iteration.specs.Explains.{Explains, all_said, call_at, said, Walks}
 
 -- ---- numbers
 
@@ -85,7 +85,7 @@ none_at (x ∷ ports) (suc q) = none_at ports q
 
 -- ---- what is said
 
-all_said-push : (system : System) (rules : Rules) (values : List (Option ℤ)) (replies : ℕ → Option Reply) (pre : List ℕ) (p : ℕ) →
+pub all_said-push : (system : System) (rules : Rules) (values : List (Option ℤ)) (replies : ℕ → Option Reply) (pre : List ℕ) (p : ℕ) →
     all_said system rules values replies (pre ++ p ∷ []) ≡ all_said system rules values replies pre ++ said system rules values replies p
 all_said-push system rules values replies [] p = append-nil (said system rules values replies p)
 all_said-push system rules values replies (x ∷ pre) p =
@@ -218,17 +218,20 @@ module _ (IsAmong : ℕ → Type 0) (NeedsOf : ℕ → ℕ → Type 0) (system :
     walked_until bad turn = record {
       log = log ++ turn.log;
       told = told_on olds mids news log turn.log told turn.told;
-      says = subst (λ vs. ExplainsUntil system rules before order bad vs (log ++ turn.log)) (sym turn.says.2) (record {
-        taken = take k order;
-        p = p;
-        rest = drop (k + 1) order;
-        order_is = split_order order k p at;
-        front = log;
-        last = turn.says.0;
-        log_is = ap (λ es. log ++ es) turn.says.1;
-        told = explained IsAmong NeedsOf system rules about before order ordered len (take k order) _ values log (split_order order k p at) walked;
-        stops = turn.says.3;
-      });
+      says = (
+        values,
+        record {
+          taken = take k order;
+          p = p;
+          rest = drop (k + 1) order;
+          order_is = split_order order k p at;
+          front = log;
+          last = turn.says.0;
+          log_is = ap (λ es. log ++ es) turn.says.1;
+          told = explained IsAmong NeedsOf system rules about before order ordered len (take k order) _ values log (split_order order k p at) walked;
+          stops = turn.says.3;
+        },
+      );
     }
 
   -- all turns were taken

@@ -57,12 +57,12 @@ pub record ExplainsUntil (system : System) (rules : Rules) (before : List (Optio
   pub told : Explains system rules before taken values front
   pub stops : Stops system rules p bad values last
 
--- a walk through the order, up to the first answer that isn't good
+-- a walk through the order, up to the first answer that isn't good. What the values are behind that is of no account: the log tells those up to it
 abbrev pub WalkSays : System → Rules → List (Option ℤ) → List ℕ → List (Option ℤ) → List Sent →
     Result (Unit {0}) BadAnswer → Type 0
 WalkSays system rules before order values log (Ok x) = Explains system rules before order values log
 WalkSays system rules before order values log (Err bad) =
-    ExplainsUntil system rules before order bad values log
+    (told : List (Option ℤ)) × ExplainsUntil system rules before order bad told log
 
 pub record Walks (system : System) (rules : Rules) (before : List (Option ℤ)) (order : List ℕ)
     (values : List (Option ℤ)) (olds news : List Instance)

@@ -1,5 +1,5 @@
 -- The turns of Initialization Mode (FMI 3.0, 4.2.1: Initialization Mode; SSP 1.0: connections).
-use Rattle.std.specs.Prelude.{◌≡◌, ℕ, ◌<◌, ℤ, Bool, ◌&&◌, if◌then◌else◌, List, length, map, Option, Some, None, IfSome, slice_index_or}
+use Rattle.std.specs.Prelude.{◌≡◌, ℕ, ◌<◌, ℤ, Bool, false, not, ◌&&◌, if◌then◌else◌, List, length, map, Option, Some, None, IfSome, slice_index_or}
 use Rattle.std.specs.Option.{option_map, option_and_then}
 use Rattle.fmi_calls.specs.declared.call.Call.{Call}
 use Rattle.fmi_calls.specs.declared.call.Call.TheVariants as C
@@ -36,6 +36,15 @@ asks_initially Output ports read port values =
 asks_initially (ClockInput feed) ports read port values = None
 asks_initially ClockOutput ports read port values = None
 asks_initially (TimeClock timing) ports read port values = None
+
+-- an input that isn't set from its source sends nothing
+abbrev pub is_silent_initially : Role → List Port → Port → Bool
+is_silent_initially (Input None) ports port = false
+is_silent_initially (Input (Some feed)) ports port = not (is_set_from_feed ports port feed)
+is_silent_initially Output ports port = false
+is_silent_initially (ClockInput feed) ports port = false
+is_silent_initially ClockOutput ports port = false
+is_silent_initially (TimeClock timing) ports port = false
 
 abbrev pub takes_initially : Role → List Port → Port → List (Option ℤ) → Option Reply → Option ℤ
 takes_initially (Input None) ports port values reply = None

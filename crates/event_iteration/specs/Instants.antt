@@ -1,5 +1,5 @@
 -- The turns of an instant (FMI 3.0, 4.2.1: Event Mode, Step Mode; 2.2.8: Clocks; SSP 1.0: connections). With event mode inputs are set to the values of their sources and outputs are read, and so are Clocks; without event mode outputs are read in the first instant of a point, and inputs take the values of their sources without a call.
-use Rattle.std.specs.Prelude.{◌≡◌, ℕ, ◌<◌, ℤ, pos, ◌==◌, ◌&&◌, Bool, true, if◌then◌else◌, All, List, length, Option, Some, None}
+use Rattle.std.specs.Prelude.{◌≡◌, ℕ, ◌<◌, ℤ, pos, ◌==◌, ◌&&◌, Bool, true, false, not, if◌then◌else◌, All, List, length, Option, Some, None}
 use Rattle.std.specs.Option.{option_map}
 use Rattle.sim_base.specs.declared.numbers.PortId.{PortId}
 use Rattle.fmi_calls.specs.declared.call.Call.{Call}
@@ -44,6 +44,15 @@ asks_in_instant ClockOutput port has_event_mode is_first ticks values =
     Some (C.GetClock port.reference)
 asks_in_instant (TimeClock timing) port has_event_mode is_first ticks values =
     if ticks then Some (C.SetClock port.reference) else None
+
+-- an input sends nothing, whatever its source's value is, where it is absent, and without event mode
+abbrev pub is_silent_in_instant : Role → Port → Bool → List (Option ℤ) → Bool
+is_silent_in_instant (Input feed) port has_event_mode values =
+    not (has_event_mode && is_present port values)
+is_silent_in_instant Output port has_event_mode values = false
+is_silent_in_instant (ClockInput feed) port has_event_mode values = false
+is_silent_in_instant ClockOutput port has_event_mode values = false
+is_silent_in_instant (TimeClock timing) port has_event_mode values = false
 
 -- the value that a reply carries, or the last where there is no reply
 abbrev pub seen_or : Port → Option ℤ → Option Reply → Option ℤ

@@ -10,3 +10,4 @@ pub mod Intervals
 pub mod Questions
 pub mod WalkCalls
 pub mod ByLog
+pub mod Waits

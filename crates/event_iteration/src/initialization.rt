@@ -9,12 +9,11 @@ ghost use Rattle.run_model.specs.Machines.{AreFitting};
 ghost use Rattle.slot_calls.specs.Slots.{LiveSlot, Stands, instances};
 ghost use Rattle.slot_calls.specs.Stage.{shapes, shapes_of};
 ghost use Rattle.event_iteration.specs.Explains.{Walks};
-ghost use Rattle.event_iteration.specs.Initialization.{AreReads, IsInitializing, IsPlaced, asks_initially, initially, is_set_from_feed, no_values, seen, takes_initially};
+ghost use Rattle.event_iteration.specs.Initialization.{AreReads, IsInitializing, IsPlaced, asks_initially, initially, is_set_from_feed, is_silent_initially, no_values, seen, takes_initially};
 ghost use Rattle.event_iteration.specs.Machines.{SolvesForMachines};
-ghost use Rattle.event_iteration.specs.Turns.{MayTurn, TakesTurn};
 
 use crate::InitialReads;
-use crate::turn::ask_if;
+use crate::walk::{Turns, walk};
 use fmi_calls::{Call, Reply};
 use fmu_peer::{Peer, Slot};
 use slot_calls::{BadAnswer, value_in};
@@ -69,6 +68,21 @@ fn call_of(ports: &[Port], port: &Port, is_read: bool, values: &[Option<i128>]) 
     }
 }
 
+// Whether an input sends nothing, whatever its source's value is.
+fn is_silent(ports: &[Port], port: &Port) -> bool
+    requires { IsPlaced (length ports.now) port.now }
+    ensures { result ≡ is_silent_initially port.now.role ports.now port.now }
+{
+    match port.role {
+        Role::Input { feed: Some(feed) } => !is_set_from(ports, port, feed),
+        Role::Input { feed: None }
+        | Role::Output
+        | Role::ClockInput { .. }
+        | Role::ClockOutput
+        | Role::TimeClock { .. } => false,
+    }
+}
+
 // The value that a port takes with this reply.
 fn value_of(
     ports: &[Port],
@@ -120,46 +134,43 @@ pub(crate) fn reply_value(port: &Port, reply: &Option<Reply>) -> Option<i128>
     }
 }
 
-// Takes a port in its turn.
-fn take<L: Peer>(
-    slots: &mut [Slot<L>],
-    system: &System,
-    is_read: bool,
-    values: &mut [Option<i128>],
-    p: usize,
-) -> Result<(), BadAnswer>
-    requires port { p < length system.now.ports }
-    requires read { is_read ≡ I.is_read system.now.ports p }
-    requires shapes { shapes (instances L.view slots.old) ≡ shapes_of system.now }
-    requires placed { All (IsPlaced (length system.now.ports)) system.now.ports }
-    requires there { All (λ (port : Port). port.component.0 < length system.now.components)
-        system.now.ports }
-    requires values { length values.old ≡ length system.now.ports }
-    requires live { All (LiveSlot L.view) slots.old }
-    requires may { MayTurn system.now (initially system.now) p values.old
-        (instances L.view slots.old) }
-    ensures live { OnOk result (All (LiveSlot L.view) slots.new) }
-    ensures turn { TakesTurn system.now (initially system.now) p values.old values.new
-        (instances L.view slots.old) (instances L.view slots.new) result }
-{
-    let ports = system.ports.as_slice();
-    let port = &ports[p];
-    let call = call_of(ports, port, is_read, values);
-    match ask_if(&mut slots[port.component.0 as usize], call) {
-        Ok(reply) => {
-            values[p] = value_of(ports, port, values, &reply);
-            Ok(())
-        }
-        Err(why) => Err(BadAnswer {
-            component: port.component,
-            why,
-        }),
+// The turns of Initialization Mode.
+#[derive(Drop)]
+struct Initially<'a> {
+    reads: &'a [bool],
+}
+
+impl<'a> Turns for Initially<'a> {
+    ghost rules = { λ i system. initially system };
+
+    ghost holds = { λ i system. AreReads system i.reads.now };
+
+    fn call_of(&self, system: &System, p: usize, values: &[Option<i128>]) -> Option<Call> {
+        let ports = system.ports.as_slice();
+        call_of(ports, &ports[p], self.reads[p], values)
+    }
+
+    fn is_silent(&self, system: &System, p: usize, _values: &[Option<i128>]) -> bool {
+        let ports = system.ports.as_slice();
+        is_silent(ports, &ports[p])
+    }
+
+    fn value_of(
+        &self,
+        system: &System,
+        p: usize,
+        values: &[Option<i128>],
+        _last: Option<i128>,
+        reply: &Option<Reply>,
+    ) -> Option<i128> {
+        let ports = system.ports.as_slice();
+        value_of(ports, &ports[p], values, reply)
     }
 }
 
 /// Finds the values of Initialization Mode, in the stored order (FMI 3.0, 4.2.1): it reads each output without Clocks
 /// that feeds an input without Clocks, and sets each such input to its source's value, up to the first answer that isn't
-/// good. What the values were before is of no account.
+/// good. Calls that read outputs of one FMU, or set inputs of it, and follow one another are handed on together, 64 at a time. What the values were before is of no account.
 pub fn initialize<L: Peer>(
     slots: &mut [Slot<L>],
     system: &System,
@@ -181,7 +192,7 @@ pub fn initialize<L: Peer>(
         (instances L.view slots.old) (instances L.view slots.new)) }
 {
     clear(values);
-    walk(slots, system, reads.as_slice(), values)
+    walk_all(slots, system, reads.as_slice(), values)
 }
 
 // Takes each value away.
@@ -194,7 +205,7 @@ fn clear(values: &mut [Option<i128>])
 }
 
 // Takes the ports without Clocks in the stored order, up to the first answer that isn't good.
-fn walk<L: Peer>(
+fn walk_all<L: Peer>(
     slots: &mut [Slot<L>],
     system: &System,
     reads: &[bool],
@@ -214,13 +225,15 @@ fn walk<L: Peer>(
     ensures solved { OnOk result (SolvesForMachines system.now values.new
         (instances L.view slots.old) (instances L.view slots.new)) }
 {
-    let order = system.initial_order.as_slice();
-    for k in 0..order.len() {
-        let p = order[k].0 as usize;
-        match take(slots, system, reads[p], values, p) {
-            Ok(()) => {}
-            Err(bad) => return Err(bad),
-        }
+    let turns = Initially { reads };
+    match walk(
+        slots,
+        system,
+        &turns,
+        system.initial_order.as_slice(),
+        values,
+    ) {
+        Ok(()) => Ok(()),
+        Err(bad) => Err(bad),
     }
-    Ok(())
 }

@@ -11,14 +11,14 @@ ghost use Rattle.slot_calls.specs.Slots.{LiveSlot, Stands, instances};
 ghost use Rattle.slot_calls.specs.Stage.{shapes, shapes_of};
 ghost use Rattle.event_iteration.specs.Explains.{Walks};
 ghost use Rattle.event_iteration.specs.Initialization.{IsPlaced};
-ghost use Rattle.event_iteration.specs.Instants.{BeginsInstant, HasPlacedClocks, SolvesInInstant, asks_in_instant, in_instant, is_read_in_instant, seen_or, takes_in_instant};
+ghost use Rattle.event_iteration.specs.Instants.{BeginsInstant, HasPlacedClocks, SolvesInInstant, asks_in_instant, in_instant, is_read_in_instant, is_silent_in_instant, seen_or, takes_in_instant};
 ghost use Rattle.event_iteration.specs.Clocks.{AreTicks, StandsAt, is_due_at, timers_in};
 ghost use Rattle.event_iteration.specs.Intervals.{TellsTicks};
 ghost use Rattle.event_iteration.specs.Questions.{AreActive, modes};
-ghost use Rattle.event_iteration.specs.Turns.{MayTurn, TakesTurn};
 
 use crate::initialization::set_call;
-use crate::turn::{ask_if, has_event_mode};
+use crate::turn::has_event_mode;
+use crate::walk::{Turns, walk};
 use fmi_calls::{Call, Reply};
 use fmu_peer::{Peer, Slot};
 use sim_base::PortId;
@@ -121,6 +121,18 @@ fn is_read(port: &Port, has_event_mode: bool, is_first: bool, values: &[Option<i
     }
 }
 
+// Whether an input sends nothing, whatever its source's value is.
+fn is_silent(port: &Port, has_event_mode: bool, values: &[Option<i128>]) -> bool
+    requires clocks { HasPlacedClocks (length values.now) port.now }
+    ensures { result ≡ is_silent_in_instant port.now.role port.now has_event_mode values.now }
+{
+    match port.role {
+        Role::Input { .. } => !(has_event_mode && is_present(port, values)),
+        Role::Output | Role::ClockInput { .. } | Role::ClockOutput | Role::TimeClock { .. } =>
+            false,
+    }
+}
+
 // The value that a port takes with this reply; last is the one that it has.
 fn value_of(
     port: &Port,
@@ -159,41 +171,43 @@ fn seen_or(port: &Port, last: Option<i128>, reply: &Option<Reply>) -> Option<i12
     }
 }
 
-// Takes a port in its turn.
-fn take<L: Peer>(
-    slots: &mut [Slot<L>],
-    system: &System,
+// The turns of an instant at a point, the first there or a later one.
+#[derive(Drop)]
+struct InInstant<'a> {
+    schedule: &'a Schedule,
+    t: u64,
     is_first: bool,
-    ticks: bool,
-    values: &mut [Option<i128>],
-    p: usize,
-) -> Result<(), BadAnswer>
-    requires port { p < length system.now.ports }
-    requires shapes { shapes (instances L.view slots.old) ≡ shapes_of system.now }
-    requires placed { All (IsPlaced (length system.now.ports)) system.now.ports }
-    requires clocks { All (HasPlacedClocks (length system.now.ports)) system.now.ports }
-    requires there { All (λ (port : Port). port.component.0 < length system.now.components)
-        system.now.ports }
-    requires values { length values.old ≡ length system.now.ports }
-    requires live { All (LiveSlot L.view) slots.old }
-    requires may { MayTurn system.now (in_instant (λ q. ticks) is_first) p values.old
-        (instances L.view slots.old) }
-    ensures live { OnOk result (All (LiveSlot L.view) slots.new) }
-    ensures turn { TakesTurn system.now (in_instant (λ q. ticks) is_first) p values.old values.new
-        (instances L.view slots.old) (instances L.view slots.new) result }
-{
-    let port = &system.ports.as_slice()[p];
-    let has_event_mode = has_event_mode(system, port.component);
-    let call = call_of(port, has_event_mode, is_first, ticks, values);
-    match ask_if(&mut slots[port.component.0 as usize], call) {
-        Ok(reply) => {
-            values[p] = value_of(port, ticks, values, values[p], &reply);
-            Ok(())
-        }
-        Err(why) => Err(BadAnswer {
-            component: port.component,
-            why,
-        }),
+}
+
+impl<'a> Turns for InInstant<'a> {
+    ghost rules = { λ i system. in_instant (is_due_at i.schedule.now i.t) i.is_first };
+
+    ghost holds = { λ i system. StandsAt system i.t i.is_first i.schedule.now };
+
+    fn call_of(&self, system: &System, p: usize, values: &[Option<i128>]) -> Option<Call> {
+        let port = &system.ports.as_slice()[p];
+        let ticks = plain::due(self.schedule, p, self.t);
+        let has_event_mode = has_event_mode(system, port.component);
+        call_of(port, has_event_mode, self.is_first, ticks, values)
+    }
+
+    fn is_silent(&self, system: &System, p: usize, values: &[Option<i128>]) -> bool {
+        let port = &system.ports.as_slice()[p];
+        let has_event_mode = has_event_mode(system, port.component);
+        is_silent(port, has_event_mode, values)
+    }
+
+    fn value_of(
+        &self,
+        system: &System,
+        p: usize,
+        values: &[Option<i128>],
+        last: Option<i128>,
+        reply: &Option<Reply>,
+    ) -> Option<i128> {
+        let port = &system.ports.as_slice()[p];
+        let ticks = plain::due(self.schedule, p, self.t);
+        value_of(port, ticks, values, last, reply)
     }
 }
 
@@ -201,7 +215,8 @@ fn take<L: Peer>(
 /// those of the instant before. With event mode it makes each input Clock active that ticks or whose source is active, asks
 /// each output Clock, sets each connected input that is present to its source's value and reads each output that is present;
 /// a port that is absent keeps its value. Without event mode it reads each output in the first instant at a point alone, and
-/// inputs take the values of their sources. It stops at the first answer that isn't good. The schedule has a place for each
+/// inputs take the values of their sources. Calls that read outputs of one FMU, or set inputs of it, and follow one another are
+/// handed on together, 64 at a time. It stops at the first answer that isn't good. The schedule has a place for each
 /// port and tells which time-based Clocks tick; `is_first` says that it is the first instant at the point, a count.
 pub fn instant<L: Peer>(
     slots: &mut [Slot<L>],
@@ -232,14 +247,19 @@ pub fn instant<L: Peer>(
         (SolvesInInstant system.now schedule.now t is_first values.old values.new
         (instances L.view slots.old) (instances L.view slots.new)) }
 {
-    let order = system.instant_order.as_slice();
-    for k in 0..order.len() {
-        let p = order[k].0 as usize;
-        let ticks = plain::due(schedule, p, t);
-        match take(slots, system, is_first, ticks, values, p) {
-            Ok(()) => {}
-            Err(bad) => return Err(bad),
-        }
+    let turns = InInstant {
+        schedule,
+        t,
+        is_first,
+    };
+    match walk(
+        slots,
+        system,
+        &turns,
+        system.instant_order.as_slice(),
+        values,
+    ) {
+        Ok(()) => Ok(()),
+        Err(bad) => Err(bad),
     }
-    Ok(())
 }

@@ -11,6 +11,7 @@ mod laws;
 mod reads;
 mod turn;
 mod updates;
+mod walk;
 mod walk_laws;
 
 pub use clocks::{fix_clocks, schedule_of};

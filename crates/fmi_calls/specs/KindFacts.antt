@@ -66,7 +66,7 @@ abbrev pub IsRunCall : Call → Type 0
 IsRunCall call = IsTrue (is_of_run (facts_of (kind_of call)).part)
 
 -- the call is one of those that save, restore and free a state
-abbrev is_of_saved_states : Part → Bool
+abbrev pub is_of_saved_states : Part → Bool
 is_of_saved_states SavedStates = true
 is_of_saved_states _ = false
 

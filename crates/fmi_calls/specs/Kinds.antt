@@ -15,7 +15,7 @@ use Rattle.std.specs.Prelude.{if◌then◌else◌}
 
 -- the kind of a call
 abbrev pub kind_of : Call → Kind
-kind_of (C.Instantiate event_mode early_return) = K.Instantiate
+kind_of (C.Instantiate event_mode early_return batches) = K.Instantiate
 kind_of (C.EnterInitialization start stop) = K.EnterInitialization
 kind_of C.ExitInitialization = K.ExitInitialization
 kind_of C.EnterEvent = K.EnterEvent
@@ -36,7 +36,7 @@ kind_of C.FreeInstance = K.FreeInstance
 
 -- the kind of what a reply carries
 abbrev pub kind_of_content : Content → Kind
-kind_of_content A.Instantiate = K.Instantiate
+kind_of_content (A.Instantiate batches) = K.Instantiate
 kind_of_content A.EnterInitialization = K.EnterInitialization
 kind_of_content A.ExitInitialization = K.ExitInitialization
 kind_of_content A.EnterEvent = K.EnterEvent

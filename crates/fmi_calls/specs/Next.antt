@@ -75,7 +75,7 @@ running_state shape = if shape.has_event_mode then Event else Step
 
 -- where a good reply leads: a Clock that is set or asked is marked, and active where it was set or answers so; an Update ends its instant and leaves no Clock active; it takes the marks away, as a step does and the way into Event Mode, so that an instant begins with none; Save fills the slot with the point and the marks, Restore brings them back and keeps the slot, Free empties it; what only reads leaves it
 abbrev pub entered : Shape → Phase → Call → Reply → Phase
-entered shape phase (C.Instantiate event_mode early_return) reply =
+entered shape phase (C.Instantiate event_mode early_return batches) reply =
     record phase { state = Instantiated }
 entered shape phase (C.EnterInitialization start stop) reply =
     record phase { state = Initialization; point = start; stop = stop }
@@ -131,7 +131,7 @@ after_bad_start Fatal = Lost
 -- where a bad reply leads; an instance that is freed is gone whatever the reply
 abbrev pub state_after_bad : InstanceState → Call → BadStatus → InstanceState
 state_after_bad state C.FreeInstance status = Gone
-state_after_bad state (C.Instantiate event_mode early_return) status = after_bad_start status
+state_after_bad state (C.Instantiate event_mode early_return batches) status = after_bad_start status
 state_after_bad state _ status = after_bad state status
 
 -- one more of a count that stays at its last value

@@ -173,7 +173,7 @@ KeepsState shape phase is_full =
 
 -- the call is permitted. Event Mode is left once an Update in it has asked for no other
 abbrev pub Permitted : Shape → Phase → Call → Type 0
-Permitted shape phase (C.Instantiate event_mode early_return) =
+Permitted shape phase (C.Instantiate event_mode early_return batches) =
     (phase.state ≡ Fresh) × (event_mode ≡ shape.has_event_mode) ×
     (early_return ≡ shape.might_return_early)
 Permitted shape phase (C.EnterInitialization start stop) =

@@ -58,12 +58,13 @@ abbrev pub is_interval : Option IntervalVariability → Interval → ℕ → Boo
 is_interval (Some Countdown) interval per_second = is_countdown_interval interval per_second
 is_interval _ interval per_second = is_known_interval interval per_second
 
--- of a reply of the call's kind with OK or Warning: whether it is one that the call may get
+-- of a reply of the call's kind with OK or Warning: whether it is one that the call may get. Batches are agreed only where they were asked for
 abbrev pub is_valid : Shape → Call → Content → Bool
 is_valid shape (C.DoStep at size) (A.DoStep event_needed terminate early end) =
     is_step_end shape at size early end
 is_valid shape (C.Get kind reference) (A.Get word) = is_some (word_value kind word)
-is_valid shape (C.Instantiate event_mode early_return) A.Instantiate = true
+is_valid shape (C.Instantiate event_mode early_return asked) (A.Instantiate agreed) =
+    asked || not agreed
 is_valid shape (C.EnterInitialization start stop) A.EnterInitialization = true
 is_valid shape C.ExitInitialization A.ExitInitialization = true
 is_valid shape C.EnterEvent A.EnterEvent = true

@@ -7,10 +7,11 @@ use value_types::PortType;
 /// A call of an FMU (FMI 3.0, 4.2). Points and sizes are counts over the resolution, a reference is a value reference.
 #[derive(Clone, Copy, Debug, PartialEq, Eq)]
 pub enum Call {
-    /// whether event mode is used and whether early return is allowed
+    /// whether event mode is used, whether early return is allowed, and whether the link asks for batches
     Instantiate {
         event_mode: bool,
         early_return: bool,
+        batches: bool,
     },
     EnterInitialization {
         start: u64,
@@ -110,7 +111,10 @@ pub enum Interval {
 /// What a reply with the status OK or Warning carries, by its kind.
 #[derive(Clone, Copy, Debug, PartialEq, Eq)]
 pub enum Content {
-    Instantiate,
+    /// whether the link takes batches
+    Instantiate {
+        batches: bool,
+    },
     EnterInitialization,
     ExitInitialization,
     EnterEvent,
@@ -201,7 +205,7 @@ impl Content {
         ensures { result ≡ kind_of_content self.now }
     {
         match self {
-            Content::Instantiate => Kind::Instantiate,
+            Content::Instantiate { .. } => Kind::Instantiate,
             Content::EnterInitialization => Kind::EnterInitialization,
             Content::ExitInitialization => Kind::ExitInitialization,
             Content::EnterEvent => Kind::EnterEvent,

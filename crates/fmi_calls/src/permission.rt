@@ -230,6 +230,7 @@ pub fn permitted(shape: &Shape, phase: &Phase, call: &Call) -> bool
         Call::Instantiate {
             event_mode,
             early_return,
+            batches: _,
         } => {
             phase.state == InstanceState::Fresh
                 && event_mode == shape.has_event_mode

@@ -22,7 +22,14 @@ pub fn valid(shape: &Shape, _phase: &Phase, call: &Call, content: &Content) -> b
             },
         ) => is_step_end(shape, at, size, early, end),
         (Call::Get { kind, reference: _ }, Content::Get { word }) => is_word(kind, word),
-        (Call::Instantiate { .. }, Content::Instantiate) => true,
+        (
+            Call::Instantiate {
+                event_mode: _,
+                early_return: _,
+                batches: asked,
+            },
+            Content::Instantiate { batches: agreed },
+        ) => asked || !agreed,
         (Call::EnterInitialization { .. }, Content::EnterInitialization) => true,
         (Call::ExitInitialization, Content::ExitInitialization) => true,
         (Call::EnterEvent, Content::EnterEvent) => true,

@@ -1,32 +1,74 @@
 -- A serving that fails raised the input's count or the output's, as the machine's never rises.
-use Rattle.std.proofs.Common.{◌≡◌, ◌⊎◌, inl, inr, ℕ, List, refl, ap, ◌∙◌, subst, arith}
+use Rattle.std.proofs.Common.{◌≡◌, ◌⊎◌, inl, inr, ℕ, Bool, List, Option, Some, None, refl, ap, ◌∙◌, subst, arith}
 use Rattle.sim_base.specs.Causes.{Rose}
-use Rattle.sim_base.specs.Source.{SourceView}
 use Rattle.sim_base.specs.Sink.{SinkView}
+use Rattle.value_types.specs.declared.shape.Shape.{Shape}
+use Rattle.fmi_calls.specs.Kinds.{kind_of, kind_of_content, kind_of_reply}
 use Rattle.fmi_calls.specs.declared.call.Call.{Call}
+use Rattle.fmi_calls.specs.declared.call.Call.TheVariants as C
+use Rattle.fmi_calls.specs.declared.call.Kind.TheVariants as K
+use Rattle.fmu_peer.specs.Machine.{MachineState}
+use Rattle.bench_fmus.specs.declared.model.Model.{Model}
+use Rattle.bench_fmus.specs.BuiltIn.{Behaviour, first_state, machine_of, step_content}
+use Rattle.bench_fmus.specs.Models.{behaviour_of}
 use Rattle.host_serving.specs.declared.serving.ServeEnd.TheVariants as E
-use Rattle.host_serving.specs.Frames.{TakesCall}
-use Rattle.host_serving.specs.Serving.{HasServed, LosesLink, More, Nothing, OfInput, OfMachine, OfOutput, Scene, Served, Serves}
+use Rattle.host_serving.specs.Serving.{GoesOn, HasServed, LosesLink, More, Nothing, OfBatch, OfInput, OfItem, OfMachine, OfOutput, Scene, Served, Serves, Single, Together}
+use Rattle.host_serving.proofs.CallerLemmas.{IsTold, lost_by_fault, told_last}
+use Rattle.fmu_host.specs.Facts.{first_view}
 
-input_quiet : (old new : SourceView) (call : Call) → TakesCall old new call → new.faults ≡ old.faults
-input_quiet old new call t = t.takes.quiet
+-- ---- the counts of input and output stay while calls are served
 
--- the counts of input and output stay while calls are served
+input_goes : (old new : Scene) (served : List Served) → GoesOn old new served → new.input.faults ≡ old.input.faults
+input_goes old new _ (Single served one unfreed) = one.answered.read.takes.quiet
+input_goes old new _ (Together calls replies many) = many.answered.read.takes.quiet
+
+output_goes : (old new : Scene) (served : List Served) → GoesOn old new served → new.output.faults ≡ old.output.faults
+output_goes old new _ (Single served one unfreed) = ap (λ (v : SinkView). v.faults) one.put
+output_goes old new _ (Together calls replies many) = ap (λ (v : SinkView). v.faults) many.put
+
 input_stays : (old : Scene) (served : List Served) (new : Scene) → Serves old served new → new.input.faults ≡ old.input.faults
 input_stays old _ _ Nothing = refl
-input_stays old _ _ (More done mid new last before on) = on.serves.answered.read.takes.quiet ∙ input_stays old done mid before
+input_stays old _ _ (More done more mid new before on) = input_goes mid new more on ∙ input_stays old done mid before
 
 output_stays : (old : Scene) (served : List Served) (new : Scene) → Serves old served new → new.output.faults ≡ old.output.faults
 output_stays old _ _ Nothing = refl
-output_stays old _ _ (More done mid new last before on) = ap (λ (v : SinkView). v.faults) on.serves.put ∙ output_stays old done mid before
+output_stays old _ _ (More done more mid new before on) = output_goes mid new more on ∙ output_stays old done mid before
+
+-- ---- a built-in machine
+
+-- it answers each call by a reply of its kind
+step_kind : (event_mode terminate : Bool) (bound : ℕ) (early : Option ℕ) → kind_of_content (step_content event_mode terminate bound early) ≡ K.DoStep
+step_kind event_mode terminate bound None = refl
+step_kind event_mode terminate bound (Some end) = refl
+
+answers_alike : (b : Behaviour) (shape : Shape) (s : MachineState) (call : Call) → kind_of_reply ((machine_of b shape).look s call) ≡ kind_of call
+answers_alike b shape s (C.DoStep at size) = step_kind shape.has_event_mode _ _ (b.early_end shape s.values at size)
+answers_alike b shape s call = refl
+
+pub first_told : (model : Model) (shape : Shape) → IsTold (machine_of (behaviour_of model) shape) (first_view model shape)
+first_told model shape = record { machine = refl; state = first_state shape.variables; in_state = refl }
 
 never_risen : (before after : ℕ) → after ≡ 0 → Rose before after → ⊥
 never_risen before after calm rose = omega arith
 
-pub lost : (old new : Scene) → new.machine.faults ≡ 0 → HasServed old new E.Failed → Rose old.input.faults new.input.faults ⊎ Rose old.output.faults new.output.faults
-lost old new calm served = by_cause served.ends
+pub lost : (model : Model) (shape : Shape) (old new : Scene) → IsTold (machine_of (behaviour_of model) shape) old.machine → new.machine.faults ≡ 0 → HasServed old new E.Failed →
+    Rose old.input.faults new.input.faults ⊎ Rose old.output.faults new.output.faults
+lost model shape old new told calm served = by_cause served.ends
   where
+    by_input : Rose served.last.input.faults new.input.faults → Rose old.input.faults new.input.faults
+    by_input rose = subst (λ (n : ℕ). Rose n new.input.faults) (input_stays old served.served served.last served.serves) rose
+
+    by_output : Rose served.last.output.faults new.output.faults → Rose old.output.faults new.output.faults
+    by_output rose = subst (λ (n : ℕ). Rose n new.output.faults) (output_stays old served.served served.last served.serves) rose
+
+    there : IsTold (machine_of (behaviour_of model) shape) served.last.machine
+    there = told_last (machine_of (behaviour_of model) shape) old served.last served.served served.serves told
+
     by_cause : LosesLink served.last new → Rose old.input.faults new.input.faults ⊎ Rose old.output.faults new.output.faults
-    by_cause (OfInput rose still) = inl (subst (λ n. Rose n new.input.faults) (input_stays old served.served served.last served.serves) rose)
+    by_cause (OfInput rose still) = inl (by_input rose)
     by_cause (OfMachine call takes may rose out) = absurd (never_risen served.last.machine.faults new.machine.faults calm rose)
-    by_cause (OfOutput one answered rose) = inr (subst (λ n. Rose n new.output.faults) (output_stays old served.served served.last served.serves) rose)
+    by_cause (OfOutput one answered rose) = inr (by_output rose)
+    by_cause (OfItem calls takes one out) =
+        let mid = lost_by_fault (machine_of (behaviour_of model) shape) (answers_alike (behaviour_of model) shape) served.last.machine new.machine calls there one in
+        absurd (never_risen mid.0.faults new.machine.faults calm mid.1)
+    by_cause (OfBatch calls replies answered rose) = inr (by_output rose)

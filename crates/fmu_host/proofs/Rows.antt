@@ -33,7 +33,7 @@ keeps_rows e h f status = record {
     many = λ n. when_is ManyCalls e h f status n;
     failed = λ n. when_is LostLink e h f status n;
     exact = λ line shape model t named. served_exact e h f status line shape model t named;
-    told = λ line shape replies end t calls. told_exact e h f status line shape replies end t calls;
+    told = λ line shape pieces count end t calls. told_exact e h f status line shape pieces count end t calls;
   };
   memory = record { when = λ n. when_is NoMemory e h f status n };
   known = subst IsStatus (sym (status ∙ numbered e)) (known (of_end e));

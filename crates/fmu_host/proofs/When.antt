@@ -17,7 +17,7 @@ use Rattle.fmu_host.specs.Happened.{Happened}
 use Rattle.fmu_host.specs.Line.{IsLine, IsNoLine, Line}
 use Rattle.fmu_host.specs.Rows.{BeforeCalls, BehindCalls, ByAbsence, ByFault, ByLength, Ends, IsBadFrame, IsDone, IsUnpermitted, IsUnserved, LacksFile, OnLine, WantsMemory}
 use Rattle.fmu_host.specs.Status.{status_of}
-use Rattle.fmu_host.proofs.LinkLemmas.{lost}
+use Rattle.fmu_host.proofs.LinkLemmas.{first_told, lost}
 use Rattle.fmu_host.proofs.Statuses.{Status, Done, WrongFrame, WrongWords, NoFile, BrokenRule, NoMachine, WrongCall, ManyCalls, LostLink, NoMemory, number, numbered, of_end, of_serve, same_number}
 
 abbrev pub HasFacts : HostEnd → Happened → Type 0
@@ -66,7 +66,7 @@ served (E.BadFrame at) h line shape is read s = (line, is, record { shape = shap
 served (E.NotPermitted call) h line shape is read s = (line, is, record { shape = shape; read = read; end = E.NotPermitted call; so = (call, refl); serves = s })
 served E.Failed h line shape is read s = (
   (line, is, record { shape = shape; read = read; end = E.Failed; so = refl; serves = s }),
-  lost (scene h.old.link.input h.old.link.output (first_view s.model shape)) (scene h.new.link.input h.new.link.output s.machine) s.calm s.serves,
+  lost s.model shape (scene h.old.link.input h.old.link.output (first_view s.model shape)) (scene h.new.link.input h.new.link.output s.machine) (first_told s.model shape) s.calm s.serves,
 )
 served E.TooMany h line shape is read s = (line, is, record { shape = shape; read = read; end = E.TooMany; so = refl; serves = s })
 served E.Memory h line shape is read s = inr (line, is, BehindCalls (record { shape = shape; read = read; end = E.Memory; so = refl; serves = s }))

@@ -1,5 +1,5 @@
 -- When each status comes. An `exact` row speaks of what the read of the description got, and yields to want of memory.
-use Rattle.std.specs.Prelude.{◌≡◌, ◌⊎◌, ℕ, ◌-◌, ◌^◌, ◌<◌, ◌≤◌, List, length, Some, None, Result, Ok, Err}
+use Rattle.std.specs.Prelude.{◌≡◌, ◌⊎◌, ℕ, ◌-◌, ◌^◌, ◌<◌, ◌≤◌, List, Some, None, Result, Ok, Err}
 use Rattle.sim_base.specs.Causes.{Rose}
 use Rattle.sim_base.specs.Folder.{with_read}
 use Rattle.sim_base.specs.declared.folder.ReadFault.{ReadFault}
@@ -10,13 +10,12 @@ use Rattle.doc_tree.specs.declared.rule.Rule.{Rule}
 use Rattle.system_loading.specs.Readings.{BreaksModel, IsModel}
 use Rattle.fmi_calls.specs.Next.{fresh}
 use Rattle.fmi_calls.specs.declared.call.Call.{Call}
-use Rattle.fmi_calls.specs.declared.call.Reply.{Reply}
 use Rattle.bench_fmus.specs.BuiltIn.{first_state, machine_of}
 use Rattle.bench_fmus.specs.declared.model.Model.{Model}
 use Rattle.bench_fmus.specs.Models.{behaviour_of, model_named}
 use Rattle.host_serving.specs.declared.serving.ServeEnd.{ServeEnd}
 use Rattle.host_serving.specs.declared.serving.ServeEnd.TheVariants as E
-use Rattle.host_serving.specs.Told.{Comes, with_frames}
+use Rattle.host_serving.specs.Told.{Comes, with_pieces}
 use Rattle.fmu_host.specs.Description.{IsRead, MayRead, Reads, ReadsBroken, ReadsLong, path_of}
 use Rattle.fmu_host.specs.Facts.{ServesShape}
 use Rattle.fmu_host.specs.Happened.{Happened}
@@ -55,16 +54,16 @@ LosesLink h =
     Rose h.old.link.input.faults h.new.link.input.faults ⊎
     Rose h.old.link.output.faults h.new.link.output.faults
 
--- the shape names a machine, and the input tells its bytes: in the machine's first state they come to these replies, fewer than are counted, and to this end. No count rose
-pub record TellsCalls (h : Happened) (shape : Shape) (replies : List Reply)
+-- the shape names a machine, and the input tells its bytes: in the machine's first state they come to these pieces, for so many calls, fewer than are counted, and to this end. No count rose
+pub record TellsCalls (h : Happened) (shape : Shape) (pieces : List (List ℕ)) (count : ℕ)
     (end : ServeEnd) : Type 0 where
   pub model : Model
   pub named : model_named shape.identifier ≡ Some model
   pub bytes : List ℕ
   pub told : h.old.link.input.left ≡ Some bytes
   pub come : Comes shape (machine_of (behaviour_of model) shape) (fresh shape)
-      (first_state shape.variables) bytes replies end
-  pub few : length replies < 2 ^ 64 - 1
+      (first_state shape.variables) bytes pieces count end
+  pub few : count < 2 ^ 64 - 1
   pub calm : LosesLink h → ⊥
 
 -- the status of each end
@@ -77,9 +76,9 @@ serve_status E.Failed = 10
 serve_status E.TooMany = 9
 serve_status E.Memory = 11
 
--- the frames of these replies were put, and the status is that of this end
-pub record Answers (h : Happened) (replies : List Reply) (end : ServeEnd) : Type 0 where
-  pub output : h.new.link.output ≡ with_frames h.old.link.output replies
+-- these pieces were put, and the status is that of this end
+pub record Answers (h : Happened) (pieces : List (List ℕ)) (end : ServeEnd) : Type 0 where
+  pub output : h.new.link.output ≡ with_pieces h.old.link.output pieces
   pub status : h.status ≡ serve_status end
 
 -- ---- the statuses
@@ -137,7 +136,7 @@ pub record UnknownRow (h : Happened) : Type 0 where
   pub exact : (line : Line) (shape : Shape) → TellsShape h line shape →
       model_named shape.identifier ≡ None → OrMemory h 5
 
--- 0, 1, 6, 9 and 10: the machine that the description names was served, and this is how that ended; at 10 a count rose. Where none rises, what the input tells decides: 0 exactly where the permitted calls end with it or with FreeInstance, 1 at bytes that are no frame, 6 at a call that isn't permitted; and the output gets the frames of the machine's replies, those and no others
+-- 0, 1, 6, 9 and 10: the machine that the description names was served, and this is how that ended; at 10 a count rose. Where none rises, what the input tells decides: 0 exactly where the permitted calls end with it or with FreeInstance, 1 at bytes that are no frame, 6 at a call that isn't permitted; and the output gets the frames of the machine's replies, alone or in batches, those and no others
 pub record ServedRow (h : Happened) : Type 0 where
   pub done : h.status ≡ 0 → OnLine h (Ends h IsDone)
   pub bad : h.status ≡ 1 → OnLine h (Ends h IsBadFrame)
@@ -148,9 +147,9 @@ pub record ServedRow (h : Happened) : Type 0 where
       model_named shape.identifier ≡ Some model →
       (h.status ≡ 11) ⊎ ((end : ServeEnd) × (h.status ≡ serve_status end) ×
       ServesShape end shape h.old.link h.new.link)
-  pub told : (line : Line) (shape : Shape) (replies : List Reply) (end : ServeEnd) →
-      TellsShape h line shape → TellsCalls h shape replies end →
-      Answers h replies end ⊎ (h.status ≡ 11)
+  pub told : (line : Line) (shape : Shape) (pieces : List (List ℕ)) (count : ℕ)
+      (end : ServeEnd) → TellsShape h line shape → TellsCalls h shape pieces count end →
+      Answers h pieces end ⊎ (h.status ≡ 11)
 
 -- memory was wanting: before a call was taken, when the description was read or not yet; or behind the calls that were served
 pub data WantsMemory (h : Happened) (line : Line) : Type 0 where

@@ -119,7 +119,21 @@ static WORDS: [Case; 9] = [
     },
 ];
 
-static RUNS: [Case; 10] = [
+// With version 2: the instance is `c`; a batch of two Gets of the reference 2, one whose second Get is of no variable, and the
+// beginning of one of 65 calls. Its replies: version 2 is agreed, and both values are 0.
+const INSTANTIATE_2: &str = "010000000000000400000000000000010000000000000003637b637d";
+
+const TWO_CALLS: &str = "130000000000000200000000000000000000000000000000";
+
+const GET_NONE: &str = "080500000000000500000000000000000000000000000000";
+
+const TOO_MANY_CALLS: &str = "130000000000004100000000000000000000000000000000";
+
+const INSTANTIATED_2: &str = "010001000000000000000000000000000000000000000000";
+
+const TWO_REPLIES: &str = "130000000000000200000000000000000000000000000000";
+
+static RUNS: [Case; 16] = [
     // A whole run of the counter. What follows FreeInstance isn't read.
     Case {
         input: &[
@@ -199,6 +213,53 @@ static RUNS: [Case; 10] = [
         words: "d/counter|1",
         input: &[INSTANTIATE, FREE],
         output: &[INSTANTIATED, FREED],
+        ..EMPTY
+    },
+    // Version 2 is agreed where it is asked for.
+    Case {
+        input: &[INSTANTIATE_2],
+        output: &[INSTANTIATED_2],
+        ..EMPTY
+    },
+    Case {
+        input: &[INSTANTIATE_2, ENTER, EXIT, TWO_CALLS, GET, GET, STEP, GET],
+        output: &[
+            INSTANTIATED_2,
+            ENTERED,
+            EXITED,
+            TWO_REPLIES,
+            GOT_0,
+            GOT_0,
+            STEPPED,
+            GOT_2,
+        ],
+        ..EMPTY
+    },
+    // Nothing is put for a batch with a call that isn't permitted.
+    Case {
+        input: &[INSTANTIATE_2, ENTER, EXIT, TWO_CALLS, GET, GET_NONE],
+        status: 6,
+        output: &[INSTANTIATED_2, ENTERED, EXITED],
+        ..EMPTY
+    },
+    // The input ends inside a batch.
+    Case {
+        input: &[INSTANTIATE_2, ENTER, EXIT, TWO_CALLS, GET],
+        status: 1,
+        output: &[INSTANTIATED_2, ENTERED, EXITED],
+        ..EMPTY
+    },
+    // A call of another kind in a batch of Gets.
+    Case {
+        input: &[INSTANTIATE_2, ENTER, EXIT, TWO_CALLS, GET, STEP],
+        status: 1,
+        output: &[INSTANTIATED_2, ENTERED, EXITED],
+        ..EMPTY
+    },
+    Case {
+        input: &[INSTANTIATE_2, TOO_MANY_CALLS],
+        status: 1,
+        output: &[INSTANTIATED_2],
         ..EMPTY
     },
 ];

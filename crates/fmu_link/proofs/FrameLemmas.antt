@@ -11,7 +11,7 @@ use Rattle.link_frames.proofs.CallerLemmas.{head_length}
 use Rattle.fmu_link.specs.Exchange.{IsNoReply}
 
 -- a reply frame has 24 bytes
-reply_length : (reply : Reply) (bytes : List ℕ) → IsReplyFrame reply bytes → length bytes ≡ 24
+pub reply_length : (reply : Reply) (bytes : List ℕ) → IsReplyFrame reply bytes → length bytes ≡ 24
 reply_length reply bytes h = ap length h.spelled ∙ head_length (head_of_reply reply)
 
 -- a reply at the front of 24 bytes is all of them

@@ -3,3 +3,4 @@ pub mod MemWire
 pub mod Exchange
 pub mod Instance
 pub mod Piped
+pub mod Batches

@@ -1,8 +1,9 @@
-ghost use Rattle.std.specs.Prelude.{◌≡◌, ◌≤◌, ◌^◌, length, IfOk};
+ghost use Rattle.std.specs.Prelude.{◌≡◌, ◌≤◌, ◌+◌, ◌^◌, false, length, IfOk};
 ghost use Rattle.fmi_calls.specs.Next.{HasMarks, fresh};
 ghost use Rattle.fmu_link.specs.Instance.{HasFrames};
 
 use fmi_calls::Phase;
+use link_frames::{MOST_ITEMS, batch_len};
 use sim_base::Text;
 use std::alloc::{AllocError, Global};
 use value_types::Shape;
@@ -19,6 +20,8 @@ pub struct Instance {
     pub frame: Vec<u8>,
     /// How many replies were garbled or cut; it stays at its last value.
     pub bad_replies: u64,
+    /// Whether its host takes batches.
+    pub takes_batches: bool,
     ghost has_marks: { HasMarks shape phase },
     ghost has_frames: { HasFrames name shape.token frame.items },
 }
@@ -40,11 +43,13 @@ impl Instance {
         ensures shape { IfOk result (λ i. i.shape ≡ shape.now) }
         ensures phase { IfOk result (λ i. i.phase ≡ fresh shape.now) }
         ensures quiet { IfOk result (λ i. i.bad_replies ≡ 0) }
+        ensures single { IfOk result (λ i. i.takes_batches ≡ false) }
     {
         // What is dear to let go is made last.
         Ok(Instance {
             bad_replies: 0,
-            frame: vec![in alloc; 0; 24 + name.len() + shape.token.as_str().len()]?,
+            takes_batches: false,
+            frame: vec![in alloc; 0; room_for(name.len(), shape.token.as_str().len())]?,
             host: Text::from_str(alloc, host)?,
             name: Text::from_str(alloc, name)?,
             directory: Text::from_str(alloc, directory)?,
@@ -52,4 +57,14 @@ impl Instance {
             shape: shape.copy(alloc)?,
         })
     }
+}
+
+// The room for a frame of Instantiate with texts of these lengths, and for the longest batch.
+fn room_for(name_len: usize, token_len: usize) -> usize
+    requires name { name_len ≤ 2 ^ 24 }
+    requires token { token_len ≤ 2 ^ 24 }
+    ensures single { 24 + name_len + token_len ≤ result }
+    ensures batch { 1560 ≤ result }
+{
+    batch_len(MOST_ITEMS).max(24 + name_len + token_len)
 }

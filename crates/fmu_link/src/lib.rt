@@ -1,6 +1,7 @@
 //! An FMU in a process of its own as a peer: its calls as frames over a wire that bytes go out on and come in on.
 #![tactic(auto)]
 
+mod batches;
 mod instance;
 mod mem_wire;
 mod piped;

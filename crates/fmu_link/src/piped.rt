@@ -1,11 +1,13 @@
-ghost use Rattle.std.specs.Prelude.{◌≡◌, ◌≤◌, ◌^◌, length, IfOk, IfErr, MatchResult};
+ghost use Rattle.std.specs.Prelude.{◌≡◌, ◌≤◌, ◌^◌, ◌||◌, ◌&&◌, length, IfOk, IfErr, MatchResult};
 ghost use Rattle.std.specs.Option.{option_copied};
 ghost use Rattle.std.specs.Result.{result_ok};
 ghost use Rattle.fmi_calls.specs.Permission.{Permitted};
+ghost use Rattle.fmu_link.specs.Batches.{agrees_to_batches, asks_for_batches};
 ghost use Rattle.fmu_link.specs.Exchange.{Arrives, Breaks, NotesCall, Says};
 
+use crate::batches::call_batch;
 use crate::{Instance, Wire, WireFault};
-use fmi_calls::{Call, Phase, Reply, next_phase};
+use fmi_calls::{Call, Content, Grade, Phase, Reply, grade, next_phase};
 use fmu_peer::{Peer, PeerFault};
 use link_frames::{Taken, put_call, take_reply};
 use std::alloc::Global;
@@ -65,7 +67,9 @@ impl<W: Wire> Piped<W> {
 impl<W: Wire + Send> Peer for Piped<W> {
     ghost use Rattle.fmu_peer.specs.View.{Asked};
     ghost use Rattle.fmu_link.specs.Piped.{line_view, piped_view};
+    ghost use Rattle.fmu_link.specs.Batches.{GoAsAgreed};
     ghost use Rattle.fmu_link.specs.Exchange.{Exchanged};
+    ghost use Rattle.fmu_peer.specs.Many.{AreOfOneSort, AskedMany, MayAskAll};
 
     ghost view = { piped_view W.view };
 
@@ -91,6 +95,10 @@ impl<W: Wire + Send> Peer for Piped<W> {
             (piped_view W.view self.new) }
         ensures exchanged { Exchanged call.now self.old.instance.name self.old.instance.shape.token
             (line_view W.view self.old) (line_view W.view self.new) result }
+
+        // Batches are agreed once they were asked for and the answer takes them.
+        ensures agreed { self.new.instance.takes_batches ≡ (self.old.instance.takes_batches ||
+            (asks_for_batches call.now && agrees_to_batches result)) }
     {
         let instance = &mut self.instance;
         let length = put_call(
@@ -101,9 +109,71 @@ impl<W: Wire + Send> Peer for Piped<W> {
         );
         let frame = &instance.frame.as_slice()[..length];
         let answer = answer_over(&mut self.wire, frame, &mut instance.bad_replies);
-        let reply = reply_of(&answer);
-        next_phase(&instance.shape, &mut instance.phase, call, reply);
+        if asks_for_batches(call) && agrees_to_batches(&answer) {
+            instance.takes_batches = true;
+        }
+        next_phase(
+            &instance.shape,
+            &mut instance.phase,
+            call,
+            reply_of(&answer),
+        );
         answer
+    }
+
+    fn call_many(&mut self, calls: &[Call], replies: &mut [Reply]) -> Result<usize, PeerFault>
+        requires sort { AreOfOneSort calls.now }
+        requires places { length replies.old ≡ length calls.now }
+        requires may { MayAskAll self.old.instance.shape self.old.instance.phase calls.now }
+        ensures places { length replies.new ≡ length calls.now }
+        ensures asked { AskedMany (piped_view W.view self.old) calls.now replies.old replies.new
+            result (piped_view W.view self.new) }
+
+        // Where batches were agreed, the calls go in one, and so do their replies; else they go one by one.
+        ensures agreed { GoAsAgreed self.old.instance.takes_batches calls.now
+            (line_view W.view self.old) (line_view W.view self.new) replies.new result }
+    {
+        if self.instance.takes_batches {
+            return call_batch(&mut self.wire, &mut self.instance, calls, replies);
+        }
+        for i in 0..calls.len() {
+            match self.call(&calls[i]) {
+                Ok(reply) => {
+                    replies[i] = reply;
+                    match grade(self.shape(), self.phase(), &calls[i], &reply) {
+                        Grade::Good => {}
+                        Grade::Refused | Grade::Misreply => return Ok(i + 1),
+                    }
+                }
+                Err(fault) => return Err(fault),
+            }
+        }
+        Ok(calls.len())
+    }
+}
+
+// Whether the call asks for batches.
+fn asks_for_batches(call: &Call) -> bool
+    ensures { result ≡ asks_for_batches call.now }
+{
+    match *call {
+        Call::Instantiate { batches, .. } => batches,
+        _ => false,
+    }
+}
+
+// Whether the answer says that the host takes batches.
+fn agrees_to_batches(answer: &Result<Reply, PeerFault>) -> bool
+    ensures { result ≡ agrees_to_batches answer.now }
+{
+    match answer {
+        Ok(
+            Reply::Done {
+                content: Content::Instantiate { batches },
+                ..
+            },
+        ) => *batches,
+        _ => false,
     }
 }
 

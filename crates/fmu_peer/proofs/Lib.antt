@@ -4,3 +4,6 @@ mod MachineLemmas
 mod CloseLemmas
 mod OrderLemmas
 mod ShutLemmas
+pub mod ManyLemmas
+pub mod SeveralLemmas
+pub mod KeptStates

@@ -64,16 +64,16 @@ module _ (shape : Shape) (p : Phase) (reply : Reply) where
   stays call G.Refused good bad alive = bad (bad_status_of reply) alive
   stays call G.Misreply good bad alive = bad Error alive
 
-  instantiated : (event_mode early_return : Bool) (g : Grade) → is_alive (graded shape p (C.Instantiate event_mode early_return) reply g).state ≡ true
-      → (graded shape p (C.Instantiate event_mode early_return) reply g).state ≡ P.Instantiated
-  instantiated event_mode early_return G.Good alive = refl
-  instantiated event_mode early_return G.Refused alive = absurd (never (bad_status_of reply) alive)
+  instantiated : (event_mode early_return batches : Bool) (g : Grade) → is_alive (graded shape p (C.Instantiate event_mode early_return batches) reply g).state ≡ true
+      → (graded shape p (C.Instantiate event_mode early_return batches) reply g).state ≡ P.Instantiated
+  instantiated event_mode early_return batches G.Good alive = refl
+  instantiated event_mode early_return batches G.Refused alive = absurd (never (bad_status_of reply) alive)
     where
-      never : (status : BadStatus) → is_alive (state_after_bad p.state (C.Instantiate event_mode early_return) status) ≡ true → ⊥
+      never : (status : BadStatus) → is_alive (state_after_bad p.state (C.Instantiate event_mode early_return batches) status) ≡ true → ⊥
       never Discard e = cc
       never Error e = cc
       never Fatal e = cc
-  instantiated event_mode early_return G.Misreply alive = absurd (cc)
+  instantiated event_mode early_return batches G.Misreply alive = absurd (cc)
 
   terminated : (g : Grade) → is_running p.state ≡ true → is_alive (graded shape p C.Terminate reply g).state ≡ true → is_initialization (graded shape p C.Terminate reply g).state ≡ false
   terminated G.Good at alive = refl
@@ -188,10 +188,10 @@ module _ (shape : Shape) (m : Machine) (is : IsMachineOf shape m) (phase : Phase
       in_same m phase (new C.Restore) s (after m s C.Restore) old (leaves C.Restore refl (bad_same phase.state))
       (back_mode m s.slot s (saved_at m phase s P.Step old may.0 refl) mode ∙ sym mode) (λ alive. subst (SavedWell m) (sym (back_slot s.slot s)) (old.saved alive))
   in_phase_after C.Free may = in_same m phase (new C.Free) s (after m s C.Free) old (leaves C.Free refl (bad_same phase.state)) refl (λ alive. none_saved m None refl)
-  in_phase_after (C.Instantiate event_mode early_return) may =
-      in_state m (new (C.Instantiate event_mode early_return)) (after m s (C.Instantiate event_mode early_return)) false
-      (λ alive. ap is_initialization (instantiated shape (counted phase (C.Instantiate event_mode early_return)) (m.look s (C.Instantiate event_mode early_return)) event_mode early_return (grade_of shape (C.Instantiate event_mode early_return) (m.look s (C.Instantiate event_mode early_return))) alive))
-      (is.keeps s (C.Instantiate event_mode early_return) refl ∙ mode_at m phase s P.Fresh old may.0 refl) (saved_at m phase s P.Fresh old may.0 refl)
+  in_phase_after (C.Instantiate event_mode early_return batches) may =
+      in_state m (new (C.Instantiate event_mode early_return batches)) (after m s (C.Instantiate event_mode early_return batches)) false
+      (λ alive. ap is_initialization (instantiated shape (counted phase (C.Instantiate event_mode early_return batches)) (m.look s (C.Instantiate event_mode early_return batches)) event_mode early_return batches (grade_of shape (C.Instantiate event_mode early_return batches) (m.look s (C.Instantiate event_mode early_return batches))) alive))
+      (is.keeps s (C.Instantiate event_mode early_return batches) refl ∙ mode_at m phase s P.Fresh old may.0 refl) (saved_at m phase s P.Fresh old may.0 refl)
   in_phase_after (C.EnterInitialization start stop) may =
       in_state m (new (C.EnterInitialization start stop)) (after m s (C.EnterInitialization start stop)) true
       (λ alive. ap is_initialization (entered_mode shape (counted phase (C.EnterInitialization start stop)) (m.look s (C.EnterInitialization start stop)) start stop (grade_of shape (C.EnterInitialization start stop) (m.look s (C.EnterInitialization start stop))) (is.undiscarded s (C.EnterInitialization start stop) refl) alive))

@@ -12,3 +12,4 @@ pub mod Mode
 pub mod Book
 pub mod Props
 pub mod Running
+pub mod Many

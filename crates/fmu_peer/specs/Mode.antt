@@ -1,12 +1,12 @@
 -- Typed states.
-use Rattle.std.specs.Prelude.{Bool, true, false, ◌||◌}
+use Rattle.std.specs.Prelude.{ℕ, ◌==◌, Bool, true, false, ◌||◌}
 use Rattle.value_types.specs.declared.shape.Shape.{Shape}
 use Rattle.fmi_calls.specs.declared.call.Call.{Call}
 use Rattle.fmi_calls.specs.declared.call.Call.TheVariants as C
 use Rattle.fmi_calls.specs.declared.phase.InstanceState.{InstanceState}
 use Rattle.fmi_calls.specs.declared.phase.InstanceState.TheVariants.{Fresh, Instantiated, Initialization, Event, Step, Terminated, Dead, Lost, Gone}
 
-abbrev same_state : InstanceState → InstanceState → Bool
+abbrev pub same_state : InstanceState → InstanceState → Bool
 same_state Fresh Fresh = true
 same_state Instantiated Instantiated = true
 same_state Initialization Initialization = true
@@ -28,6 +28,7 @@ is_over _ = false
 abbrev pub agrees : InstanceState → InstanceState → Bool
 agrees mode state = same_state state mode || is_over state
 
--- the Instantiate that a shape's flags ask for
-abbrev pub instantiate_of : Shape → Call
-instantiate_of shape = C.Instantiate shape.has_event_mode shape.might_return_early
+-- the Instantiate that a shape's flags ask for, with batches where the link has version 2
+abbrev pub instantiate_of : ℕ → Shape → Call
+instantiate_of link shape =
+    C.Instantiate shape.has_event_mode shape.might_return_early (link == 2)

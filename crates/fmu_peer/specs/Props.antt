@@ -71,7 +71,7 @@ set-prop may shape kind reference value =
     hlevel (bool_set, is_writable-prop shape kind reference, fits-prop kind value)
 
 pub Permitted-prop : (shape : Shape) (p : Phase) (c : Call) → IsProp (Permitted shape p c)
-Permitted-prop shape p (C.Instantiate event_mode early_return) =
+Permitted-prop shape p (C.Instantiate event_mode early_return batches) =
     hlevel (le_prop, state_set, bool_set, nat_set)
 Permitted-prop shape p (C.EnterInitialization start stop) =
     hlevel (le_prop, state_set, bool_set, nat_set)

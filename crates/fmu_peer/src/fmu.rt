@@ -1,10 +1,15 @@
-ghost use Rattle.std.specs.Prelude.{◌≡◌, IfOk, IfErr, OnOk, IsTrue};
+ghost use Rattle.std.specs.Prelude.{◌≡◌, ◌<◌, ◌≤◌, get_or, length, replicate, IfOk, IfErr, OnOk, IsTrue};
+ghost use Rattle.fmi_calls.specs.declared.call.Call.{Call};
+ghost use Rattle.fmi_calls.specs.declared.call.Kind.TheVariants as K;
 ghost use Rattle.fmi_calls.specs.declared.call.Reply.{Reply};
-ghost use Rattle.fmi_calls.specs.Kinds.{bad_status_of};
+ghost use Rattle.fmi_calls.specs.KindFacts.{same_kind};
+ghost use Rattle.fmi_calls.specs.Kinds.{bad_status_of, kind_of_reply};
 ghost use Rattle.fmi_calls.specs.Permission.{Permitted};
+ghost use Rattle.fmi_calls.specs.declared.phase.InstanceState.{InstanceState};
 ghost use Rattle.fmi_calls.specs.declared.phase.InstanceState.TheVariants as P;
 ghost use Rattle.fmu_peer.specs.Mode.{agrees, instantiate_of};
 ghost use Rattle.fmu_peer.specs.Answer.{Answered, Failed};
+ghost use Rattle.fmu_peer.specs.Many.{AnsweredAll, AreOfOneSort, FailedBehind, IsWorthOf, MayAskAll, count_came, to_come};
 ghost use Rattle.fmu_peer.specs.Close.{IsClosed, can_be_closed};
 ghost use Rattle.fmu_peer.specs.declared.ended.Why.TheVariants as Why;
 
@@ -14,9 +19,9 @@ use crate::{
     Ended, Eventing, Fresh, Initializing, Instantiated, Mode, Peer, PeerFault, Running, Saved,
     Stepping, Why,
 };
-use fmi_calls::{Call, Grade, Reply, grade};
+use fmi_calls::{BadStatus, Call, Grade, Kind, Phase, Reply, grade};
 use std::marker::PhantomData;
-use value_types::PortType;
+use value_types::{PortType, Shape};
 
 // Sends a call of the run, and says what its answer is worth. A good answer is given back at once, since nearly each one is.
 #[inline(always)]
@@ -65,6 +70,85 @@ fn lost(call: &Call, fault: PeerFault) -> Why
     Why::Link { call: *call, fault }
 }
 
+// Says of each place that its reply hasn't come.
+fn clear(replies: &mut [Reply])
+    ensures { replies.new ≡ replicate (length replies.old) to_come }
+{
+    replies.fill(Reply::Refused {
+        kind: Kind::FreeInstance,
+        status: BadStatus::Fatal,
+    });
+}
+
+fn is_to_come(reply: &Reply) -> bool
+    ensures { result ≡ same_kind (kind_of_reply reply.now) K.FreeInstance }
+{
+    reply.kind() == Kind::FreeInstance
+}
+
+// How many replies came, from the front.
+fn came(replies: &[Reply]) -> usize
+    ensures { result ≡ count_came replies.now }
+{
+    for i in 0..replies.len() {
+        if is_to_come(&replies[i]) {
+            return i;
+        }
+    }
+    replies.len()
+}
+
+// What the last of so many answers is worth.
+fn worth_of_last(
+    shape: &Shape,
+    phase: &Phase,
+    calls: &[Call],
+    replies: &[Reply],
+    count: usize,
+) -> Result<usize, Why>
+    requires some { 1 ≤ count }
+    requires few { count ≤ length calls.now }
+    requires places { length replies.now ≡ length calls.now }
+    ensures { IsWorthOf shape.now calls.now replies.now count result }
+{
+    let call = &calls[count - 1];
+    let reply = &replies[count - 1];
+    match grade(shape, phase, call, reply) {
+        Grade::Good => Ok(count),
+        Grade::Refused => Err(refusal(call, reply)),
+        Grade::Misreply => Err(misreply(call, reply)),
+    }
+}
+
+// The fault of the call at a place.
+fn lost_at(calls: &[Call], i: usize, fault: PeerFault) -> Why
+    requires { i < length calls.now }
+    ensures { (default : Call) → result ≡ Why.Link (get_or calls.now i default) fault }
+{
+    lost(&calls[i], fault)
+}
+
+// Sends several calls of the run, and says what their answers are worth.
+fn ask_many<L: Peer>(peer: &mut L, calls: &[Call], replies: &mut [Reply]) -> Result<usize, Why>
+    requires sort { AreOfOneSort calls.now }
+    requires places { length replies.old ≡ length calls.now }
+    requires may { MayAskAll (L.view peer.old).fixed.shape (L.view peer.old).phase calls.now }
+    ensures places { length replies.new ≡ length calls.now }
+    ensures all { IfOk result (λ count. count ≡ length calls.now) }
+    ensures ok { IfOk result (λ count. AnsweredAll (L.view peer.old) calls.now replies.new
+        (L.view peer.new)) }
+    ensures err { IfErr result (λ why. FailedBehind (L.view peer.old) calls.now why
+        (L.view peer.new)) }
+    ensures keeps { (mode : InstanceState) → IsTrue (agrees mode (L.view peer.old).phase.state) →
+        IsTrue (agrees mode (L.view peer.new).phase.state) }
+{
+    clear(replies);
+    match peer.call_many(calls, replies) {
+        Ok(count) => worth_of_last(peer.shape(), peer.phase(), calls, replies, count),
+        Err(fault) => Err(lost_at(calls, came(replies), fault)),
+    }
+}
+
 /// An FMU in a state (FMI 3.0, 4.2.1). It can't be let go: it is closed.
 pub struct Fmu<L: Peer, M: Mode> {
     pub peer: L,
@@ -84,20 +168,21 @@ impl<L: Peer> Fmu<L, Fresh> {
         }
     }
 
-    /// Makes the instance, by the flags of its shape.
-    pub fn instantiate(self) -> Result<Fmu<L, Instantiated>, Ended<L>>
+    /// Makes the instance, by the flags of its shape. Where the version of the link is 2, batches are asked for.
+    pub fn instantiate(self, link: u32) -> Result<Fmu<L, Instantiated>, Ended<L>>
         requires { (L.view self.peer).phase.state ≡ P.Fresh }
         ensures ok { IfOk result (λ fmu. (reply : Reply) ×
-            Answered (L.view self.peer) (instantiate_of (L.view self.peer).fixed.shape) reply
+            Answered (L.view self.peer) (instantiate_of link (L.view self.peer).fixed.shape) reply
             (L.view fmu.peer)) }
         ensures err { IfErr result (λ ended. Failed (L.view self.peer)
-            (instantiate_of (L.view self.peer).fixed.shape) ended.why (L.view ended.peer)) }
+            (instantiate_of link (L.view self.peer).fixed.shape) ended.why (L.view ended.peer)) }
     {
         let Fmu { mut peer, mode: _ } = self;
         let shape = peer.shape();
         let call = Call::Instantiate {
             event_mode: shape.has_event_mode,
             early_return: shape.might_return_early,
+            batches: link == 2,
         };
         match ask(&mut peer, &call) {
             Ok(_) => Ok(Fmu {
@@ -301,6 +386,23 @@ impl<L: Peer, M: Mode> Fmu<L, M> {
                 value,
             },
         )
+    }
+
+    /// Reads several outputs, or writes several values, one after another up to the first answer that isn't good. The
+    /// replies come at the places of their calls.
+    pub fn many(&mut self, calls: &[Call], replies: &mut [Reply]) -> Result<usize, Why>
+        requires sort { AreOfOneSort calls.now }
+        requires places { length replies.old ≡ length calls.now }
+        requires may { MayAskAll (L.view self.old.peer).fixed.shape (L.view self.old.peer).phase
+            calls.now }
+        ensures places { length replies.new ≡ length calls.now }
+        ensures all { IfOk result (λ count. count ≡ length calls.now) }
+        ensures ok { IfOk result (λ count. AnsweredAll (L.view self.old.peer) calls.now replies.new
+            (L.view self.new.peer)) }
+        ensures err { IfErr result (λ why. FailedBehind (L.view self.old.peer) calls.now why
+            (L.view self.new.peer)) }
+    {
+        ask_many(&mut self.peer, calls, replies)
     }
 
     /// Asks whether an output Clock is active.

@@ -1,9 +1,10 @@
-ghost use Rattle.std.specs.Prelude.{◌≡◌, IfSome};
+ghost use Rattle.std.specs.Prelude.{◌≡◌, IfSome, length};
 ghost use Rattle.fmi_calls.specs.Permission.{Permitted};
 ghost use Rattle.fmu_peer.specs.Machine.{IgnoresSlot, IsLawful, IsMachineOf};
+ghost use Rattle.fmu_peer.specs.Many.{AreOfOneSort, AskedMany, MayAskAll};
 ghost use Rattle.fmu_peer.specs.View.{View, Asked, IsLegal, TellsItsPhase};
 
-use fmi_calls::{Call, Phase, Reply};
+use fmi_calls::{Call, Grade, Phase, Reply, grade};
 use thiserror::Error;
 use value_types::Shape;
 
@@ -42,6 +43,32 @@ pub trait Peer: Send {
     fn call(&mut self, call: &Call) -> Result<Reply, PeerFault>
         requires { Permitted (view self.old).fixed.shape (view self.old).phase call.now }
         ensures { Asked (view self.old) call.now result (view self.new) };
+
+    /// Answers calls one after another, all of which read variables or all of which set them, up to the first answer that
+    /// isn't good, and tells how many were answered. After a fault the places of the replies that didn't come are as they
+    /// were. It takes no memory.
+    fn call_many(&mut self, calls: &[Call], replies: &mut [Reply]) -> Result<usize, PeerFault>
+        requires sort { AreOfOneSort calls.now }
+        requires places { length replies.old ≡ length calls.now }
+        requires may { MayAskAll (view self.old).fixed.shape (view self.old).phase calls.now }
+        ensures places { length replies.new ≡ length calls.now }
+        ensures asked { AskedMany (view self.old) calls.now replies.old replies.new result
+            (view self.new) }
+    {
+        for i in 0..calls.len() {
+            match self.call(&calls[i]) {
+                Ok(reply) => {
+                    replies[i] = reply;
+                    match grade(self.shape(), self.phase(), &calls[i], &reply) {
+                        Grade::Good => {}
+                        Grade::Refused | Grade::Misreply => return Ok(i + 1),
+                    }
+                }
+                Err(fault) => return Err(fault),
+            }
+        }
+        Ok(calls.len())
+    }
 
     /// A told machine is one of its shape.
     ghost machine: { (p : Self) → IfSome (view p).fixed.machine (IsMachineOf (view p).fixed.shape) };

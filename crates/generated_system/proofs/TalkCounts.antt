@@ -21,7 +21,7 @@ abbrev HasCountsOf : Phase → Phase → Type 0
 HasCountsOf p q = (p.exchanges ≡ q.exchanges) × (p.restores ≡ q.restores)
 
 entered_keeps : (shape : Shape) (phase : Phase) (call : Call) (reply : Reply) → HasCountsOf (entered shape phase call reply) phase
-entered_keeps shape phase (C.Instantiate event_mode early_return) reply = (refl, refl)
+entered_keeps shape phase (C.Instantiate event_mode early_return batches) reply = (refl, refl)
 entered_keeps shape phase _ reply = (refl, refl)
 
 graded_keeps : (shape : Shape) (phase : Phase) (call : Call) (reply : Reply) (grade : Grade) → HasCountsOf (graded shape phase call reply grade) phase

@@ -104,4 +104,5 @@ bench_plan workers = record {
   stop = 100;
   limit = 100;
   workers = workers;
+  link = 1;
 }

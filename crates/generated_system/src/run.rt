@@ -16,6 +16,7 @@ pub fn bench_plan(workers: u32) -> Plan
         stop: 100,
         limit: 100,
         workers,
+        link: 1,
     }
 }
 

@@ -30,13 +30,16 @@ pub takes_none : (a : SourceView) → Takes a a []
 takes_none a = record { taken = consumes-nil a.left; quiet = refl }
 
 -- the front of the room once a part behind a place is written
-pub front_more : (into part : List ℕ) (count n : ℕ) → count ≤ length into → n ≤ length part → take (count + n) (put_mid count (length into - count) into part) ≡ take count into ++ take n part
-front_more into part count n within few =
-    let k = length into - count in
-    let whole : take (count + length part) (put_mid count k into part) ≡ take count into ++ part = take-put_mid count k into part (count + length part) refl within in
+pub part_written : (into part : List ℕ) (count size n : ℕ) → count ≤ length into → n ≤ length part → take (count + n) (put_mid count size into part) ≡ take count into ++ take n part
+part_written into part count size n within few =
+    let whole : take (count + length part) (put_mid count size into part) ≡ take count into ++ part = take-put_mid count size into part (count + length part) refl within in
     let long : length (take count into) ≡ count = length-take count into ∙ omega (arith, within) in
-    sym (take-take (count + n) (count + length part) (put_mid count k into part) (omega (arith, few)))
+    sym (take-take (count + n) (count + length part) (put_mid count size into part) (omega (arith, few)))
     ∙ ap (take (count + n)) whole ∙ ap (λ (m : ℕ). take (m + n) (take count into ++ part)) (sym long) ∙ take-append-add (take count into) part n
+
+-- all that stands behind the place
+pub front_more : (into part : List ℕ) (count n : ℕ) → count ≤ length into → n ≤ length part → take (count + n) (put_mid count (length into - count) into part) ≡ take count into ++ take n part
+front_more into part count n within few = part_written into part count (length into - count) n within few
 
 room_more : (into part : List ℕ) (count n : ℕ) → count ≤ length into → n ≤ length part → count + n ≤ length (put_mid count (length into - count) into part)
 room_more into part count n within few =
@@ -61,3 +64,11 @@ pub resized : (old new head rest : List ℕ) (n : ℕ) → old ≡ head → new 
 resized old new head rest n same e long many =
     let all : take n old ≡ head = ap (take n) same ∙ take_all n head (omega (arith, long, many)) in
     ap (take 24) (e ∙ ap (λ l. l ++ rest) all) ∙ take-append-le 24 head rest (omega (arith, long)) ∙ take_all 24 head (omega (arith, long))
+
+-- what was copied to the front of the room
+pub copied : (room part : List ℕ) (size : ℕ) → length part ≡ 24 → take 24 (put_mid 0 size room part) ≡ part
+copied room part size long = take-put_mid 0 size room part 24 (omega (arith, long)) (omega arith)
+
+-- and a part that was written behind it
+pub written_behind : (room first part : List ℕ) (size n : ℕ) → take 24 room ≡ first → 24 ≤ length room → n ≤ length part → take (24 + n) (put_mid 24 size room part) ≡ first ++ take n part
+written_behind room first part size n front within few = part_written room part 24 size n within few ∙ ap (λ (xs : List ℕ). xs ++ take n part) front

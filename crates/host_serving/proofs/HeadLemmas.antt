@@ -3,11 +3,13 @@ use Rattle.std.proofs.Common.{◌≡◌, ℕ, ◌+◌, ◌^◌, ◌≤◌, ◌<�
 use Rattle.std.proofs.lemmas.List.{take-append-le, take_all}
 use Rattle.std.proofs.lemmas.Nat.{from_be_bytes-to_be_bytes_8}
 use Rattle.std.specs.Int.{w64, to_be_bytes, from_be_bytes}
+use Rattle.std.specs.Prelude.{slice_index}
 use Rattle.fmi_calls.specs.KindFacts.{facts_of}
 use Rattle.fmi_calls.specs.Kinds.{kind_of}
 use Rattle.fmi_calls.specs.declared.call.Call.{Call}
 use Rattle.fmi_calls.specs.declared.call.Call.TheVariants as C
 use Rattle.link_frames.specs.declared.call.CallFrame.{CallFrame}
+use Rattle.link_frames.specs.Batch.{IsHeadOf}
 use Rattle.link_frames.specs.Head.{InRange, head, spelling}
 use Rattle.link_frames.specs.Call.{CanBeSent, IsCallFrame, bytes_at, detail_of, first_of, head_of_call, last_of, reference_of, sent}
 use Rattle.host_serving.specs.Frames.{eight_at}
@@ -23,6 +25,14 @@ spelled_first k d f r a b = refl
 spelled_last : (k d f r a b : ℕ) → eight_at (spelling (head k d f r a b)) 16 ≡ to_be_bytes w64 b
 unfolding spelling
 spelled_last k d f r a b = refl
+
+spelled_begins : (k d f r a b : ℕ) → slice_index (spelling (head k d f r a b)) 0 ≡ k
+unfolding spelling
+spelled_begins k d f r a b = refl
+
+-- the head of a batch begins with 19
+pub head_begins : (count : ℕ) (bytes : List ℕ) → IsHeadOf count bytes → slice_index bytes 0 ≡ 19
+head_begins count bytes h = ap (λ (xs : List ℕ). slice_index xs 0) h.spelled ∙ spelled_begins 19 0 0 count 0 0
 
 -- the two numbers at the end of the head are the lengths of the texts
 pub record TellsTexts (front more : List ℕ) : Type 0 where
@@ -60,8 +70,8 @@ no_texts k d f r a b front more long some e = let whole = whole_length k d f r a
 
 by_call : (call : Call) (name token front more : List ℕ) → length front ≡ 24 → 0 < length more → front ++ more ≡ spelling (head_of_call call (length name) (length token)) ++ (sent call name ++ sent call token)
     → InRange (head_of_call call (length name) (length token)) → CanBeSent call (length name) (length token) → TellsTexts front more
-by_call (C.Instantiate event_mode early_return) name token front more long some e range can =
-    let call = C.Instantiate event_mode early_return in
+by_call (C.Instantiate event_mode early_return batches) name token front more long some e range can =
+    let call = C.Instantiate event_mode early_return batches in
     by_numbers (facts_of (kind_of call)).number (detail_of call) 0 (reference_of call) (length name) (length token) front more (name ++ token) long e (length-append name token)
     (omega (arith, can.1, can.2)) range.first range.last
 by_call call name token front more long some e range can =

@@ -4,3 +4,7 @@ mod HeadLemmas
 mod ComingLemmas
 mod ServingLemmas
 mod ToldLemmas
+mod LinkFrames
+mod ItemLemmas
+mod AnsweringLemmas
+mod ToldMachines

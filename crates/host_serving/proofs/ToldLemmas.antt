@@ -1,5 +1,5 @@
 -- What told bytes come to is what is served of them.
-use Rattle.std.proofs.Common.{◌≡◌, ◌≢◌, inl, inr, ℕ, suc, ◌+◌, ◌<◌, ◌≤◌, List, [], ◌∷◌, ◌++◌, length, take, drop, Option, Some, None, Ok, refl, sym, ap, subst, ◌∙◌, arith, length-append, append-nil}
+use Rattle.std.proofs.Common.{◌≡◌, ◌≢◌, ◌⊎◌, inl, inr, ℕ, ◌+◌, ◌<◌, ◌≤◌, List, [], ◌∷◌, ◌++◌, length, take, drop, Option, Some, None, refl, sym, ap, subst, ◌∙◌, arith, length-append, append-nil}
 use Rattle.std.proofs.Math.Seq.{drop-append_seam}
 use Rattle.std.proofs.lemmas.List.{take-append-le, take_all}
 use Rattle.std.specs.Io.KnownBytes.{Consumes, IsAtEnd}
@@ -11,78 +11,89 @@ use Rattle.fmi_calls.specs.declared.call.Call.{Call}
 use Rattle.fmi_calls.specs.declared.call.Call.TheVariants as C
 use Rattle.fmi_calls.specs.declared.call.Reply.{Reply}
 use Rattle.fmi_calls.specs.declared.phase.Phase.{Phase}
-use Rattle.link_frames.specs.Call.{IsCallFrame}
 use Rattle.link_frames.specs.Taking.{Begins, Breaks, Gets, IsFront}
 use Rattle.link_frames.specs.declared.call.CallFrame.{CallFrame}
 use Rattle.link_frames.specs.declared.taken.Taken.{Taken}
 use Rattle.link_frames.specs.declared.taken.Taken.TheVariants.{Got, NeedMore, Bad}
-use Rattle.link_frames.proofs.CallerLemmas.{call_single, only_one}
+use Rattle.link_frames.proofs.CallerLemmas.{only_one}
+use Rattle.link_frames.specs.Reply.{frame_of}
 use Rattle.fmu_peer.specs.Machine.{Machine, MachineState, after}
-use Rattle.fmu_peer.specs.View.{AnswersAs}
+use Rattle.fmu_peer.specs.Many.{exchanges}
 use Rattle.host_serving.specs.declared.serving.ServeEnd.{ServeEnd}
 use Rattle.host_serving.specs.declared.serving.ServeEnd.TheVariants as E
-use Rattle.host_serving.specs.Frames.{EndsBetween, EndsInside, IsNoFrame, TakesBad, TakesCall}
-use Rattle.host_serving.specs.Serving.{EndsBy, GoesOn, HasServed, IsCounted, IsStill, More, Nothing, Scene, Served, Serves, ServesOne}
-use Rattle.host_serving.specs.Told.{Comes, CutFrame, Forbidden, KeepsTo, Last, MayKeepTo, Next, NoFrame, Over, ServesAsTold, StartsWith, Tells, with_frames}
-use Rattle.link_frames.specs.Reply.{frame_of}
-use Rattle.host_serving.proofs.HeadLemmas.{frame_long}
+use Rattle.host_serving.specs.Frames.{EndsBetween, EndsInside, IsBatchOfCalls, IsLinkFrame, IsNoFrame, TakesBad, TakesCall}
+use Rattle.host_serving.specs.Serving.{EndsBy, Forbids, ForbidsOne, GoesOn, Single, Together, HasServed, IsCounted, IsStill, More, Nothing, Reaches, Scene, Served, Serves, ServesMany, ServesOne, TakesCalls, as_sent, served_of}
+use Rattle.host_serving.specs.Told.{Comes, CutFrame, Forbidden, ForbiddenItem, ItemForbidden, ItemsCome, KeepsTo, Last, MayKeepTo, Next, NextBatch, NoFrame, Over, ServesAsTold, StartsWith, StartsWithBatch, Tells, batch_of, with_pieces}
+use Rattle.host_serving.proofs.LinkFrames.{batch_link, link_long, link_single, same_calls}
+use Rattle.host_serving.proofs.ServingLemmas.{served_length}
+use Rattle.host_serving.proofs.ItemLemmas.{Answer, Items, StandsAt, answered, forbids_same, items_not_forbidden, items_run, items_same, never_forbidden, pieces_same, shape_along}
 
 -- ---- what bytes begin with
 
+-- a single call or a batch of so many
+abbrev Link : Type 0
+Link = CallFrame ⊎ ℕ
+
 -- a frame at the front of bytes is what is taken from them
-gets_front : (frame : CallFrame) (front rest bytes : List ℕ) → IsCallFrame frame front → bytes ≡ front ++ rest → Gets IsCallFrame bytes frame (length front)
+gets_front : (frame : Link) (front rest bytes : List ℕ) → IsLinkFrame frame front → bytes ≡ front ++ rest → Gets IsLinkFrame bytes frame (length front)
 gets_front frame front rest bytes spelled both =
     let whole = ap length both ∙ length-append front rest in
     let is : take (length front) bytes ≡ front =
     ap (take (length front)) both ∙ take-append-le (length front) front rest (omega arith) ∙ take_all (length front) front (omega arith) in
-    record { within = omega (arith, whole); spelled = subst (IsCallFrame frame) (sym is) spelled }
+    record { within = omega (arith, whole); spelled = subst (IsLinkFrame frame) (sym is) spelled }
 
-got_value : (a b : CallFrame) (m n : ℕ) → ◌≡◌ {A = Taken CallFrame} (Got a m) (Got b n) → a ≡ b
+got_value : (a b : Link) (m n : ℕ) → ◌≡◌ {A = Taken Link} (Got a m) (Got b n) → a ≡ b
 got_value a b m n e = cc
 
-got_size : (a b : CallFrame) (m n : ℕ) → ◌≡◌ {A = Taken CallFrame} (Got a m) (Got b n) → m ≡ n
+got_size : (a b : Link) (m n : ℕ) → ◌≡◌ {A = Taken Link} (Got a m) (Got b n) → m ≡ n
 got_size a b m n e = cc
 
-bad_place : (a b : ℕ) → ◌≡◌ {A = Taken CallFrame} (Bad a) (Bad b) → a ≡ b
+bad_place : (a b : ℕ) → ◌≡◌ {A = Taken Link} (Bad a) (Bad b) → a ≡ b
 bad_place a b e = cc
 
 -- what follows a front
 behind : (front rest bytes : List ℕ) → bytes ≡ front ++ rest → drop (length front) bytes ≡ rest
 behind front rest bytes both = ap (drop (length front)) both ∙ drop-append_seam front rest
 
-record SameFront (a b : CallFrame) (u v : List ℕ) : Type 0 where
+-- a front of so many bytes
+ahead : (front rest bytes : List ℕ) → bytes ≡ front ++ rest → take (length front) bytes ≡ front
+ahead front rest bytes both = ap (take (length front)) both ∙ take-append-le (length front) front rest (omega arith) ∙ take_all (length front) front (omega arith)
+
+record SameFront (a b : Link) (xs ys u v : List ℕ) : Type 0 where
   value : a ≡ b
+  front : xs ≡ ys
   rest : u ≡ v
 
 -- bytes begin with one frame at most
-same_front : (a b : CallFrame) (xs ys u v bytes : List ℕ) → IsCallFrame a xs → IsCallFrame b ys → bytes ≡ xs ++ u → bytes ≡ ys ++ v → SameFront a b u v
+same_front : (a b : Link) (xs ys u v bytes : List ℕ) → IsLinkFrame a xs → IsLinkFrame b ys → bytes ≡ xs ++ u → bytes ≡ ys ++ v → SameFront a b xs ys u v
 same_front a b xs ys u v bytes is_a is_b first second =
-    let one = only_one IsCallFrame call_single bytes (Got a (length xs)) (Got b (length ys)) (gets_front a xs u bytes is_a first) (gets_front b ys v bytes is_b second) in
+    let one = only_one IsLinkFrame link_single bytes (Got a (length xs)) (Got b (length ys)) (gets_front a xs u bytes is_a first) (gets_front b ys v bytes is_b second) in
     let long = got_size a b (length xs) (length ys) one in
     record {
       value = got_value a b (length xs) (length ys) one;
+      front = sym (ahead xs u bytes first) ∙ ap (λ (n : ℕ). take n bytes) long ∙ ahead ys v bytes second;
       rest = sym (behind xs u bytes first) ∙ ap (λ (n : ℕ). drop n bytes) long ∙ behind ys v bytes second;
     }
 
 -- where a frame begins, no byte breaks one, and the bytes don't end inside one
-no_break : (frame : CallFrame) (front rest bytes : List ℕ) (at : ℕ) → IsCallFrame frame front → bytes ≡ front ++ rest → Breaks IsCallFrame bytes at → ⊥
+no_break : (frame : Link) (front rest bytes : List ℕ) (at : ℕ) → IsLinkFrame frame front → bytes ≡ front ++ rest → Breaks IsLinkFrame bytes at → ⊥
 no_break frame front rest bytes at spelled both breaks =
-    let one = only_one IsCallFrame call_single bytes (Got frame (length front)) (Bad at) (gets_front frame front rest bytes spelled both) breaks in cc
+    let one = only_one IsLinkFrame link_single bytes (Got frame (length front)) (Bad at) (gets_front frame front rest bytes spelled both) breaks in cc
 
-no_cut : (frame : CallFrame) (front rest bytes : List ℕ) → IsCallFrame frame front → bytes ≡ front ++ rest → IsFront IsCallFrame bytes → ⊥
+no_cut : (frame : Link) (front rest bytes : List ℕ) → IsLinkFrame frame front → bytes ≡ front ++ rest → IsFront IsLinkFrame bytes → ⊥
 no_cut frame front rest bytes spelled both cut =
-    let one = only_one IsCallFrame call_single bytes (Got frame (length front)) NeedMore (gets_front frame front rest bytes spelled both) cut in cc
+    let one = only_one IsLinkFrame link_single bytes (Got frame (length front)) NeedMore (gets_front frame front rest bytes spelled both) cut in cc
 
-no_both : (bytes : List ℕ) (at : ℕ) → Breaks IsCallFrame bytes at → IsFront IsCallFrame bytes → ⊥
-no_both bytes at breaks cut = let one = only_one IsCallFrame call_single bytes (Bad at) NeedMore breaks cut in cc
+no_both : (bytes : List ℕ) (at : ℕ) → Breaks IsLinkFrame bytes at → IsFront IsLinkFrame bytes → ⊥
+no_both bytes at breaks cut = let one = only_one IsLinkFrame link_single bytes (Bad at) NeedMore breaks cut in cc
 
-same_place : (bytes : List ℕ) (a b : ℕ) → Breaks IsCallFrame bytes a → Breaks IsCallFrame bytes b → a ≡ b
-same_place bytes a b first second = bad_place a b (only_one IsCallFrame call_single bytes (Bad a) (Bad b) first second)
+same_place : (bytes : List ℕ) (a b : ℕ) → Breaks IsLinkFrame bytes a → Breaks IsLinkFrame bytes b → a ≡ b
+same_place bytes a b first second = bad_place a b (only_one IsLinkFrame link_single bytes (Bad a) (Bad b) first second)
 
 -- no frame begins where no byte is
-no_bytes : (frame : CallFrame) (front rest : List ℕ) → IsCallFrame frame front → [] ≡ front ++ rest → ⊥
+no_bytes : (frame : Link) (front rest : List ℕ) → IsLinkFrame frame front → [] ≡ front ++ rest → ⊥
 no_bytes frame front rest spelled both =
-    let long = frame_long frame front spelled in
+    let long = link_long frame front spelled in
     let whole = ap length both ∙ length-append front rest in
     omega (arith, long, whole)
 
@@ -107,114 +118,180 @@ all_taken new bytes taken left end =
     left.both ∙ ap (λ (l : List ℕ). taken ++ l) none ∙ append-nil taken
 
 -- bytes that break are no front of others that go on
-breaks_more : (taken rest bytes : List ℕ) (at : ℕ) → bytes ≡ taken ++ rest → Breaks IsCallFrame taken at → Breaks IsCallFrame bytes at
+breaks_more : (taken rest bytes : List ℕ) (at : ℕ) → bytes ≡ taken ++ rest → Breaks IsLinkFrame taken at → Breaks IsLinkFrame bytes at
 breaks_more taken rest bytes at both breaks =
     let whole = ap length both ∙ length-append taken rest in
     let same : (n : ℕ) → n ≤ length taken → take n bytes ≡ take n taken = λ n few. ap (take n) both ∙ take-append-le n taken rest few in
     record {
       within = omega (arith, whole, breaks.within);
-      front = subst (IsFront IsCallFrame) (sym (same at (omega (arith, breaks.within)))) breaks.front;
-      none = λ begins. breaks.none (subst (Begins IsCallFrame) (same (at + 1) (omega (arith, breaks.within))) begins);
+      front = subst (IsFront IsLinkFrame) (sym (same at (omega (arith, breaks.within)))) breaks.front;
+      none = λ begins. breaks.none (subst (Begins IsLinkFrame) (same (at + 1) (omega (arith, breaks.within))) begins);
     }
 
 -- ---- what the bytes come to, by what was taken of them
 
 -- behind the frame of a call
-data AtCall (shape : Shape) (m : Machine) (phase : Phase) (s : MachineState) (call : Call) (rest : List ℕ) : List Reply → ServeEnd → Type 0 where
-  Refuses : (Permitted shape phase call → ⊥) → AtCall shape m phase s call rest [] (E.NotPermitted call)
-  Frees : Permitted shape phase call → call ≡ C.FreeInstance → AtCall shape m phase s call rest (m.look s call ∷ []) E.Freed
-  Goes : (replies : List Reply) (end : ServeEnd) → Permitted shape phase call → call ≢ C.FreeInstance →
-      Comes shape m (next_of shape phase call (Some (m.look s call))) (after m s call) rest replies end → AtCall shape m phase s call rest (m.look s call ∷ replies) end
+data AtCall (shape : Shape) (m : Machine) (phase : Phase) (s : MachineState) (call : Call) (rest : List ℕ) : List (List ℕ) → ℕ → ServeEnd → Type 0 where
+  Refuses : (Permitted shape phase call → ⊥) → AtCall shape m phase s call rest [] 0 (E.NotPermitted call)
+  Frees : Permitted shape phase call → call ≡ C.FreeInstance → AtCall shape m phase s call rest (frame_of (as_sent call (m.look s call)) ∷ []) 1 E.Freed
+  Goes : (pieces : List (List ℕ)) (count : ℕ) (end : ServeEnd) → Permitted shape phase call → call ≢ C.FreeInstance →
+      Comes shape m (next_of shape phase call (Some (m.look s call))) (after m s call) rest pieces count end → AtCall shape m phase s call rest (frame_of (as_sent call (m.look s call)) ∷ pieces) (1 + count) end
 
--- no reply follows, and this is the end
-record IsOver (replies : List Reply) (end other : ServeEnd) : Type 0 where
-  none : replies ≡ []
+-- behind a batch of calls
+data AtBatch (shape : Shape) (m : Machine) (phase : Phase) (s : MachineState) (calls : List Call) (rest : List ℕ) : List (List ℕ) → ℕ → ServeEnd → Type 0 where
+  Halts : (call : Call) → ItemForbidden shape m call phase s calls → AtBatch shape m phase s calls rest [] 0 (E.NotPermitted call)
+  Answers : (q : Phase) (z : MachineState) (replies : List Reply) (pieces : List (List ℕ)) (count : ℕ) (end : ServeEnd) → ItemsCome shape m phase s calls replies q z →
+      Comes shape m q z rest pieces count end → AtBatch shape m phase s calls rest (batch_of replies ∷ pieces) (length replies + count) end
+
+-- no piece follows, and this is the end
+record IsOver (pieces : List (List ℕ)) (end other : ServeEnd) : Type 0 where
+  none : pieces ≡ []
   is : end ≡ other
 
+-- what begins with a call, or with a batch, begins with a frame
+abbrev call_link : CallFrame → Link
+call_link f = inl f
+
+batch_starts : (bytes : List ℕ) (calls : List Call) (rest : List ℕ) (starts : StartsWithBatch bytes calls rest) → IsLinkFrame (inr (length starts.batch.frames)) starts.front
+batch_starts bytes calls rest starts = batch_link calls starts.front starts.batch
+
+-- a frame of a call is no batch
+never : (f : CallFrame) (n : ℕ) → ◌≡◌ {A = Link} (inl f) (inr n) → ⊥
+never f n e = cc
+
+same_call : (f g : CallFrame) → ◌≡◌ {A = Link} (inl f) (inl g) → f ≡ g
+same_call f g e = cc
+
 module _ (shape : Shape) (m : Machine) where
-  moved : (phase : Phase) (s : MachineState) (call other : Call) (rest rest' : List ℕ) (replies : List Reply) (end : ServeEnd) → call ≡ other → rest ≡ rest' →
-      AtCall shape m phase s call rest replies end → AtCall shape m phase s other rest' replies end
-  moved phase s call other rest rest' replies end same same_rest at =
-      subst (λ (c : Call). AtCall shape m phase s c rest' replies end) same (subst (λ (l : List ℕ). AtCall shape m phase s call l replies end) same_rest at)
+  moved : (phase : Phase) (s : MachineState) (call other : Call) (rest rest' : List ℕ) (pieces : List (List ℕ)) (count : ℕ) (end : ServeEnd) → call ≡ other → rest ≡ rest' →
+      AtCall shape m phase s call rest pieces count end → AtCall shape m phase s other rest' pieces count end
+  moved phase s call other rest rest' pieces count end same same_rest at =
+      subst (λ (c : Call). AtCall shape m phase s c rest' pieces count end) same (subst (λ (l : List ℕ). AtCall shape m phase s call l pieces count end) same_rest at)
 
-  at_call : (phase : Phase) (s : MachineState) (bytes : List ℕ) (replies : List Reply) (end : ServeEnd) → Comes shape m phase s bytes replies end →
-      (call : Call) (rest : List ℕ) → StartsWith bytes call rest → AtCall shape m phase s call rest replies end
-  at_call _ _ _ _ _ (Over phase s) call rest starts = absurd (no_bytes starts.frame starts.front rest starts.spelled starts.both)
-  at_call _ _ _ _ _ (NoFrame phase s bytes at breaks) call rest starts = absurd (no_break starts.frame starts.front rest bytes at starts.spelled starts.both breaks)
-  at_call _ _ _ _ _ (CutFrame phase s bytes some cut) call rest starts = absurd (no_cut starts.frame starts.front rest bytes starts.spelled starts.both cut)
-  at_call _ _ _ _ _ (Forbidden phase s bytes rest' call' starts' cannot) call rest starts =
-      let same = same_front starts'.frame starts.frame starts'.front starts.front rest' rest bytes starts'.spelled starts.spelled starts'.both starts.both in
-      moved phase s call' call rest' rest [] (E.NotPermitted call') (sym starts'.is ∙ ap (λ (f : CallFrame). f.call) same.value ∙ starts.is) same.rest (Refuses cannot)
-  at_call _ _ _ _ _ (Last phase s bytes rest' call' starts' may frees) call rest starts =
-      let same = same_front starts'.frame starts.frame starts'.front starts.front rest' rest bytes starts'.spelled starts.spelled starts'.both starts.both in
-      moved phase s call' call rest' rest (m.look s call' ∷ []) E.Freed (sym starts'.is ∙ ap (λ (f : CallFrame). f.call) same.value ∙ starts.is) same.rest (Frees may frees)
-  at_call _ _ _ _ _ (Next phase s bytes rest' call' replies end starts' may unfreed comes) call rest starts =
-      let same = same_front starts'.frame starts.frame starts'.front starts.front rest' rest bytes starts'.spelled starts.spelled starts'.both starts.both in
-      moved phase s call' call rest' rest (m.look s call' ∷ replies) end (sym starts'.is ∙ ap (λ (f : CallFrame). f.call) same.value ∙ starts.is) same.rest (Goes replies end may unfreed comes)
+  moved_batch : (phase : Phase) (s : MachineState) (calls other : List Call) (rest rest' : List ℕ) (pieces : List (List ℕ)) (count : ℕ) (end : ServeEnd) → calls ≡ other → rest ≡ rest' →
+      AtBatch shape m phase s calls rest pieces count end → AtBatch shape m phase s other rest' pieces count end
+  moved_batch phase s calls other rest rest' pieces count end same same_rest at =
+      subst (λ (cs : List Call). AtBatch shape m phase s cs rest' pieces count end) same (subst (λ (l : List ℕ). AtBatch shape m phase s calls l pieces count end) same_rest at)
 
-  at_end : (phase : Phase) (s : MachineState) (bytes : List ℕ) (replies : List Reply) (end : ServeEnd) → Comes shape m phase s bytes replies end → bytes ≡ [] → IsOver replies end E.Ended
-  at_end _ _ _ _ _ (Over phase s) empty = record { none = refl; is = refl }
-  at_end _ _ _ _ _ (NoFrame phase s bytes at breaks) empty = let long = ap length empty in absurd (omega (arith, long, breaks.within))
-  at_end _ _ _ _ _ (CutFrame phase s bytes some cut) empty = let long = ap length empty in absurd (omega (arith, long, some))
-  at_end _ _ _ _ _ (Forbidden phase s bytes rest call starts cannot) empty = absurd (no_bytes starts.frame starts.front rest starts.spelled (sym empty ∙ starts.both))
-  at_end _ _ _ _ _ (Last phase s bytes rest call starts may frees) empty = absurd (no_bytes starts.frame starts.front rest starts.spelled (sym empty ∙ starts.both))
-  at_end _ _ _ _ _ (Next phase s bytes rest call replies end starts may unfreed comes) empty = absurd (no_bytes starts.frame starts.front rest starts.spelled (sym empty ∙ starts.both))
+  -- two calls that the same bytes begin with
+  both_calls : (bytes : List ℕ) (call call' : Call) (rest rest' : List ℕ) (a : StartsWith bytes call rest) (b : StartsWith bytes call' rest') → (call ≡ call') × (rest ≡ rest')
+  both_calls bytes call call' rest rest' a b =
+      let same = same_front (inl a.frame) (inl b.frame) a.front b.front rest rest' bytes a.spelled b.spelled a.both b.both in
+      (sym a.is ∙ ap (λ (f : CallFrame). f.call) (same_call a.frame b.frame same.value) ∙ b.is, same.rest)
 
-  at_break : (phase : Phase) (s : MachineState) (bytes : List ℕ) (replies : List Reply) (end : ServeEnd) → Comes shape m phase s bytes replies end →
-      (place : ℕ) → Breaks IsCallFrame bytes place → IsOver replies end (E.BadFrame place)
-  at_break _ _ _ _ _ (Over phase s) place breaks = absurd (omega (arith, breaks.within))
-  at_break _ _ _ _ _ (NoFrame phase s bytes at breaks') place breaks = record { none = refl; is = ap (λ (n : ℕ). E.BadFrame n) (same_place bytes at place breaks' breaks) }
-  at_break _ _ _ _ _ (CutFrame phase s bytes some cut) place breaks = absurd (no_both bytes place breaks cut)
-  at_break _ _ _ _ _ (Forbidden phase s bytes rest call starts cannot) place breaks = absurd (no_break starts.frame starts.front rest bytes place starts.spelled starts.both breaks)
-  at_break _ _ _ _ _ (Last phase s bytes rest call starts may frees) place breaks = absurd (no_break starts.frame starts.front rest bytes place starts.spelled starts.both breaks)
-  at_break _ _ _ _ _ (Next phase s bytes rest call replies end starts may unfreed comes) place breaks = absurd (no_break starts.frame starts.front rest bytes place starts.spelled starts.both breaks)
+  -- two batches
+  both_batches : (bytes : List ℕ) (calls calls' : List Call) (rest rest' : List ℕ) (a : StartsWithBatch bytes calls rest) (b : StartsWithBatch bytes calls' rest') → (calls ≡ calls') × (rest ≡ rest')
+  both_batches bytes calls calls' rest rest' a b =
+      let same = same_front (inr (length a.batch.frames)) (inr (length b.batch.frames)) a.front b.front rest rest' bytes (batch_starts bytes calls rest a) (batch_starts bytes calls' rest' b) a.both b.both in
+      (same_calls calls calls' b.front (subst (IsBatchOfCalls calls) same.front a.batch) b.batch, same.rest)
 
-  at_cut : (phase : Phase) (s : MachineState) (bytes : List ℕ) (replies : List Reply) (end : ServeEnd) → Comes shape m phase s bytes replies end →
-      0 < length bytes → IsFront IsCallFrame bytes → IsOver replies end (E.BadFrame (length bytes))
-  at_cut _ _ _ _ _ (Over phase s) some cut = absurd (omega (arith, some))
-  at_cut _ _ _ _ _ (NoFrame phase s bytes at breaks) some cut = absurd (no_both bytes at breaks cut)
-  at_cut _ _ _ _ _ (CutFrame phase s bytes some' cut') some cut = record { none = refl; is = refl }
-  at_cut _ _ _ _ _ (Forbidden phase s bytes rest call starts cannot) some cut = absurd (no_cut starts.frame starts.front rest bytes starts.spelled starts.both cut)
-  at_cut _ _ _ _ _ (Last phase s bytes rest call starts may frees) some cut = absurd (no_cut starts.frame starts.front rest bytes starts.spelled starts.both cut)
-  at_cut _ _ _ _ _ (Next phase s bytes rest call replies end starts may unfreed comes) some cut = absurd (no_cut starts.frame starts.front rest bytes starts.spelled starts.both cut)
+  -- not one of each
+  not_both : (bytes : List ℕ) (call : Call) (calls : List Call) (rest rest' : List ℕ) → StartsWith bytes call rest → StartsWithBatch bytes calls rest' → ⊥
+  not_both bytes call calls rest rest' a b =
+      let same = same_front (inl a.frame) (inr (length b.batch.frames)) a.front b.front rest rest' bytes a.spelled (batch_starts bytes calls rest' b) a.both b.both in
+      never a.frame (length b.batch.frames) same.value
 
--- ---- one call that was served
+  at_call : (phase : Phase) (s : MachineState) (bytes : List ℕ) (pieces : List (List ℕ)) (count : ℕ) (end : ServeEnd) → Comes shape m phase s bytes pieces count end →
+      (call : Call) (rest : List ℕ) → StartsWith bytes call rest → AtCall shape m phase s call rest pieces count end
+  at_call _ _ _ _ _ _ (Over phase s) call rest starts = absurd (no_bytes (inl starts.frame) starts.front rest starts.spelled starts.both)
+  at_call _ _ _ _ _ _ (NoFrame phase s bytes at breaks) call rest starts = absurd (no_break (inl starts.frame) starts.front rest bytes at starts.spelled starts.both breaks)
+  at_call _ _ _ _ _ _ (CutFrame phase s bytes some cut) call rest starts = absurd (no_cut (inl starts.frame) starts.front rest bytes starts.spelled starts.both cut)
+  at_call _ _ _ _ _ _ (Forbidden phase s bytes rest' call' starts' cannot) call rest starts =
+      let same = both_calls bytes call' call rest' rest starts' starts in
+      moved phase s call' call rest' rest [] 0 (E.NotPermitted call') same.0 same.1 (Refuses cannot)
+  at_call _ _ _ _ _ _ (ForbiddenItem phase s bytes rest' calls' call' starts' forbidden) call rest starts = absurd (not_both bytes call calls' rest rest' starts starts')
+  at_call _ _ _ _ _ _ (Last phase s bytes rest' call' starts' may frees) call rest starts =
+      let same = both_calls bytes call' call rest' rest starts' starts in
+      moved phase s call' call rest' rest (frame_of (as_sent call' (m.look s call')) ∷ []) 1 E.Freed same.0 same.1 (Frees may frees)
+  at_call _ _ _ _ _ _ (Next phase s bytes rest' call' pieces count end starts' may unfreed comes) call rest starts =
+      let same = both_calls bytes call' call rest' rest starts' starts in
+      moved phase s call' call rest' rest (frame_of (as_sent call' (m.look s call')) ∷ pieces) (1 + count) end same.0 same.1 (Goes pieces count end may unfreed comes)
+  at_call _ _ _ _ _ _ (NextBatch phase q s z bytes rest' calls' replies pieces count end starts' items comes) call rest starts = absurd (not_both bytes call calls' rest rest' starts starts')
 
-record Answer (reply looked : Reply) (new : Option MachineState) (state : MachineState) : Type 0 where
-  looks : reply ≡ looked
-  leads : new ≡ Some state
+  at_batch : (phase : Phase) (s : MachineState) (bytes : List ℕ) (pieces : List (List ℕ)) (count : ℕ) (end : ServeEnd) → Comes shape m phase s bytes pieces count end →
+      (calls : List Call) (rest : List ℕ) → StartsWithBatch bytes calls rest → AtBatch shape m phase s calls rest pieces count end
+  at_batch _ _ _ _ _ _ (Over phase s) calls rest starts = absurd (no_bytes (inr (length starts.batch.frames)) starts.front rest (batch_starts [] calls rest starts) starts.both)
+  at_batch _ _ _ _ _ _ (NoFrame phase s bytes at breaks) calls rest starts = absurd (no_break (inr (length starts.batch.frames)) starts.front rest bytes at (batch_starts bytes calls rest starts) starts.both breaks)
+  at_batch _ _ _ _ _ _ (CutFrame phase s bytes some cut) calls rest starts = absurd (no_cut (inr (length starts.batch.frames)) starts.front rest bytes (batch_starts bytes calls rest starts) starts.both cut)
+  at_batch _ _ _ _ _ _ (Forbidden phase s bytes rest' call' starts' cannot) calls rest starts = absurd (not_both bytes call' calls rest' rest starts' starts)
+  at_batch _ _ _ _ _ _ (ForbiddenItem phase s bytes rest' calls' call' starts' forbidden) calls rest starts =
+      let same = both_batches bytes calls' calls rest' rest starts' starts in
+      moved_batch phase s calls' calls rest' rest [] 0 (E.NotPermitted call') same.0 same.1 (Halts call' forbidden)
+  at_batch _ _ _ _ _ _ (Last phase s bytes rest' call' starts' may frees) calls rest starts = absurd (not_both bytes call' calls rest' rest starts' starts)
+  at_batch _ _ _ _ _ _ (Next phase s bytes rest' call' pieces count end starts' may unfreed comes) calls rest starts = absurd (not_both bytes call' calls rest' rest starts' starts)
+  at_batch _ _ _ _ _ _ (NextBatch phase q s z bytes rest' calls' replies pieces count end starts' items comes) calls rest starts =
+      let same = both_batches bytes calls' calls rest' rest starts' starts in
+      moved_batch phase s calls' calls rest' rest (batch_of replies ∷ pieces) (length replies + count) end same.0 same.1 (Answers q z replies pieces count end items comes)
 
-answered : (machine : Option Machine) (old new : Option MachineState) (m : Machine) (s : MachineState) (call : Call) (reply : Reply) → machine ≡ Some m → old ≡ Some s →
-    AnswersAs machine old call (Ok reply) new → Answer reply (m.look s call) new (after m s call)
-answered machine old new m s call reply is_machine in_state h =
-    let told = subst (λ (a : Option Machine). AnswersAs a old call (Ok reply) new) is_machine h in
-    let both = subst (λ (b : Option MachineState). AnswersAs (Some m) b call (Ok reply) new) in_state told in
-    record { looks = both.0; leads = both.1 }
+  at_end : (phase : Phase) (s : MachineState) (bytes : List ℕ) (pieces : List (List ℕ)) (count : ℕ) (end : ServeEnd) → Comes shape m phase s bytes pieces count end → bytes ≡ [] → IsOver pieces end E.Ended
+  at_end _ _ _ _ _ _ (Over phase s) empty = record { none = refl; is = refl }
+  at_end _ _ _ _ _ _ (NoFrame phase s bytes at breaks) empty = let long = ap length empty in absurd (omega (arith, long, breaks.within))
+  at_end _ _ _ _ _ _ (CutFrame phase s bytes some cut) empty = let long = ap length empty in absurd (omega (arith, long, some))
+  at_end _ _ _ _ _ _ (Forbidden phase s bytes rest call starts cannot) empty = absurd (no_bytes (inl starts.frame) starts.front rest starts.spelled (sym empty ∙ starts.both))
+  at_end _ _ _ _ _ _ (ForbiddenItem phase s bytes rest calls call starts forbidden) empty = absurd (no_bytes (inr (length starts.batch.frames)) starts.front rest (batch_starts bytes calls rest starts) (sym empty ∙ starts.both))
+  at_end _ _ _ _ _ _ (Last phase s bytes rest call starts may frees) empty = absurd (no_bytes (inl starts.frame) starts.front rest starts.spelled (sym empty ∙ starts.both))
+  at_end _ _ _ _ _ _ (Next phase s bytes rest call pieces count end starts may unfreed comes) empty = absurd (no_bytes (inl starts.frame) starts.front rest starts.spelled (sym empty ∙ starts.both))
+  at_end _ _ _ _ _ _ (NextBatch phase q s z bytes rest calls replies pieces count end starts items comes) empty = absurd (no_bytes (inr (length starts.batch.frames)) starts.front rest (batch_starts bytes calls rest starts) (sym empty ∙ starts.both))
+
+  at_break : (phase : Phase) (s : MachineState) (bytes : List ℕ) (pieces : List (List ℕ)) (count : ℕ) (end : ServeEnd) → Comes shape m phase s bytes pieces count end →
+      (place : ℕ) → Breaks IsLinkFrame bytes place → IsOver pieces end (E.BadFrame place)
+  at_break _ _ _ _ _ _ (Over phase s) place breaks = absurd (omega (arith, breaks.within))
+  at_break _ _ _ _ _ _ (NoFrame phase s bytes at breaks') place breaks = record { none = refl; is = ap (λ (n : ℕ). E.BadFrame n) (same_place bytes at place breaks' breaks) }
+  at_break _ _ _ _ _ _ (CutFrame phase s bytes some cut) place breaks = absurd (no_both bytes place breaks cut)
+  at_break _ _ _ _ _ _ (Forbidden phase s bytes rest call starts cannot) place breaks = absurd (no_break (inl starts.frame) starts.front rest bytes place starts.spelled starts.both breaks)
+  at_break _ _ _ _ _ _ (ForbiddenItem phase s bytes rest calls call starts forbidden) place breaks = absurd (no_break (inr (length starts.batch.frames)) starts.front rest bytes place (batch_starts bytes calls rest starts) starts.both breaks)
+  at_break _ _ _ _ _ _ (Last phase s bytes rest call starts may frees) place breaks = absurd (no_break (inl starts.frame) starts.front rest bytes place starts.spelled starts.both breaks)
+  at_break _ _ _ _ _ _ (Next phase s bytes rest call pieces count end starts may unfreed comes) place breaks = absurd (no_break (inl starts.frame) starts.front rest bytes place starts.spelled starts.both breaks)
+  at_break _ _ _ _ _ _ (NextBatch phase q s z bytes rest calls replies pieces count end starts items comes) place breaks = absurd (no_break (inr (length starts.batch.frames)) starts.front rest bytes place (batch_starts bytes calls rest starts) starts.both breaks)
+
+  at_cut : (phase : Phase) (s : MachineState) (bytes : List ℕ) (pieces : List (List ℕ)) (count : ℕ) (end : ServeEnd) → Comes shape m phase s bytes pieces count end →
+      0 < length bytes → IsFront IsLinkFrame bytes → IsOver pieces end (E.BadFrame (length bytes))
+  at_cut _ _ _ _ _ _ (Over phase s) some cut = absurd (omega (arith, some))
+  at_cut _ _ _ _ _ _ (NoFrame phase s bytes at breaks) some cut = absurd (no_both bytes at breaks cut)
+  at_cut _ _ _ _ _ _ (CutFrame phase s bytes some' cut') some cut = record { none = refl; is = refl }
+  at_cut _ _ _ _ _ _ (Forbidden phase s bytes rest call starts cannot) some cut = absurd (no_cut (inl starts.frame) starts.front rest bytes starts.spelled starts.both cut)
+  at_cut _ _ _ _ _ _ (ForbiddenItem phase s bytes rest calls call starts forbidden) some cut = absurd (no_cut (inr (length starts.batch.frames)) starts.front rest bytes (batch_starts bytes calls rest starts) starts.both cut)
+  at_cut _ _ _ _ _ _ (Last phase s bytes rest call starts may frees) some cut = absurd (no_cut (inl starts.frame) starts.front rest bytes starts.spelled starts.both cut)
+  at_cut _ _ _ _ _ _ (Next phase s bytes rest call pieces count end starts may unfreed comes) some cut = absurd (no_cut (inl starts.frame) starts.front rest bytes starts.spelled starts.both cut)
+  at_cut _ _ _ _ _ _ (NextBatch phase q s z bytes rest calls replies pieces count end starts items comes) some cut = absurd (no_cut (inr (length starts.batch.frames)) starts.front rest bytes (batch_starts bytes calls rest starts) starts.both cut)
+
+-- ---- one frame that was served
 
 -- a call that was taken stands at the front of the bytes
-starts : (old new : Scene) (replies : List Reply) (end : ServeEnd) (tells : Tells old replies end) (call : Call) (read : TakesCall old.input new.input call) →
+starts : (old new : Scene) (pieces : List (List ℕ)) (count : ℕ) (end : ServeEnd) (tells : Tells old pieces count end) (call : Call) (read : TakesCall old.input new.input call) →
     StartsWith tells.bytes call (left_of old.input.left new.input.left tells.bytes read.bytes tells.has read.takes.taken).rest
-starts old new replies end tells call read =
+starts old new pieces count end tells call read =
     record { frame = read.frame; front = read.bytes; spelled = read.spelled; is = read.is; both = (left_of old.input.left new.input.left tells.bytes read.bytes tells.has read.takes.taken).both }
 
-record Further (old new : Scene) (replies : List Reply) (end : ServeEnd) : Type 0 where
-  rest : List Reply
-  count : length replies ≡ suc (length rest)
-  tells : Tells new rest end
-  frames : with_frames new.output rest ≡ with_frames old.output replies
+-- and so do the calls of a batch
+starts_many : (old new : Scene) (pieces : List (List ℕ)) (count : ℕ) (end : ServeEnd) (tells : Tells old pieces count end) (calls : List Call) (read : TakesCalls old new calls) →
+    StartsWithBatch tells.bytes calls (left_of old.input.left new.input.left tells.bytes read.bytes tells.has read.takes.taken).rest
+starts_many old new pieces count end tells calls read =
+    record { front = read.bytes; batch = read.batch; both = (left_of old.input.left new.input.left tells.bytes read.bytes tells.has read.takes.taken).both }
+
+-- the FMU stands where it is told
+stands : (old : Scene) (pieces : List (List ℕ)) (count : ℕ) (end : ServeEnd) (tells : Tells old pieces count end) → StandsAt old.machine.fixed.shape tells.machine old.machine.phase tells.state old.machine
+stands old pieces count end tells = record { shape_is = refl; machine_is = tells.is_machine; phase_is = refl; state_is = tells.in_state }
+
+record Further (old new : Scene) (many : ℕ) (pieces : List (List ℕ)) (count : ℕ) (end : ServeEnd) : Type 0 where
+  rest : List (List ℕ)
+  left : ℕ
+  count_is : count ≡ many + left
+  tells : Tells new rest left end
+  puts : with_pieces new.output rest ≡ with_pieces old.output pieces
 
 -- the frame that was put is that of the machine's reply
-one_frame : (old new : Scene) (served : Served) (looked : Reply) → ServesOne old new served → served.reply ≡ looked → new.output ≡ with_piece old.output (frame_of looked)
-one_frame old new served looked one is = one.put ∙ ap (with_piece old.output) (one.spelled.spelled ∙ ap frame_of is)
+one_frame : (old new : Scene) (served : Served) (looked : Reply) → ServesOne old new served → served.reply ≡ looked → new.output ≡ with_piece old.output (frame_of (as_sent served.call looked))
+one_frame old new served looked one is = one.put ∙ ap (with_piece old.output) (one.spelled.spelled ∙ ap (λ (r : Reply). frame_of (as_sent served.call r)) is)
 
-further : (old new : Scene) (served : Served) (replies : List Reply) (end : ServeEnd) → GoesOn old new served → Tells old replies end → Further old new replies end
-further old new served replies end on tells = by_call replies end (at_call shape m old.machine.phase s tells.bytes replies end tells.comes call left.rest (starts old new replies end tells call read))
+further_one : (old new : Scene) (served : Served) (pieces : List (List ℕ)) (count : ℕ) (end : ServeEnd) → ServesOne old new served → served.call ≢ C.FreeInstance → Tells old pieces count end → Further old new 1 pieces count end
+further_one old new served pieces count end one unfreed tells = by_call pieces count end (at_call shape m old.machine.phase s tells.bytes pieces count end tells.comes call left.rest (starts old new pieces count end tells call read))
   where
     call : Call
     call = served.call
 
     read : TakesCall old.input new.input served.call
-    read = on.serves.answered.read
+    read = one.answered.read
 
     shape : Shape
     shape = old.machine.fixed.shape
@@ -229,18 +306,19 @@ further old new served replies end on tells = by_call replies end (at_call shape
     left = left_of old.input.left new.input.left tells.bytes read.bytes tells.has read.takes.taken
 
     answer : Answer served.reply (m.look s served.call) new.machine.state (after m s served.call)
-    answer = answered old.machine.fixed.machine old.machine.state new.machine.state m s served.call served.reply tells.is_machine tells.in_state on.serves.answered.asked.state
+    answer = answered old.machine.fixed.machine old.machine.state new.machine.state m s served.call served.reply tells.is_machine tells.in_state one.answered.asked.state
 
-    by_call : (replies : List Reply) (end : ServeEnd) → AtCall shape m old.machine.phase s call left.rest replies end → Further old new replies end
-    by_call _ _ (Refuses cannot) = absurd (cannot on.serves.answered.permitted)
-    by_call _ _ (Frees may frees) = absurd (on.unfreed frees)
-    by_call _ _ (Goes rest end may unfreed comes) =
-        let asked = on.serves.answered.asked in
+    by_call : (pieces : List (List ℕ)) (count : ℕ) (end : ServeEnd) → AtCall shape m old.machine.phase s call left.rest pieces count end → Further old new 1 pieces count end
+    by_call _ _ _ (Refuses cannot) = absurd (cannot one.answered.permitted)
+    by_call _ _ _ (Frees may frees) = absurd (unfreed frees)
+    by_call _ _ _ (Goes rest many end may unfreed comes) =
+        let asked = one.answered.asked in
         let same_shape : new.machine.fixed.shape ≡ shape = ap (λ f. f.shape) asked.fixed in
         let same_phase : new.machine.phase ≡ next_of shape old.machine.phase call (Some (m.look s call)) = asked.phase ∙ ap (λ (r : Reply). next_of shape old.machine.phase call (Some r)) answer.looks in
         record {
           rest = rest;
-          count = refl;
+          left = many;
+          count_is = refl;
           tells = record {
             machine = m;
             state = after m s call;
@@ -248,39 +326,82 @@ further old new served replies end on tells = by_call replies end (at_call shape
             is_machine = ap (λ f. f.machine) asked.fixed ∙ tells.is_machine;
             in_state = answer.leads;
             has = left.has;
-            comes = subst (λ (sh : Shape). Comes sh m new.machine.phase (after m s call) left.rest rest end) (sym same_shape)
-                (subst (λ (p : Phase). Comes shape m p (after m s call) left.rest rest end) (sym same_phase) comes);
+            comes = subst (λ (sh : Shape). Comes sh m new.machine.phase (after m s call) left.rest rest many end) (sym same_shape)
+                (subst (λ (p : Phase). Comes shape m p (after m s call) left.rest rest many end) (sym same_phase) comes);
           };
-          frames = ap (λ (v : SinkView). with_frames v rest) (one_frame old new served (m.look s call) on.serves answer.looks);
+          puts = ap (λ (v : SinkView). with_pieces v rest) (one_frame old new served (m.look s call) one answer.looks);
         }
+
+further_many : (old new : Scene) (calls : List Call) (replies : List Reply) (pieces : List (List ℕ)) (count : ℕ) (end : ServeEnd) → ServesMany old new calls replies → Tells old pieces count end →
+    Further old new (length (served_of calls replies)) pieces count end
+further_many old new calls replies pieces count end many tells = by_batch pieces count end (at_batch shape m old.machine.phase s tells.bytes pieces count end tells.comes calls left.rest (starts_many old new pieces count end tells calls read))
+  where
+    read : TakesCalls old new calls
+    read = many.answered.read
+
+    shape : Shape
+    shape = old.machine.fixed.shape
+
+    m : Machine
+    m = tells.machine
+
+    s : MachineState
+    s = tells.state
+
+    left : Left new.input.left tells.bytes read.bytes
+    left = left_of old.input.left new.input.left tells.bytes read.bytes tells.has read.takes.taken
+
+    items : Items shape old.machine calls replies new.machine
+    items = items_run old.machine new.machine calls replies many.answered.answered
+
+    by_batch : (pieces : List (List ℕ)) (count : ℕ) (end : ServeEnd) → AtBatch shape m old.machine.phase s calls left.rest pieces count end → Further old new (length (served_of calls replies)) pieces count end
+    by_batch _ _ _ (Halts call forbidden) = absurd (items_not_forbidden shape m call old.machine.phase s calls forbidden replies old.machine new.machine (stands old _ _ _ tells) items)
+    by_batch _ _ _ (Answers q z told rest more end come comes) =
+        let same = items_same shape m old.machine.phase q s z calls told come replies old.machine new.machine (stands old _ _ _ tells) items in
+        let at = same.1 in
+        let long = served_length calls replies many.answered.answered.within in
+        let as_many = ap length same.0 in
+        record {
+          rest = rest;
+          left = more;
+          count_is = omega (arith, long, as_many);
+          tells = record {
+            machine = m;
+            state = z;
+            bytes = left.rest;
+            is_machine = at.machine_is;
+            in_state = at.state_is;
+            has = left.has;
+            comes = subst (λ (sh : Shape). Comes sh m new.machine.phase z left.rest rest more end) (sym at.shape_is) (subst (λ (p : Phase). Comes shape m p z left.rest rest more end) (sym at.phase_is) comes);
+          };
+          puts = ap (λ (v : SinkView). with_pieces v rest) (many.put ∙ ap (with_piece old.output) (pieces_same replies many.piece many.spelled ∙ ap batch_of same.0));
+        }
+
+further : (old new : Scene) (served : List Served) → GoesOn old new served → (pieces : List (List ℕ)) (count : ℕ) (end : ServeEnd) → Tells old pieces count end → Further old new (length served) pieces count end
+further old new _ (Single served one unfreed) pieces count end tells = further_one old new served pieces count end one unfreed tells
+further old new _ (Together calls replies many) pieces count end tells = further_many old new calls replies pieces count end many tells
 
 -- ---- all calls that were served
 
-record Reached (old last : Scene) (count : ℕ) (replies : List Reply) (end : ServeEnd) : Type 0 where
-  rest : List Reply
-  many : length replies ≡ count + length rest
-  tells : Tells last rest end
-  frames : with_frames last.output rest ≡ with_frames old.output replies
-
-reached : (old : Scene) (served : List Served) (last : Scene) → Serves old served last → (replies : List Reply) (end : ServeEnd) → Tells old replies end → Reached old last (length served) replies end
-reached old _ _ Nothing replies end tells = record { rest = replies; many = omega arith; tells = tells; frames = refl }
-reached old _ _ (More done mid new last before on) replies end tells =
-    let so_far = reached old done mid before replies end tells in
-    let next = further mid new last so_far.rest end on so_far.tells in
-    let more = length-append done (last ∷ []) in
-    record { rest = next.rest; many = omega (arith, so_far.many, next.count, more); tells = next.tells; frames = next.frames ∙ so_far.frames }
+reached : (old : Scene) (served : List Served) (last : Scene) → Serves old served last → (pieces : List (List ℕ)) (count : ℕ) (end : ServeEnd) → Tells old pieces count end → Further old last (length served) pieces count end
+reached old _ _ Nothing pieces count end tells = record { rest = pieces; left = count; count_is = omega arith; tells = tells; puts = refl }
+reached old _ _ (More done more mid new before on) pieces count end tells =
+    let so_far = reached old done mid before pieces count end tells in
+    let next = further mid new more on so_far.rest so_far.left end so_far.tells in
+    let all = length-append done more in
+    record { rest = next.rest; left = next.left; count_is = omega (arith, so_far.count_is, next.count_is, all); tells = next.tells; puts = next.puts ∙ so_far.puts }
 
 -- ---- what ended it
 
--- no reply follows, and nothing was put
-stays : (old new : Scene) (replies : List Reply) (end other : ServeEnd) → IsOver replies end other → new.output ≡ old.output → KeepsTo old new other replies end
-stays old new replies end other over still =
-    record { ends = sym over.is; output = still ∙ sym (ap (with_frames old.output) over.none) }
+-- no piece follows, and nothing was put
+stays : (old new : Scene) (pieces : List (List ℕ)) (end other : ServeEnd) → IsOver pieces end other → new.output ≡ old.output → KeepsTo old new other pieces end
+stays old new pieces end other over still =
+    record { ends = sym over.is; output = still ∙ sym (ap (with_pieces old.output) over.none) }
 
-module _ (old new : Scene) (replies : List Reply) (end : ServeEnd) (tells : Tells old replies end) where
-  freed : (served : Served) → ServesOne old new served → served.call ≡ C.FreeInstance → KeepsTo old new E.Freed replies end
-  freed served one frees = by_call replies end (at_call old.machine.fixed.shape tells.machine old.machine.phase tells.state tells.bytes replies end tells.comes served.call left.rest
-      (starts old new replies end tells served.call one.answered.read))
+module _ (old new : Scene) (pieces : List (List ℕ)) (count : ℕ) (end : ServeEnd) (tells : Tells old pieces count end) where
+  freed : (served : Served) → ServesOne old new served → served.call ≡ C.FreeInstance → KeepsTo old new E.Freed pieces end
+  freed served one frees = by_call pieces count end (at_call old.machine.fixed.shape tells.machine old.machine.phase tells.state tells.bytes pieces count end tells.comes served.call left.rest
+      (starts old new pieces count end tells served.call one.answered.read))
     where
       left : Left new.input.left tells.bytes one.answered.read.bytes
       left = left_of old.input.left new.input.left tells.bytes one.answered.read.bytes tells.has one.answered.read.takes.taken
@@ -288,69 +409,95 @@ module _ (old new : Scene) (replies : List Reply) (end : ServeEnd) (tells : Tell
       answer : Answer served.reply (tells.machine.look tells.state served.call) new.machine.state (after tells.machine tells.state served.call)
       answer = answered old.machine.fixed.machine old.machine.state new.machine.state tells.machine tells.state served.call served.reply tells.is_machine tells.in_state one.answered.asked.state
 
-      by_call : (replies : List Reply) (end : ServeEnd) → AtCall old.machine.fixed.shape tells.machine old.machine.phase tells.state served.call left.rest replies end → KeepsTo old new E.Freed replies end
-      by_call _ _ (Refuses cannot) = absurd (cannot one.answered.permitted)
-      by_call _ _ (Frees may is) = record { ends = refl; output = one_frame old new served (tells.machine.look tells.state served.call) one answer.looks }
-      by_call _ _ (Goes rest end may unfreed comes) = absurd (unfreed frees)
+      by_call : (pieces : List (List ℕ)) (count : ℕ) (end : ServeEnd) → AtCall old.machine.fixed.shape tells.machine old.machine.phase tells.state served.call left.rest pieces count end → KeepsTo old new E.Freed pieces end
+      by_call _ _ _ (Refuses cannot) = absurd (cannot one.answered.permitted)
+      by_call _ _ _ (Frees may is) = record { ends = refl; output = one_frame old new served (tells.machine.look tells.state served.call) one answer.looks }
+      by_call _ _ _ (Goes rest more end may unfreed comes) = absurd (unfreed frees)
 
-  ended : EndsBetween old.input new.input → IsStill old new → KeepsTo old new E.Ended replies end
+  ended : EndsBetween old.input new.input → IsStill old new → KeepsTo old new E.Ended pieces end
   ended between still =
       let left = left_of old.input.left new.input.left tells.bytes [] tells.has between.takes.taken in
-      stays old new replies end E.Ended
-      (at_end old.machine.fixed.shape tells.machine old.machine.phase tells.state tells.bytes replies end tells.comes (all_taken new.input.left tells.bytes [] left between.at_end)) still.output
+      stays old new pieces end E.Ended
+      (at_end old.machine.fixed.shape tells.machine old.machine.phase tells.state tells.bytes pieces count end tells.comes (all_taken new.input.left tells.bytes [] left between.at_end)) still.output
 
-  broken : (at : ℕ) → TakesBad old.input new.input at → IsStill old new → KeepsTo old new (E.BadFrame at) replies end
+  broken : (at : ℕ) → TakesBad old.input new.input at → IsStill old new → KeepsTo old new (E.BadFrame at) pieces end
   broken at bad still =
       let left = left_of old.input.left new.input.left tells.bytes bad.bytes tells.has bad.takes.taken in
-      stays old new replies end (E.BadFrame at)
-      (at_break old.machine.fixed.shape tells.machine old.machine.phase tells.state tells.bytes replies end tells.comes at (breaks_more bad.bytes left.rest tells.bytes at left.both bad.breaks)) still.output
+      stays old new pieces end (E.BadFrame at)
+      (at_break old.machine.fixed.shape tells.machine old.machine.phase tells.state tells.bytes pieces count end tells.comes at (breaks_more bad.bytes left.rest tells.bytes at left.both bad.breaks)) still.output
 
-  cut_short : (at : ℕ) → EndsInside old.input new.input at → IsStill old new → KeepsTo old new (E.BadFrame at) replies end
+  cut_short : (at : ℕ) → EndsInside old.input new.input at → IsStill old new → KeepsTo old new (E.BadFrame at) pieces end
   cut_short at inside still =
       let left = left_of old.input.left new.input.left tells.bytes inside.bytes tells.has inside.takes.taken in
       let all = all_taken new.input.left tells.bytes inside.bytes left inside.at_end in
-      let over = at_cut old.machine.fixed.shape tells.machine old.machine.phase tells.state tells.bytes replies end tells.comes
-      (subst (λ (l : List ℕ). 0 < length l) (sym all) inside.some) (subst (IsFront IsCallFrame) (sym all) inside.front) in
-      stays old new replies end (E.BadFrame at) (record { none = over.none; is = over.is ∙ ap (λ (l : List ℕ). E.BadFrame (length l)) all ∙ ap (λ (n : ℕ). E.BadFrame n) (sym inside.at_is) }) still.output
+      let over = at_cut old.machine.fixed.shape tells.machine old.machine.phase tells.state tells.bytes pieces count end tells.comes
+      (subst (λ (l : List ℕ). 0 < length l) (sym all) inside.some) (subst (IsFront IsLinkFrame) (sym all) inside.front) in
+      stays old new pieces end (E.BadFrame at) (record { none = over.none; is = over.is ∙ ap (λ (l : List ℕ). E.BadFrame (length l)) all ∙ ap (λ (n : ℕ). E.BadFrame n) (sym inside.at_is) }) still.output
 
-  no_frame : (at : ℕ) → IsNoFrame old.input new.input at → IsStill old new → KeepsTo old new (E.BadFrame at) replies end
+  no_frame : (at : ℕ) → IsNoFrame old.input new.input at → IsStill old new → KeepsTo old new (E.BadFrame at) pieces end
   no_frame at (inl bad) still = broken at bad still
   no_frame at (inr inside) still = cut_short at inside still
 
-  forbidden : (call : Call) → TakesCall old.input new.input call → (Permitted old.machine.fixed.shape old.machine.phase call → ⊥) → IsStill old new → KeepsTo old new (E.NotPermitted call) replies end
-  forbidden call read cannot still = by_call replies end (at_call old.machine.fixed.shape tells.machine old.machine.phase tells.state tells.bytes replies end tells.comes call left.rest (starts old new replies end tells call read))
+  forbidden : (call : Call) → TakesCall old.input new.input call → (Permitted old.machine.fixed.shape old.machine.phase call → ⊥) → IsStill old new → KeepsTo old new (E.NotPermitted call) pieces end
+  forbidden call read cannot still =
+      by_call pieces count end (at_call old.machine.fixed.shape tells.machine old.machine.phase tells.state tells.bytes pieces count end tells.comes call left.rest (starts old new pieces count end tells call read))
     where
       left : Left new.input.left tells.bytes read.bytes
       left = left_of old.input.left new.input.left tells.bytes read.bytes tells.has read.takes.taken
 
-      by_call : (replies : List Reply) (end : ServeEnd) → AtCall old.machine.fixed.shape tells.machine old.machine.phase tells.state call left.rest replies end → KeepsTo old new (E.NotPermitted call) replies end
-      by_call _ _ (Refuses refused) = record { ends = refl; output = still.output }
-      by_call _ _ (Frees may is) = absurd (cannot may)
-      by_call _ _ (Goes rest end may unfreed comes) = absurd (cannot may)
+      by_call : (pieces : List (List ℕ)) (count : ℕ) (end : ServeEnd) → AtCall old.machine.fixed.shape tells.machine old.machine.phase tells.state call left.rest pieces count end → KeepsTo old new (E.NotPermitted call) pieces end
+      by_call _ _ _ (Refuses refused) = record { ends = refl; output = still.output }
+      by_call _ _ _ (Frees may is) = absurd (cannot may)
+      by_call _ _ _ (Goes rest more end may unfreed comes) = absurd (cannot may)
 
-  by_end : (result : ServeEnd) → result ≢ E.TooMany → EndsBy old new result → MayKeepTo old new result replies end
+  -- a call of a batch
+  forbidden_item : (calls : List Call) (call : Call) → TakesCalls old new calls → ForbidsOne old.machine new.machine calls call → new.output ≡ old.output → KeepsTo old new (E.NotPermitted call) pieces end
+  forbidden_item calls call read f still =
+      by_batch pieces count end (at_batch old.machine.fixed.shape tells.machine old.machine.phase tells.state tells.bytes pieces count end tells.comes calls left.rest (starts_many old new pieces count end tells calls read))
+    where
+      left : Left new.input.left tells.bytes read.bytes
+      left = left_of old.input.left new.input.left tells.bytes read.bytes tells.has read.takes.taken
+
+      r : Reaches old.machine calls call new.machine
+      r = f.reached
+
+      cannot : Permitted old.machine.fixed.shape new.machine.phase call → ⊥
+      cannot may = f.forbidden (subst (λ (sh : Shape). Permitted sh new.machine.phase call) (sym (shape_along old.machine new.machine (exchanges r.front r.replies) r.talks)) may)
+
+      by_batch : (pieces : List (List ℕ)) (count : ℕ) (end : ServeEnd) → AtBatch old.machine.fixed.shape tells.machine old.machine.phase tells.state calls left.rest pieces count end → KeepsTo old new (E.NotPermitted call) pieces end
+      by_batch _ _ _ (Halts told forbidden) =
+          let same = forbids_same old.machine.fixed.shape tells.machine told old.machine.phase tells.state calls forbidden r.front r.left r.replies old.machine new.machine call r.calls_are (stands old _ _ _ tells) r.len r.talks r.good cannot in
+          record { ends = ap (λ (c : Call). E.NotPermitted c) (sym same); output = still }
+      by_batch _ _ _ (Answers q z told rest more end come comes) =
+          absurd (never_forbidden old.machine.fixed.shape tells.machine old.machine.phase q tells.state z calls told come r.front r.left r.replies old.machine new.machine call r.calls_are (stands old _ _ _ tells) r.len r.talks r.good cannot)
+
+  forbids : (call : Call) → Forbids old new call → KeepsTo old new (E.NotPermitted call) pieces end
+  forbids call (inl h) = forbidden call h.0 h.1 h.2
+  forbids call (inr h) = forbidden_item h.0 call h.1 h.2 h.3
+
+  by_end : (result : ServeEnd) → result ≢ E.TooMany → EndsBy old new result → MayKeepTo old new result pieces end
   by_end E.Freed few h = inl (freed h.0 h.1 h.2)
   by_end E.Ended few h = inl (ended h.0 h.1)
   by_end (E.BadFrame at) few h = inl (no_frame at h.0 h.1)
-  by_end (E.NotPermitted call) few h = inl (forbidden call h.0 h.1 h.2)
+  by_end (E.NotPermitted call) few h = inl (forbids call h)
   by_end E.Failed few h = inr (inl refl)
   by_end E.TooMany few h = absurd (few refl)
   by_end E.Memory few h = inr (inr refl)
 
-moved_on : (old last new : Scene) (result : ServeEnd) (rest replies : List Reply) (end : ServeEnd) → with_frames last.output rest ≡ with_frames old.output replies →
-    MayKeepTo last new result rest end → MayKeepTo old new result replies end
-moved_on old last new result rest replies end frames (inl keeps) = inl (record { ends = keeps.ends; output = keeps.output ∙ frames })
-moved_on old last new result rest replies end frames (inr other) = inr other
+moved_on : (old last new : Scene) (result : ServeEnd) (rest pieces : List (List ℕ)) (end : ServeEnd) → with_pieces last.output rest ≡ with_pieces old.output pieces →
+    MayKeepTo last new result rest end → MayKeepTo old new result pieces end
+moved_on old last new result rest pieces end puts (inl keeps) = inl (record { ends = keeps.ends; output = keeps.output ∙ puts })
+moved_on old last new result rest pieces end puts (inr other) = inr other
 
 -- what was served is what the told bytes come to
 pub served_as_told : (old new : Scene) (result : ServeEnd) → HasServed old new result → ServesAsTold old new result
-served_as_told old new result has replies end tells few =
-    let to_last = reached old has.served has.last has.serves replies end tells in
+served_as_told old new result has pieces count end tells few =
+    let to_last = reached old has.served has.last has.serves pieces count end tells in
     let not_many : result ≢ E.TooMany = λ many. too_many many in
-    moved_on old has.last new result to_last.rest replies end to_last.frames (by_end has.last new to_last.rest end to_last.tells result not_many has.ends)
+    moved_on old has.last new result to_last.rest pieces end to_last.puts (by_end has.last new to_last.rest to_last.left end to_last.tells result not_many has.ends)
   where
     too_many : result ≡ E.TooMany → ⊥
     too_many many =
         let all = subst (λ (r : ServeEnd). IsCounted r (length has.served)) many has.counted in
-        let there = (reached old has.served has.last has.serves replies end tells).many in
+        let there = (reached old has.served has.last has.serves pieces count end tells).count_is in
         omega (arith, all, there, few)

@@ -1,14 +1,32 @@
 -- What a source of call frames comes to, from one frame's first byte on.
-use Rattle.std.specs.Prelude.{◌≡◌, ◌⊎◌, ℕ, ◌+◌, ◌<◌, List, [], ◌∷◌, ◌++◌, length, slice_index}
+use Rattle.std.specs.Prelude.{◌≡◌, ◌⊎◌, ℕ, ◌+◌, ◌*◌, ◌<◌, List, [], ◌∷◌, ◌++◌, length, map, slice_index, take, drop, ◌≤◌}
+use Rattle.std.proofs.Common.{inl, inr}
 use Rattle.std.specs.Io.KnownBytes.{Consumes, IsAtEnd}
 use Rattle.sim_base.specs.Causes.{Rose}
 use Rattle.sim_base.specs.Source.{SourceView}
+use Rattle.fmi_calls.specs.Kinds.{kind_of}
 use Rattle.fmi_calls.specs.declared.call.Call.{Call}
 use Rattle.link_frames.specs.declared.call.CallFrame.{CallFrame}
+use Rattle.link_frames.specs.Batch.{IsBatch, IsCallBatch}
 use Rattle.link_frames.specs.Call.{IsCallFrame}
 use Rattle.link_frames.specs.Taking.{Breaks, IsFront}
-use Rattle.host_serving.specs.declared.reading.NextCall.{NextCall}
-use Rattle.host_serving.specs.declared.reading.NextCall.TheVariants.{Came, AtEnd, Bad, Failed, Memory}
+use Rattle.host_serving.specs.declared.reading.NextFrame.{NextFrame}
+use Rattle.host_serving.specs.declared.reading.NextFrame.TheVariants.{Came, Batch, AtEnd, Bad, Failed, Memory}
+
+-- ---- frames of both kinds
+
+-- a single call, or a batch of so many
+abbrev pub IsLinkFrame : CallFrame ⊎ ℕ → List ℕ → Type 0
+IsLinkFrame (inl frame) bytes = IsCallFrame frame bytes
+IsLinkFrame (inr count) bytes = IsCallBatch count bytes
+
+-- a batch of these calls, and its bytes
+pub record IsBatchOfCalls (calls : List Call) (bytes : List ℕ) : Type 0 where
+  pub frames : List CallFrame
+  pub is : map (λ (frame : CallFrame). frame.call) frames ≡ calls
+  pub batch : IsBatch IsCallFrame (λ (frame : CallFrame). kind_of frame.call) frames bytes
+
+-- ---- what was taken
 
 -- these bytes were taken, and no take failed
 pub record Takes (old new : SourceView) (bytes : List ℕ) : Type 0 where
@@ -23,6 +41,11 @@ pub record TakesCall (old new : SourceView) (call : Call) : Type 0 where
   pub is : frame.call ≡ call
   pub takes : Takes old new bytes
 
+-- a whole batch of so many calls was taken, which are the front of this room, and no byte behind it
+pub record TakesBatch (old new : SourceView) (room : List ℕ) (count : ℕ) : Type 0 where
+  pub spelled : IsCallBatch count (take (24 * (count + 1)) room)
+  pub takes : Takes old new (take (24 * (count + 1)) room)
+
 -- the bytes end between two frames
 pub record EndsBetween (old new : SourceView) : Type 0 where
   pub takes : Takes old new []
@@ -32,7 +55,7 @@ pub record EndsBetween (old new : SourceView) : Type 0 where
 pub record TakesBad (old new : SourceView) (at : ℕ) : Type 0 where
   pub bytes : List ℕ
   pub takes : Takes old new bytes
-  pub breaks : Breaks IsCallFrame bytes at
+  pub breaks : Breaks IsLinkFrame bytes at
 
 -- the bytes end inside a frame, of which so many are there
 pub record EndsInside (old new : SourceView) (at : ℕ) : Type 0 where
@@ -40,20 +63,27 @@ pub record EndsInside (old new : SourceView) (at : ℕ) : Type 0 where
   pub takes : Takes old new bytes
   pub at_end : IsAtEnd new.left
   pub some : 0 < length bytes
-  pub front : IsFront IsCallFrame bytes
+  pub front : IsFront IsLinkFrame bytes
   pub at_is : at ≡ length bytes
 
 -- no frame begins so
 abbrev pub IsNoFrame : SourceView → SourceView → ℕ → Type 0
 IsNoFrame old new at = TakesBad old new at ⊎ EndsInside old new at
 
--- the answer is right for what the source had
-abbrev pub ComesTo : SourceView → SourceView → NextCall → Type 0
-ComesTo old new (Came call) = TakesCall old new call
-ComesTo old new AtEnd = EndsBetween old new
-ComesTo old new (Bad at) = IsNoFrame old new at
-ComesTo old new Failed = Rose old.faults new.faults
-ComesTo old new Memory = Unit {0}
+-- the answer is right for what the source had; the calls of a batch stand in this room
+abbrev pub ComesTo : SourceView → SourceView → List ℕ → NextFrame → Type 0
+ComesTo old new room (Came call) = TakesCall old new call
+ComesTo old new room (Batch count) = TakesBatch old new room count
+ComesTo old new room AtEnd = EndsBetween old new
+ComesTo old new room (Bad at) = IsNoFrame old new at
+ComesTo old new room Failed = Rose old.faults new.faults
+ComesTo old new room Memory = Unit {0}
+
+-- a call stands at this place of a batch in a room
+abbrev pub IsItem : List ℕ → ℕ → Type 0
+IsItem room i =
+    (24 * (i + 2) ≤ length room) ×
+    ((frame : CallFrame) × IsCallFrame frame (take 24 (drop (24 * (i + 1)) room)))
 
 -- the eight bytes from a place on
 abbrev pub eight_at : List ℕ → ℕ → List ℕ

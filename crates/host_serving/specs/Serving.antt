@@ -1,17 +1,25 @@
 -- An FMU behind a link: the calls that were read, the replies that were put, and what ended it (FMI 3.0, 4.2: the functions of Co-Simulation).
-use Rattle.std.specs.Prelude.{◌≡◌, ◌≢◌, ℕ, ◌-◌, ◌^◌, ◌<◌, List, [], ◌∷◌, ◌++◌, length, Ok}
+use Rattle.std.specs.Prelude.{◌≡◌, ◌≢◌, ◌⊎◌, ℕ, ◌-◌, ◌^◌, ◌<◌, ◌≤◌, true, List, [], ◌∷◌, ◌++◌, length, Result, Ok, Err}
 use Rattle.sim_base.specs.Causes.{Rose}
 use Rattle.sim_base.specs.Sink.{SinkView, with_piece}
 use Rattle.sim_base.specs.Source.{SourceView}
 use Rattle.fmi_calls.specs.Permission.{Permitted}
 use Rattle.fmi_calls.specs.declared.call.Call.{Call}
 use Rattle.fmi_calls.specs.declared.call.Call.TheVariants as C
+use Rattle.fmi_calls.specs.declared.call.Content.TheVariants as A
 use Rattle.fmi_calls.specs.declared.call.Reply.{Reply}
+use Rattle.fmi_calls.specs.declared.call.Reply.TheVariants as R
+use Rattle.fmi_calls.specs.Kinds.{kind_of, kind_of_reply}
+use Rattle.link_frames.specs.Batch.{IsBatch}
 use Rattle.link_frames.specs.Reply.{IsReplyFrame}
+use Rattle.fmu_peer.specs.Many.{AnsweredFirst, Talks, exchanges}
+use Rattle.fmu_peer.specs.Talk.{AllGood}
 use Rattle.fmu_peer.specs.View.{View, Asked}
 use Rattle.host_serving.specs.declared.serving.ServeEnd.{ServeEnd}
 use Rattle.host_serving.specs.declared.serving.ServeEnd.TheVariants as E
-use Rattle.host_serving.specs.Frames.{EndsBetween, IsNoFrame, TakesCall}
+use Rattle.host_serving.specs.Frames.{EndsBetween, IsBatchOfCalls, IsNoFrame, Takes, TakesCall}
+use Rattle.host_serving.specs.declared.serving.Next.{Next}
+use Rattle.host_serving.specs.declared.serving.Next.TheVariants as N
 
 -- what the link and the FMU tell
 pub record Scene : Type 0 where
@@ -27,6 +35,14 @@ pub record Served : Type 0 where
   pub call : Call
   pub reply : Reply
 
+-- ---- a single call
+
+-- the reply that is put: a good one to an Instantiate that asks for batches says that they are taken
+abbrev pub as_sent : Call → Reply → Reply
+as_sent (C.Instantiate event_mode early_return true) (R.Done is_warning (A.Instantiate batches)) =
+    R.Done is_warning (A.Instantiate true)
+as_sent call reply = reply
+
 -- the next frame is that of a call which is permitted, and the FMU was asked it alone, with this reply
 pub record IsAnswered (old new : Scene) (served : Served) : Type 0 where
   pub read : TakesCall old.input new.input served.call
@@ -37,26 +53,92 @@ pub record IsAnswered (old new : Scene) (served : Served) : Type 0 where
 pub record ServesOne (old new : Scene) (served : Served) : Type 0 where
   pub answered : IsAnswered old new served
   pub piece : List ℕ
-  pub spelled : IsReplyFrame served.reply piece
+  pub spelled : IsReplyFrame (as_sent served.call served.reply) piece
   pub put : new.output ≡ with_piece old.output piece
 
--- one call was served, and it wasn't FreeInstance
-pub record GoesOn (old new : Scene) (served : Served) : Type 0 where
-  pub serves : ServesOne old new served
-  pub unfreed : served.call ≢ C.FreeInstance
+-- ---- the calls of a batch
 
--- one call after another was served, none of them FreeInstance
+-- calls with their replies, as far as both go
+abbrev pub served_of : List Call → List Reply → List Served
+served_of [] replies = []
+served_of (call ∷ calls) [] = []
+served_of (call ∷ calls) (reply ∷ replies) =
+    record { call = call; reply = reply } ∷ served_of calls replies
+
+-- the next frame is the batch of these calls
+pub record TakesCalls (old new : Scene) (calls : List Call) : Type 0 where
+  pub bytes : List ℕ
+  pub batch : IsBatchOfCalls calls bytes
+  pub takes : Takes old.input new.input bytes
+
+-- the FMU was asked the calls in their order, each of which is permitted in its turn, up to the first whose reply isn't good, and these are the replies
+pub record AreAnswered (old new : Scene) (calls : List Call) (replies : List Reply) : Type 0 where
+  pub read : TakesCalls old new calls
+  pub answered : AnsweredFirst old.machine calls replies (length replies) new.machine
+
+-- and the batch of the replies was put, in one piece
+pub record ServesMany (old new : Scene) (calls : List Call) (replies : List Reply) : Type 0 where
+  pub answered : AreAnswered old new calls replies
+  pub piece : List ℕ
+  pub spelled : IsBatch IsReplyFrame kind_of_reply replies piece
+  pub put : new.output ≡ with_piece old.output piece
+
+-- the first calls, each permitted in its turn, got good replies, and this one is next
+pub record Reaches (old : View) (calls : List Call) (call : Call) (new : View) : Type 0 where
+  pub front : List Call
+  pub left : List Call
+  pub replies : List Reply
+  pub calls_are : calls ≡ front ++ call ∷ left
+  pub len : length replies ≡ length front
+  pub good : AllGood old.fixed.shape (exchanges front replies)
+  pub talks : Talks old (exchanges front replies) new
+
+-- and it isn't permitted
+pub record ForbidsOne (old new : View) (calls : List Call) (call : Call) : Type 0 where
+  pub reached : Reaches old calls call new
+  pub forbidden : Permitted new.fixed.shape new.phase call → ⊥
+
+-- it is permitted, and the FMU failed at it, or answered it by a reply of another kind
+pub record LosesOne (old new : View) (calls : List Call) : Type 0 where
+  pub call : Call
+  pub mid : View
+  pub reached : Reaches old calls call mid
+  pub permitted : Permitted mid.fixed.shape mid.phase call
+  pub lost : Rose mid.faults new.faults ⊎ ((reply : Reply) × Asked mid call (Ok reply) new ×
+      (kind_of_reply reply ≢ kind_of call))
+
+-- what ends the serving inside a batch
+abbrev pub BreaksItems : List Call → View → View → ServeEnd → Type 0
+BreaksItems calls old new (E.NotPermitted call) = ForbidsOne old new calls call
+BreaksItems calls old new E.Failed = LosesOne old new calls
+BreaksItems calls old new end = ⊥
+
+-- so many calls were answered, by the replies in their places, or this ends the serving
+abbrev pub AnswersItems : View → List Call → List Reply → Result ℕ ServeEnd → View → Type 0
+AnswersItems old calls places (Ok count) new = AnsweredFirst old calls places count new
+AnswersItems old calls places (Err end) new = BreaksItems calls old new end
+
+-- ---- one frame after another
+
+-- the calls of a frame were served: one, which wasn't FreeInstance, or those of a batch
+pub data GoesOn (old new : Scene) : List Served → Type 0 where
+  Single : (served : Served) → ServesOne old new served → served.call ≢ C.FreeInstance →
+      GoesOn old new (served ∷ [])
+  Together : (calls : List Call) (replies : List Reply) → ServesMany old new calls replies →
+      GoesOn old new (served_of calls replies)
+
+-- the calls of one frame after another were served
 pub data Serves (old : Scene) : List Served → Scene → Type 0 where
   Nothing : Serves old [] old
-  More : (done : List Served) (mid new : Scene) (last : Served) → Serves old done mid →
-      GoesOn mid new last → Serves old (done ++ last ∷ []) new
+  More : (done more : List Served) (mid new : Scene) → Serves old done mid →
+      GoesOn mid new more → Serves old (done ++ more) new
 
 -- output and FMU are as they were
 pub record IsStill (old new : Scene) : Type 0 where
   pub output : new.output ≡ old.output
   pub machine : new.machine ≡ old.machine
 
--- a count of faults rose: that of the input; or of the FMU, to a call that was read; or of the output, at the frame of a reply
+-- a count of faults rose: that of the input; or of the FMU, to a call that was read; or of the output, at the frame of a reply; or a call of a batch got no reply that can be put
 pub data LosesLink (old new : Scene) : Type 0 where
   OfInput : Rose old.input.faults new.input.faults → IsStill old new → LosesLink old new
   OfMachine : (call : Call) → TakesCall old.input new.input call →
@@ -64,6 +146,18 @@ pub data LosesLink (old new : Scene) : Type 0 where
       Rose old.machine.faults new.machine.faults → new.output ≡ old.output → LosesLink old new
   OfOutput : (served : Served) → IsAnswered old new served →
       Rose old.output.faults new.output.faults → LosesLink old new
+  OfItem : (calls : List Call) → TakesCalls old new calls →
+      LosesOne old.machine new.machine calls → new.output ≡ old.output → LosesLink old new
+  OfBatch : (calls : List Call) (replies : List Reply) → AreAnswered old new calls replies →
+      Rose old.output.faults new.output.faults → LosesLink old new
+
+-- a call isn't permitted: the next one, or one of the next batch, for which nothing was put
+abbrev pub Forbids : Scene → Scene → Call → Type 0
+Forbids old new call =
+    (TakesCall old.input new.input call ×
+    (Permitted old.machine.fixed.shape old.machine.phase call → ⊥) × IsStill old new) ⊎
+    ((calls : List Call) × TakesCalls old new calls ×
+    ForbidsOne old.machine new.machine calls call × (new.output ≡ old.output))
 
 -- what ends the serving, right behind the calls that were served
 abbrev pub EndsBy : Scene → Scene → ServeEnd → Type 0
@@ -71,16 +165,25 @@ EndsBy old new E.Freed =
     (served : Served) × ServesOne old new served × (served.call ≡ C.FreeInstance)
 EndsBy old new E.Ended = EndsBetween old.input new.input × IsStill old new
 EndsBy old new (E.BadFrame at) = IsNoFrame old.input new.input at × IsStill old new
-EndsBy old new (E.NotPermitted call) =
-    TakesCall old.input new.input call ×
-    (Permitted old.machine.fixed.shape old.machine.phase call → ⊥) × IsStill old new
+EndsBy old new (E.NotPermitted call) = Forbids old new call
 EndsBy old new E.Failed = LosesLink old new
 EndsBy old new E.TooMany = new ≡ old
 EndsBy old new E.Memory = IsStill old new
 
+-- what came of a frame
+abbrev pub Steps : Scene → Scene → Next → Type 0
+Steps old new (N.Served count) =
+    (served : List Served) × (count ≡ length served) × (0 < count) × GoesOn old new served
+Steps old new (N.Ends end) = (end ≢ E.TooMany) × EndsBy old new end
+
+-- FreeInstance ends the serving
+abbrev pub EndsBehind : Call → Next → Type 0
+EndsBehind call (N.Served count) = (count ≡ 1) × (call ≢ C.FreeInstance)
+EndsBehind call (N.Ends end) = (end ≡ E.Freed) × (call ≡ C.FreeInstance)
+
 -- as many calls were served as are counted exactly where they were too many
 abbrev pub IsCounted : ServeEnd → ℕ → Type 0
-IsCounted E.TooMany count = count ≡ 2 ^ 64 - 1
+IsCounted E.TooMany count = 2 ^ 64 - 1 ≤ count
 IsCounted end count = count < 2 ^ 64 - 1
 
 -- all of it: the calls that were served, and behind them what ended it

@@ -1,5 +1,5 @@
 -- What told bytes come to where the FMU is told as a function of its state (FMI 3.0, 2.2.6: FMU state; 4.2: the functions of Co-Simulation; 4.2.1: which of them are permitted).
-use Rattle.std.specs.Prelude.{◌≡◌, ◌≢◌, ◌⊎◌, ℕ, ◌-◌, ◌^◌, ◌<◌, List, [], ◌∷◌, ◌++◌, length, Some}
+use Rattle.std.specs.Prelude.{◌≡◌, ◌≢◌, ◌⊎◌, ℕ, ◌+◌, ◌-◌, ◌^◌, ◌<◌, List, [], ◌∷◌, ◌++◌, length, Some}
 use Rattle.sim_base.specs.Sink.{SinkView, with_piece}
 use Rattle.value_types.specs.declared.shape.Shape.{Shape}
 use Rattle.fmi_calls.specs.Next.{next_of}
@@ -15,7 +15,12 @@ use Rattle.link_frames.specs.declared.call.CallFrame.{CallFrame}
 use Rattle.fmu_peer.specs.Machine.{Machine, MachineState, after}
 use Rattle.host_serving.specs.declared.serving.ServeEnd.{ServeEnd}
 use Rattle.host_serving.specs.declared.serving.ServeEnd.TheVariants as E
-use Rattle.host_serving.specs.Serving.{Scene}
+use Rattle.fmi_calls.specs.Worth.{grade_of}
+use Rattle.fmi_calls.specs.declared.call.Grade.TheVariants as G
+use Rattle.link_frames.specs.Batch.{batch_head}
+use Rattle.link_frames.specs.Head.{spelling}
+use Rattle.host_serving.specs.Frames.{IsBatchOfCalls, IsLinkFrame}
+use Rattle.host_serving.specs.Serving.{Scene, as_sent}
 
 -- ---- what the bytes ask for
 
@@ -27,57 +32,102 @@ pub record StartsWith (bytes : List ℕ) (call : Call) (rest : List ℕ) : Type 
   pub is : frame.call ≡ call
   pub both : bytes ≡ front ++ rest
 
--- in this phase and this state of the machine the bytes come to these replies, one for each call that is served, and to this end: no byte is left; or one of them is the first that continues no frame; or they end inside a frame; or the next call isn't permitted; or it is FreeInstance, whatever follows; or it is another, and what follows comes to the other replies and to the end
-pub data Comes (shape : Shape) (m : Machine) : Phase → MachineState → List ℕ → List Reply →
+-- the bytes begin with the batch of these calls, and these follow
+pub record StartsWithBatch (bytes : List ℕ) (calls : List Call) (rest : List ℕ) : Type 0 where
+  pub front : List ℕ
+  pub batch : IsBatchOfCalls calls front
+  pub both : bytes ≡ front ++ rest
+
+-- the calls of a batch, from a phase and a state of the machine on, with the replies up to the first that isn't good, and the phase and the state behind them
+pub data ItemsCome (shape : Shape) (m : Machine) : Phase → MachineState → List Call → List Reply →
+    Phase → MachineState → Type 0 where
+  Through : (phase : Phase) (s : MachineState) → ItemsCome shape m phase s [] [] phase s
+  Bad : (phase : Phase) (s : MachineState) (call : Call) (left : List Call) →
+      Permitted shape phase call → (grade_of shape call (m.look s call) ≡ G.Good → ⊥) →
+      ItemsCome shape m phase s (call ∷ left) (m.look s call ∷ [])
+      (next_of shape phase call (Some (m.look s call))) (after m s call)
+  Good : (phase q : Phase) (s z : MachineState) (call : Call) (left : List Call)
+      (replies : List Reply) → Permitted shape phase call →
+      grade_of shape call (m.look s call) ≡ G.Good →
+      ItemsCome shape m (next_of shape phase call (Some (m.look s call))) (after m s call) left replies q z →
+      ItemsCome shape m phase s (call ∷ left) (m.look s call ∷ replies) q z
+
+-- behind good replies this call of a batch isn't permitted
+pub data ItemForbidden (shape : Shape) (m : Machine) (call : Call) : Phase → MachineState →
+    List Call → Type 0 where
+  Now : (phase : Phase) (s : MachineState) (left : List Call) →
+      (Permitted shape phase call → ⊥) → ItemForbidden shape m call phase s (call ∷ left)
+  Later : (phase : Phase) (s : MachineState) (first : Call) (left : List Call) →
+      Permitted shape phase first → grade_of shape first (m.look s first) ≡ G.Good →
+      ItemForbidden shape m call (next_of shape phase first (Some (m.look s first))) (after m s first) left →
+      ItemForbidden shape m call phase s (first ∷ left)
+
+-- the bytes of a batch of replies
+abbrev pub frames_of : List Reply → List ℕ
+frames_of [] = []
+frames_of (reply ∷ replies) = frame_of reply ++ frames_of replies
+
+abbrev pub batch_of : List Reply → List ℕ
+batch_of replies = spelling (batch_head (length replies)) ++ frames_of replies
+
+-- in this phase and this state of the machine the bytes come to these pieces, one for each frame that is served, for so many calls, and to this end: no byte is left; or one of them is the first that continues no frame; or they end inside a frame; or the next call isn't permitted, or one of the next batch; or it is FreeInstance, whatever follows; or it is another, or a batch, and what follows comes to the other pieces and to the end
+pub data Comes (shape : Shape) (m : Machine) : Phase → MachineState → List ℕ → List (List ℕ) → ℕ →
     ServeEnd → Type 0 where
-  Over : (phase : Phase) (s : MachineState) → Comes shape m phase s [] [] E.Ended
+  Over : (phase : Phase) (s : MachineState) → Comes shape m phase s [] [] 0 E.Ended
   NoFrame : (phase : Phase) (s : MachineState) (bytes : List ℕ) (at : ℕ) →
-      Breaks IsCallFrame bytes at → Comes shape m phase s bytes [] (E.BadFrame at)
+      Breaks IsLinkFrame bytes at → Comes shape m phase s bytes [] 0 (E.BadFrame at)
   CutFrame : (phase : Phase) (s : MachineState) (bytes : List ℕ) → 0 < length bytes →
-      IsFront IsCallFrame bytes → Comes shape m phase s bytes [] (E.BadFrame (length bytes))
+      IsFront IsLinkFrame bytes → Comes shape m phase s bytes [] 0 (E.BadFrame (length bytes))
   Forbidden : (phase : Phase) (s : MachineState) (bytes rest : List ℕ) (call : Call) →
       StartsWith bytes call rest →
-      (Permitted shape phase call → ⊥) → Comes shape m phase s bytes [] (E.NotPermitted call)
+      (Permitted shape phase call → ⊥) → Comes shape m phase s bytes [] 0 (E.NotPermitted call)
+  ForbiddenItem : (phase : Phase) (s : MachineState) (bytes rest : List ℕ) (calls : List Call)
+      (call : Call) → StartsWithBatch bytes calls rest → ItemForbidden shape m call phase s calls →
+      Comes shape m phase s bytes [] 0 (E.NotPermitted call)
   Last : (phase : Phase) (s : MachineState) (bytes rest : List ℕ) (call : Call) →
-      StartsWith bytes call rest → Permitted shape phase call →
-      call ≡ C.FreeInstance → Comes shape m phase s bytes (m.look s call ∷ []) E.Freed
+      StartsWith bytes call rest → Permitted shape phase call → call ≡ C.FreeInstance →
+      Comes shape m phase s bytes (frame_of (as_sent call (m.look s call)) ∷ []) 1 E.Freed
   Next : (phase : Phase) (s : MachineState) (bytes rest : List ℕ) (call : Call)
-      (replies : List Reply) (end : ServeEnd) → StartsWith bytes call rest →
-      Permitted shape phase call →
-      call ≢ C.FreeInstance → Comes shape m (next_of shape phase call (Some (m.look s call)))
-      (after m s call) rest replies end →
-      Comes shape m phase s bytes (m.look s call ∷ replies) end
+      (pieces : List (List ℕ)) (count : ℕ) (end : ServeEnd) → StartsWith bytes call rest →
+      Permitted shape phase call → call ≢ C.FreeInstance →
+      Comes shape m (next_of shape phase call (Some (m.look s call))) (after m s call) rest pieces count end →
+      Comes shape m phase s bytes (frame_of (as_sent call (m.look s call)) ∷ pieces) (1 + count) end
+  NextBatch : (phase q : Phase) (s z : MachineState) (bytes rest : List ℕ) (calls : List Call)
+      (replies : List Reply) (pieces : List (List ℕ)) (count : ℕ) (end : ServeEnd) →
+      StartsWithBatch bytes calls rest → ItemsCome shape m phase s calls replies q z →
+      Comes shape m q z rest pieces count end →
+      Comes shape m phase s bytes (batch_of replies ∷ pieces) (length replies + count) end
 
--- the FMU is told as a machine with its state, and so are the bytes of the input, which come to these replies and this end
-pub record Tells (old : Scene) (replies : List Reply) (end : ServeEnd) : Type 0 where
+-- the FMU is told as a machine with its state, and so are the bytes of the input, which come to these pieces and this end
+pub record Tells (old : Scene) (pieces : List (List ℕ)) (count : ℕ) (end : ServeEnd) : Type 0 where
   pub machine : Machine
   pub state : MachineState
   pub bytes : List ℕ
   pub is_machine : old.machine.fixed.machine ≡ Some machine
   pub in_state : old.machine.state ≡ Some state
   pub has : old.input.left ≡ Some bytes
-  pub comes : Comes old.machine.fixed.shape machine old.machine.phase state bytes replies end
+  pub comes : Comes old.machine.fixed.shape machine old.machine.phase state bytes pieces count end
 
 -- ---- what is done with them
 
--- the frames of these replies were put, one piece for each
-abbrev pub with_frames : SinkView → List Reply → SinkView
-with_frames view [] = view
-with_frames view (reply ∷ replies) = with_frames (with_piece view (frame_of reply)) replies
+-- these pieces were put, one after another
+abbrev pub with_pieces : SinkView → List (List ℕ) → SinkView
+with_pieces view [] = view
+with_pieces view (piece ∷ pieces) = with_pieces (with_piece view piece) pieces
 
--- these replies were put, and this end was answered
-pub record KeepsTo (old new : Scene) (result : ServeEnd) (replies : List Reply)
+-- these pieces were put, and this end was answered
+pub record KeepsTo (old new : Scene) (result : ServeEnd) (pieces : List (List ℕ))
     (end : ServeEnd) : Type 0 where
   pub ends : result ≡ end
-  pub output : new.output ≡ with_frames old.output replies
+  pub output : new.output ≡ with_pieces old.output pieces
 
 -- or a take, a put or a call failed, or memory was wanting
-abbrev pub MayKeepTo : Scene → Scene → ServeEnd → List Reply → ServeEnd → Type 0
-MayKeepTo old new result replies end =
-    KeepsTo old new result replies end ⊎ ((result ≡ E.Failed) ⊎ (result ≡ E.Memory))
+abbrev pub MayKeepTo : Scene → Scene → ServeEnd → List (List ℕ) → ServeEnd → Type 0
+MayKeepTo old new result pieces end =
+    KeepsTo old new result pieces end ⊎ ((result ≡ E.Failed) ⊎ (result ≡ E.Memory))
 
--- what is told decides: the replies, where they are fewer than are counted, and the end
+-- what is told decides: the pieces, where their calls are fewer than are counted, and the end
 abbrev pub ServesAsTold : Scene → Scene → ServeEnd → Type 0
 ServesAsTold old new result =
-    (replies : List Reply) (end : ServeEnd) → Tells old replies end → length replies < 2 ^ 64 - 1 →
-    MayKeepTo old new result replies end
+    (pieces : List (List ℕ)) (count : ℕ) (end : ServeEnd) → Tells old pieces count end →
+    count < 2 ^ 64 - 1 → MayKeepTo old new result pieces end

@@ -1,27 +1,36 @@
 //! The next frame of a source of bytes.
-ghost use Rattle.std.specs.Prelude.{◌≡◌, ℕ, ◌+◌, ◌-◌, ◌<◌, ◌≤◌, ◌++◌, List, take, length, IfOk, OnOk, OnErr};
+ghost use Rattle.std.specs.Prelude.{◌≡◌, ℕ, ◌+◌, ◌-◌, ◌<◌, ◌≤◌, ◌*◌, ◌++◌, List, take, drop, length, slice_index, IfNone, IfOk, IfSome, OnErr};
 ghost use Rattle.std.specs.Int.{w64, from_be_bytes};
-ghost use Rattle.std.specs.Io.KnownBytes.{Consumes, IsAtEnd};
+ghost use Rattle.std.specs.Io.KnownBytes.{IsAtEnd};
 ghost use Rattle.sim_base.specs.Causes.{Rose};
 ghost use Rattle.sim_base.specs.Source.{SourceView};
+ghost use Rattle.link_frames.specs.Batch.{IsHeadOf};
 ghost use Rattle.link_frames.specs.Call.{IsCallFrame};
 ghost use Rattle.link_frames.specs.Taking.{IsFront};
 ghost use Rattle.link_frames.specs.declared.call.CallFrame.{CallFrame as FrameSpec};
-ghost use Rattle.host_serving.specs.Frames.{ComesTo, IsRoom, Takes, eight_at};
+ghost use Rattle.host_serving.specs.Frames.{ComesTo, IsItem, IsRoom, Takes, eight_at};
 
 use fmi_calls::Call;
-use link_frames::{CallFrame, Taken, take_call};
+use link_frames::{CallFrame, Taken, batch_count, batch_len, take_batch, take_call};
 use sim_base::{Source, SourceFault};
 use std::alloc::{AllocError, Global};
 
 // The bytes that each frame begins with.
 const HEAD: usize = 24;
 
-/// What stands next in a source of call frames.
+/// The bytes of the longest batch.
+pub(crate) const MOST_BYTES: usize = 24 * 65;
+
+// The first byte of a batch.
+const BATCH: u8 = 19;
+
+/// What stands next in a source of frames of calls and of batches of calls.
 #[derive(Debug, Drop)]
-pub(crate) enum NextCall {
+pub(crate) enum NextFrame {
     /// A whole frame of a call.
     Came(Call),
+    /// A whole batch of so many calls, which stand in the room.
+    Batch(usize),
     /// The bytes end between two frames.
     AtEnd,
     /// No frame: the byte at this place is the first that continues none, or the bytes end there, inside a frame.
@@ -32,23 +41,30 @@ pub(crate) enum NextCall {
     Memory,
 }
 
-/// Takes the next frame of a call from a source, and no byte behind it.
-pub(crate) fn next_call<I: Source>(alloc: Global, input: &mut I) -> NextCall
-    ensures { ComesTo (I.view input.old) (I.view input.new) result }
+/// Takes the next frame from a source, and no byte behind it. The calls of a batch go into the room, behind its head.
+pub(crate) fn next_frame<I: Source>(
+    alloc: Global,
+    input: &mut I,
+    room: &mut [u8; MOST_BYTES],
+) -> NextFrame
+    ensures { ComesTo (I.view input.old) (I.view input.new) room.new result }
 {
     let mut head = [0; HEAD];
     let Ok(count) = fill(input, &mut head) else {
-        return NextCall::Failed;
+        return NextFrame::Failed;
     };
     if count == 0 {
-        return NextCall::AtEnd;
+        return NextFrame::AtEnd;
+    }
+    if head[0] == BATCH {
+        return next_batch(&head, count, input, room);
     }
     match take_call(front_of(&head, count)) {
         Taken::Got { value, .. } => next_of_frame(value),
-        Taken::Bad { at } => NextCall::Bad { at: at as u64 },
+        Taken::Bad { at } => NextFrame::Bad { at: at as u64 },
         Taken::NeedMore => {
             if count < HEAD {
-                NextCall::Bad { at: count as u64 }
+                NextFrame::Bad { at: count as u64 }
             } else {
                 next_with_texts(alloc, &head, input)
             }
@@ -56,11 +72,103 @@ pub(crate) fn next_call<I: Source>(alloc: Global, input: &mut I) -> NextCall
     }
 }
 
-// A frame that came.
-fn next_of_frame(frame: CallFrame) -> NextCall
-    ensures { result ≡ NextCall.Came frame.call }
+// Takes the calls of a batch, of whose head so many bytes were taken.
+fn next_batch<I: Source>(
+    head: &[u8; HEAD],
+    count: usize,
+    input: &mut I,
+    room: &mut [u8; MOST_BYTES],
+) -> NextFrame
+    requires some { 0 < count }
+    requires within { count ≤ 24 }
+    requires sort { slice_index head.now 0 ≡ 19 }
+    ensures { (before : SourceView) → Takes before (I.view input.old) (take count head.now) →
+        (count < 24 → IsAtEnd (I.view input.old).left) →
+        ComesTo before (I.view input.new) room.new result }
 {
-    NextCall::Came(frame.call)
+    match calls_told(head, count) {
+        Some(calls) => next_items(head, calls as usize, input, room),
+        None => no_batch(head, count),
+    }
+}
+
+// How many calls the head of a batch tells, of which so many bytes are there.
+fn calls_told(head: &[u8; HEAD], count: usize) -> Option<u32>
+    requires { count ≤ 24 }
+    ensures some { IfSome result (λ calls. (count ≡ 24) × IsHeadOf calls head.now) }
+    ensures none { IfNone result ((calls : ℕ) → IsHeadOf calls (take count head.now) → ⊥) }
+{
+    if count < HEAD {
+        None
+    } else {
+        batch_count(head)
+    }
+}
+
+// What bytes come to that begin as a batch, and aren't the head of one.
+fn no_batch(head: &[u8; HEAD], count: usize) -> NextFrame
+    requires some { 0 < count }
+    requires within { count ≤ 24 }
+    requires sort { slice_index head.now 0 ≡ 19 }
+    requires none { (calls : ℕ) → IsHeadOf calls (take count head.now) → ⊥ }
+    ensures { (before after : SourceView) (room : List ℕ) →
+        Takes before after (take count head.now) → (count < 24 → IsAtEnd after.left) →
+        ComesTo before after room result }
+{
+    match take_batch(front_of(head, count)) {
+        Taken::Got { .. } => unreachable!(),
+        Taken::Bad { at } => NextFrame::Bad { at: at as u64 },
+        Taken::NeedMore => NextFrame::Bad { at: count as u64 },
+    }
+}
+
+// Takes the calls of a batch behind its head.
+fn next_items<I: Source>(
+    head: &[u8; HEAD],
+    calls: usize,
+    input: &mut I,
+    room: &mut [u8; MOST_BYTES],
+) -> NextFrame
+    requires { IsHeadOf calls head.now }
+    ensures { (before : SourceView) → Takes before (I.view input.old) head.now →
+        ComesTo before (I.view input.new) room.new result }
+{
+    room[..HEAD].copy_from_slice(head);
+    let Ok(more) = fill(input, &mut room[HEAD..batch_len(calls)]) else {
+        return NextFrame::Failed;
+    };
+    let length = HEAD + more;
+    match take_batch(front_of(room, length)) {
+        Taken::Got { .. } => NextFrame::Batch(calls),
+        Taken::Bad { at } => NextFrame::Bad { at: at as u64 },
+        Taken::NeedMore => NextFrame::Bad { at: length as u64 },
+    }
+}
+
+/// The call at a place of a batch.
+pub(crate) fn item(room: &[u8; MOST_BYTES], i: usize) -> Call
+    requires { IsItem room.now i }
+    ensures { (f : FrameSpec) → IsCallFrame f (take 24 (drop (24 * (i + 1)) room.now)) →
+        result ≡ f.call }
+{
+    let place = HEAD * (i + 1);
+    match take_call(&room[place..place + HEAD]) {
+        Taken::Got { value, .. } => call_of(value),
+        Taken::NeedMore | Taken::Bad { .. } => unreachable!(),
+    }
+}
+
+fn call_of(frame: CallFrame) -> Call
+    ensures { result ≡ frame.call }
+{
+    frame.call
+}
+
+// A frame that came.
+fn next_of_frame(frame: CallFrame) -> NextFrame
+    ensures { result ≡ NextFrame.Came frame.call }
+{
+    NextFrame::Came(frame.call)
 }
 
 fn front_of(bytes: &[u8], count: usize) -> &[u8]
@@ -71,33 +179,33 @@ fn front_of(bytes: &[u8], count: usize) -> &[u8]
 }
 
 // Takes the texts of a frame whose beginning was taken.
-fn next_with_texts<I: Source>(alloc: Global, head: &[u8; HEAD], input: &mut I) -> NextCall
+fn next_with_texts<I: Source>(alloc: Global, head: &[u8; HEAD], input: &mut I) -> NextFrame
     requires { IsFront IsCallFrame head.now }
-    ensures { (before : SourceView) → Takes before (I.view input.old) head.now →
-        ComesTo before (I.view input.new) result }
+    ensures { (before : SourceView) (room : List ℕ) → Takes before (I.view input.old) head.now →
+        ComesTo before (I.view input.new) room result }
 {
     match with_room(alloc, head) {
         Ok(mut frame) => next_in(frame.as_mut_slice(), input),
-        Err(_) => NextCall::Memory,
+        Err(_) => NextFrame::Memory,
     }
 }
 
 // Takes the texts of a frame behind its beginning.
-fn next_in<I: Source>(frame: &mut [u8], input: &mut I) -> NextCall
+fn next_in<I: Source>(frame: &mut [u8], input: &mut I) -> NextFrame
     requires front { IsFront IsCallFrame (take 24 frame.old) }
     requires long { 24 ≤ length frame.old }
     requires room { IsRoom (take 24 frame.old) (length frame.old - 24) }
-    ensures { (before : SourceView) → Takes before (I.view input.old) (take 24 frame.old) →
-        ComesTo before (I.view input.new) result }
+    ensures { (before : SourceView) (room : List ℕ) → Takes before (I.view input.old)
+        (take 24 frame.old) → ComesTo before (I.view input.new) room result }
 {
     let Ok(count) = fill(input, &mut frame[HEAD..]) else {
-        return NextCall::Failed;
+        return NextFrame::Failed;
     };
     let length = HEAD + count;
     match take_call(front_of(frame, length)) {
         Taken::Got { value, .. } => next_of_frame(value),
-        Taken::Bad { at } => NextCall::Bad { at: at as u64 },
-        Taken::NeedMore => NextCall::Bad { at: length as u64 },
+        Taken::Bad { at } => NextFrame::Bad { at: at as u64 },
+        Taken::NeedMore => NextFrame::Bad { at: length as u64 },
     }
 }
 

@@ -1,12 +1,17 @@
 //! Calls are served one after another.
-ghost use Rattle.std.specs.Prelude.{◌≡◌, ◌≢◌, IfNone, IfSome};
-ghost use Rattle.host_serving.specs.Serving.{EndsBy, GoesOn, HasServed, Served, scene};
+ghost use Rattle.std.specs.Prelude.{◌≡◌, ◌≤◌, ◌+◌, ◌*◌, ◌↔◌, IfOk, IsTrue, List, length, take};
+ghost use Rattle.sim_base.specs.Source.{SourceView};
+ghost use Rattle.fmi_calls.specs.Kinds.{kind_of, kind_of_reply};
+ghost use Rattle.fmi_calls.specs.declared.call.Call.{Call};
+ghost use Rattle.link_frames.specs.Batch.{CanAnswer, IsCallBatch};
+ghost use Rattle.host_serving.specs.Frames.{IsBatchOfCalls, TakesBatch, TakesCall};
+ghost use Rattle.host_serving.specs.Serving.{AnswersItems, EndsBehind, HasServed, Steps, as_sent, scene};
 ghost use Rattle.host_serving.specs.Told.{ServesAsTold};
 
-use crate::reading::{NextCall, next_call};
-use fmi_calls::{Call, permitted};
+use crate::reading::{MOST_BYTES, NextFrame, item, next_frame};
+use fmi_calls::{BadStatus, Call, Content, Grade, Kind, Reply, grade, permitted};
 use fmu_peer::Peer;
-use link_frames::put_reply;
+use link_frames::{MOST_ITEMS, put_batch_reply, put_reply};
 use sim_base::{Sink, Source};
 use std::alloc::Global;
 
@@ -22,16 +27,17 @@ pub enum ServeEnd {
     BadFrame { at: u64 },
     /// FMI 3.0 doesn't permit this call in the state of the instance.
     NotPermitted { call: Call },
-    /// A take, a put or a call failed.
+    /// A take, a put or a call failed, or the reply to a call of a batch isn't of the call's kind.
     Failed,
-    /// As many calls were served as are counted: 2^64 - 1.
+    /// As many calls were served as are counted: 2^64 - 1. A batch in which that is reached is served to its end.
     TooMany,
     /// No memory is left for the texts of a frame.
     Memory,
 }
 
 /// Serves the calls that come as frames, one after another: asks the machine each call that is permitted, and puts the frame
-/// of its reply. It ends behind FreeInstance, or where a frame, a call, a count or the input ends it.
+/// of its reply. The calls of a batch are answered up to the first whose reply isn't good, by one batch of replies; where one
+/// of them isn't permitted nothing is put for them. It ends behind FreeInstance, or where a frame, a call, a count or the input ends it.
 pub fn serve<I: Source, O: Sink, M: Peer>(
     alloc: Global,
     input: &mut I,
@@ -43,56 +49,180 @@ pub fn serve<I: Source, O: Sink, M: Peer>(
     ensures told { ServesAsTold (scene (I.view input.old) (O.view output.old) (M.view machine.old))
         (scene (I.view input.new) (O.view output.new) (M.view machine.new)) result }
 {
-    'calls: for _ in 0..u64::MAX {
-        match serve_next(alloc, input, output, machine) {
-            Some(end) => return end,
-            None => {}
+    let mut room = [0; MOST_BYTES];
+    let mut served: u64 = 0;
+    'frames: while served < u64::MAX {
+        match serve_next(alloc, input, output, machine, &mut room) {
+            Next::Served(count) => served = served.saturating_add(count),
+            Next::Ends(end) => return end,
         }
     }
     ServeEnd::TooMany
 }
 
-// Serves the next call, and answers what ends the serving, if this does.
+// What came of a frame: so many calls were served, or the serving ends.
+#[derive(Drop)]
+pub(crate) enum Next {
+    Served(u64),
+    Ends(ServeEnd),
+}
+
+// Serves the next frame.
 fn serve_next<I: Source, O: Sink, M: Peer>(
     alloc: Global,
     input: &mut I,
     output: &mut O,
     machine: &mut M,
-) -> Option<ServeEnd>
-    ensures on { IfNone result ((served : Served) × GoesOn (scene (I.view input.old) (O.view output.old) (M.view machine.old))
-        (scene (I.view input.new) (O.view output.new) (M.view machine.new)) served) }
-    ensures end { IfSome result (λ end. (end ≢ ServeEnd.TooMany) × EndsBy (scene (I.view input.old) (O.view output.old) (M.view machine.old))
-        (scene (I.view input.new) (O.view output.new) (M.view machine.new)) end) }
+    room: &mut [u8; MOST_BYTES],
+) -> Next
+    ensures { Steps (scene (I.view input.old) (O.view output.old) (M.view machine.old))
+        (scene (I.view input.new) (O.view output.new) (M.view machine.new)) result }
 {
-    let call = match next_call(alloc, input) {
-        NextCall::Came(call) => call,
-        NextCall::AtEnd => return Some(ServeEnd::Ended),
-        NextCall::Bad { at } => return Some(ServeEnd::BadFrame { at }),
-        NextCall::Failed => return Some(ServeEnd::Failed),
-        NextCall::Memory => return Some(ServeEnd::Memory),
-    };
+    match next_frame(alloc, input, room) {
+        NextFrame::Came(call) => serve_call(call, output, machine),
+        NextFrame::Batch(count) => serve_batch(room, count, output, machine),
+        NextFrame::AtEnd => Next::Ends(ServeEnd::Ended),
+        NextFrame::Bad { at } => Next::Ends(ServeEnd::BadFrame { at }),
+        NextFrame::Failed => Next::Ends(ServeEnd::Failed),
+        NextFrame::Memory => Next::Ends(ServeEnd::Memory),
+    }
+}
+
+// Serves one call.
+fn serve_call<O: Sink, M: Peer>(call: Call, output: &mut O, machine: &mut M) -> Next
+    ensures { (input read : SourceView) → TakesCall input read call →
+        Steps (scene input (O.view output.old) (M.view machine.old))
+        (scene read (O.view output.new) (M.view machine.new)) result }
+{
     if !permitted(machine.shape(), machine.phase(), &call) {
-        return Some(ServeEnd::NotPermitted { call });
+        return Next::Ends(ServeEnd::NotPermitted { call });
     }
     let reply = match machine.call(&call) {
-        Ok(reply) => reply,
-        Err(_) => return Some(ServeEnd::Failed),
+        Ok(reply) => as_sent(&call, reply),
+        Err(_) => return Next::Ends(ServeEnd::Failed),
     };
     let mut frame = [0; 24];
     put_reply(&reply, &mut frame);
     match output.put(&frame) {
         Ok(()) => end_behind(call),
-        Err(_) => Some(ServeEnd::Failed),
+        Err(_) => Next::Ends(ServeEnd::Failed),
     }
 }
 
+// The reply that is put: a good one to an Instantiate that asks for batches says that they are taken.
+fn as_sent(call: &Call, reply: Reply) -> Reply
+    ensures { result ≡ as_sent call.now reply }
+{
+    match (call, reply) {
+        (
+            Call::Instantiate { batches: true, .. },
+            Reply::Done {
+                is_warning,
+                content: Content::Instantiate { .. },
+            },
+        ) => Reply::Done {
+            is_warning,
+            content: Content::Instantiate { batches: true },
+        },
+        (_, reply) => reply,
+    }
+}
+
+// What has no reply.
+const NO_REPLY: Reply = Reply::Refused {
+    kind: Kind::FreeInstance,
+    status: BadStatus::Fatal,
+};
+
+// Serves the calls of a batch.
+fn serve_batch<O: Sink, M: Peer>(
+    room: &[u8; MOST_BYTES],
+    count: usize,
+    output: &mut O,
+    machine: &mut M,
+) -> Next
+    requires { IsCallBatch count (take (24 * (count + 1)) room.now) }
+    ensures { (input read : SourceView) → TakesBatch input read room.now count →
+        Steps (scene input (O.view output.old) (M.view machine.old))
+        (scene read (O.view output.new) (M.view machine.new)) result }
+{
+    let mut places = [NO_REPLY; MOST_ITEMS];
+    serve_items(room, &mut places[..count], output, machine)
+}
+
+// Asks the machine the calls of a batch, for whose replies there are places, and puts the batch of the replies.
+fn serve_items<O: Sink, M: Peer>(
+    room: &[u8; MOST_BYTES],
+    places: &mut [Reply],
+    output: &mut O,
+    machine: &mut M,
+) -> Next
+    requires { IsCallBatch (length places.old) (take (24 * (length places.old + 1)) room.now) }
+    ensures { (input read : SourceView) → TakesBatch input read room.now (length places.old) →
+        Steps (scene input (O.view output.old) (M.view machine.old))
+        (scene read (O.view output.new) (M.view machine.new)) result }
+{
+    let answered = match answer_items(room, places, machine) {
+        Ok(answered) => answered,
+        Err(end) => return Next::Ends(end),
+    };
+    let replies = &places[..answered];
+    let mut frame = [0; MOST_BYTES];
+    let length = put_batch_reply(replies, &mut frame);
+    match output.put(&frame[..length]) {
+        Ok(()) => Next::Served(answered as u64),
+        Err(_) => Next::Ends(ServeEnd::Failed),
+    }
+}
+
+// Asks the machine the calls of a batch in their order, up to the first answer that isn't good. Answers how many replies
+// stand in their places, or what ends the serving.
+fn answer_items<M: Peer>(
+    room: &[u8; MOST_BYTES],
+    places: &mut [Reply],
+    machine: &mut M,
+) -> Result<usize, ServeEnd>
+    requires { IsCallBatch (length places.old) (take (24 * (length places.old + 1)) room.now) }
+    ensures answered { (calls : List Call) →
+        IsBatchOfCalls calls (take (24 * (length places.old + 1)) room.now) →
+        AnswersItems (M.view machine.old) calls places.new result (M.view machine.new) }
+    ensures can { IfOk result (λ n. CanAnswer (take n places.new)) }
+    ensures within { IfOk result (λ n. n ≤ length places.new) }
+{
+    for i in 0..places.len() {
+        let call = item(room, i);
+        if !permitted(machine.shape(), machine.phase(), &call) {
+            return Err(ServeEnd::NotPermitted { call });
+        }
+        let reply = match machine.call(&call) {
+            Ok(reply) => reply,
+            Err(_) => return Err(ServeEnd::Failed),
+        };
+        if !is_of_kind(&reply, &call) {
+            return Err(ServeEnd::Failed);
+        }
+        places[i] = reply;
+        match grade(machine.shape(), machine.phase(), &call, &reply) {
+            Grade::Good => {}
+            Grade::Refused | Grade::Misreply => return Ok(i + 1),
+        }
+    }
+    Ok(places.len())
+}
+
+// Whether a reply is of the kind of a call.
+fn is_of_kind(reply: &Reply, call: &Call) -> bool
+    ensures { IsTrue result ↔ (kind_of_reply reply.now ≡ kind_of call.now) }
+{
+    reply.kind() == call.kind()
+}
+
 // What ends the serving behind a call that was served.
-fn end_behind(call: Call) -> Option<ServeEnd>
-    ensures freed { IfSome result (λ end. (end ≡ ServeEnd.Freed) × (call ≡ Call.FreeInstance)) }
-    ensures on { IfNone result (call ≢ Call.FreeInstance) }
+fn end_behind(call: Call) -> Next
+    ensures { EndsBehind call result }
 {
     match call {
-        Call::FreeInstance => Some(ServeEnd::Freed),
-        _ => None,
+        Call::FreeInstance => Next::Ends(ServeEnd::Freed),
+        _ => Next::Served(1),
     }
 }

@@ -23,7 +23,7 @@ use Rattle.link_frames.specs.Numbers.{Reads}
 use Rattle.link_frames.specs.Taking.{AreSingle}
 use Rattle.link_frames.specs.Text.{IsText}
 use Rattle.link_frames.proofs.BehindLemmas.{Followed, behind_single}
-use Rattle.link_frames.proofs.HeadLemmas.{Allowed, IsHead, head_length, head_reads, head_same, in_any, in_between, in_zero, is_between, is_zero, kind_again, number_in, read_head}
+use Rattle.link_frames.proofs.HeadLemmas.{Allowed, IsHead, head_length, head_reads, head_same, in_any, in_between, in_kinds, in_zero, is_between, is_zero, kind_again, kind_small, kinds_in, number_in, read_head}
 use Rattle.link_frames.proofs.HeadLemmas as heads
 use Rattle.link_frames.proofs.MapLemmas.{Same, made_single}
 use Rattle.link_frames.proofs.NumbersLemmas.{reads_single}
@@ -34,10 +34,14 @@ use Rattle.link_frames.proofs.WordLemmas.{no_clock, type_again, type_in, value_a
 -- ---- a call is that of its numbers
 
 call_again : (call : Call) (n t : ℕ) → CanBeSent call n t → call_by (kind_of call) (detail_of call) (reference_of call) (first_of call n) (last_of call t) ≡ call
-call_again (C.Instantiate true true) n t h = refl
-call_again (C.Instantiate true false) n t h = refl
-call_again (C.Instantiate false true) n t h = refl
-call_again (C.Instantiate false false) n t h = refl
+call_again (C.Instantiate true true true) n t h = refl
+call_again (C.Instantiate true true false) n t h = refl
+call_again (C.Instantiate true false true) n t h = refl
+call_again (C.Instantiate true false false) n t h = refl
+call_again (C.Instantiate false true true) n t h = refl
+call_again (C.Instantiate false true false) n t h = refl
+call_again (C.Instantiate false false true) n t h = refl
+call_again (C.Instantiate false false false) n t h = refl
 call_again (C.EnterInitialization start stop) n t h = refl
 call_again C.ExitInitialization n t h = refl
 call_again C.EnterEvent n t h = refl
@@ -59,17 +63,21 @@ call_again C.FreeInstance n t h = refl
 
 -- ---- the numbers of a call lie in their spans
 
-flags_in : (a b : Bool) → InSpans (between 0 3) (flag a 1 + flag b 2)
-flags_in true true = in_between 0 3 _ (omega arith) (omega arith)
-flags_in true false = in_between 0 3 _ (omega arith) (omega arith)
-flags_in false true = in_between 0 3 _ (omega arith) (omega arith)
-flags_in false false = in_between 0 3 _ (omega arith) (omega arith)
+flags_in : (a b c : Bool) → InSpans (between 0 7) (flag a 1 + flag b 2 + flag c 4)
+flags_in true true true = in_between 0 7 _ (omega arith) (omega arith)
+flags_in true true false = in_between 0 7 _ (omega arith) (omega arith)
+flags_in true false true = in_between 0 7 _ (omega arith) (omega arith)
+flags_in true false false = in_between 0 7 _ (omega arith) (omega arith)
+flags_in false true true = in_between 0 7 _ (omega arith) (omega arith)
+flags_in false true false = in_between 0 7 _ (omega arith) (omega arith)
+flags_in false false true = in_between 0 7 _ (omega arith) (omega arith)
+flags_in false false false = in_between 0 7 _ (omega arith) (omega arith)
 
 reference_in : (n : ℕ) → n < 2 ^ 32 → InSpans any_reference n
 reference_in n lt = in_between 0 (2 ^ 32 - 1) n (omega arith) (omega (arith, lt))
 
 call_allowed : (call : Call) (n t : ℕ) → CanBeSent call n t → InRange (head_of_call call n t) → Allowed OfCall (kind_of call) (head_of_call call n t)
-call_allowed (C.Instantiate event_mode early_return) n t h r = record { detail = in_zero; flags = in_zero; reference = flags_in event_mode early_return; first = in_between 1 text_max n h.0 h.1; last = in_between 0 text_max t (omega arith) h.2 }
+call_allowed (C.Instantiate event_mode early_return batches) n t h r = record { detail = in_zero; flags = in_zero; reference = flags_in event_mode early_return batches; first = in_between 1 text_max n h.0 h.1; last = in_between 0 text_max t (omega arith) h.2 }
 call_allowed (C.EnterInitialization start stop) n t h r = record { detail = in_zero; flags = in_zero; reference = in_zero; first = in_any start r.first; last = in_any stop r.last }
 call_allowed C.ExitInitialization n t h r = record { detail = in_zero; flags = in_zero; reference = in_zero; first = in_zero; last = in_zero }
 call_allowed C.EnterEvent n t h r = record { detail = in_zero; flags = in_zero; reference = in_zero; first = in_zero; last = in_zero }
@@ -95,7 +103,7 @@ call_allowed C.Terminate n t h r = record { detail = in_zero; flags = in_zero; r
 call_allowed C.FreeInstance n t h r = record { detail = in_zero; flags = in_zero; reference = in_zero; first = in_zero; last = in_zero }
 
 detail_small : (call : Call) (n t : ℕ) → CanBeSent call n t → detail_of call < 256
-detail_small (C.Instantiate event_mode early_return) n t h = omega arith
+detail_small (C.Instantiate event_mode early_return batches) n t h = omega arith
 detail_small (C.EnterInitialization start stop) n t h = omega arith
 detail_small C.ExitInitialization n t h = omega arith
 detail_small C.EnterEvent n t h = omega arith
@@ -116,7 +124,8 @@ detail_small C.FreeInstance n t h = omega arith
 
 call_head : (call : Call) (n t : ℕ) → CanBeSent call n t → InRange (head_of_call call n t) → IsHead OfCall (head_of_call call n t)
 call_head call n t h r = record {
-  kind = number_in (kind_of call);
+  kind = in_kinds _ (number_in (kind_of call));
+  small = kind_small (kind_of call);
   detail = detail_small call n t h;
   flags = omega arith;
   in_range = r;
@@ -125,12 +134,16 @@ call_head call n t h r = record {
 
 -- ---- numbers in their spans are those of their call
 
-bits_again : (f : ℕ) → f ≤ 3 → flag (eqb (f % 2) 1) 1 + flag (eqb (f / 2) 1) 2 ≡ f
+bits_again : (f : ℕ) → f ≤ 7 → flag (eqb (f % 2) 1) 1 + flag (eqb (f / 2 % 2) 1) 2 + flag (eqb (f / 4) 1) 4 ≡ f
 bits_again zero h = refl
 bits_again (suc zero) h = refl
 bits_again (suc (suc zero)) h = refl
 bits_again (suc (suc (suc zero))) h = refl
-bits_again (suc (suc (suc (suc f)))) h = absurd (omega arith)
+bits_again (suc (suc (suc (suc zero)))) h = refl
+bits_again (suc (suc (suc (suc (suc zero))))) h = refl
+bits_again (suc (suc (suc (suc (suc (suc zero)))))) h = refl
+bits_again (suc (suc (suc (suc (suc (suc (suc zero))))))) h = refl
+bits_again (suc (suc (suc (suc (suc (suc (suc (suc f)))))))) h = absurd (omega arith)
 
 -- what a kind's numbers say of its call
 record Says (kind : Kind) (d f r a b : ℕ) : Type 0 where
@@ -141,7 +154,7 @@ plain_again : (kind : Kind) (d f r a b : ℕ) → InSpans (between 0 0) d → In
 plain_again kind d f r a b hd hf hr ha hb = head_same _ _ _ _ _ _ _ _ _ _ _ _ refl (sym (is_zero d hd)) (sym (is_zero f hf)) (sym (is_zero r hr)) (sym (is_zero a ha)) (sym (is_zero b hb))
 
 says : (kind : Kind) (k d f r a b : ℕ) → Allowed OfCall kind (head k d f r a b) → Says kind d f r a b
-says K.Instantiate k d f r a b h = record { head_is = head_same _ 0 0 _ a b _ d f r a b refl (sym (is_zero d h.detail)) (sym (is_zero f h.flags)) (bits_again r (is_between 0 3 r h.reference).upto) refl refl; can_be_sent = ((is_between 1 text_max a h.first).from, (is_between 1 text_max a h.first).upto, (is_between 0 text_max b h.last).upto) }
+says K.Instantiate k d f r a b h = record { head_is = head_same _ 0 0 _ a b _ d f r a b refl (sym (is_zero d h.detail)) (sym (is_zero f h.flags)) (bits_again r (is_between 0 7 r h.reference).upto) refl refl; can_be_sent = ((is_between 1 text_max a h.first).from, (is_between 1 text_max a h.first).upto, (is_between 0 text_max b h.last).upto) }
 says K.EnterInitialization k d f r a b h = record { head_is = head_same _ 0 0 0 a b _ d f r a b refl (sym (is_zero d h.detail)) (sym (is_zero f h.flags)) (sym (is_zero r h.reference)) refl refl; can_be_sent = tt }
 says K.ExitInitialization k d f r a b h = record { head_is = plain_again K.ExitInitialization d f r a b h.detail h.flags h.reference h.first h.last; can_be_sent = tt }
 says K.EnterEvent k d f r a b h = record { head_is = plain_again K.EnterEvent d f r a b h.detail h.flags h.reference h.first h.last; can_be_sent = tt }
@@ -182,7 +195,7 @@ sent_is K.Terminate d r a b len text e = sym (nil_from_length text e)
 sent_is K.FreeInstance d r a b len text e = sym (nil_from_length text e)
 
 sent_text : (call : Call) (text : List ℕ) → IsUtf8 text → IsUtf8 (sent call text)
-sent_text (C.Instantiate event_mode early_return) text h = h
+sent_text (C.Instantiate event_mode early_return batches) text h = h
 sent_text (C.EnterInitialization start stop) text h = IsUtf8-nil
 sent_text C.ExitInitialization text h = IsUtf8-nil
 sent_text C.EnterEvent text h = IsUtf8-nil
@@ -202,7 +215,7 @@ sent_text C.Terminate text h = IsUtf8-nil
 sent_text C.FreeInstance text h = IsUtf8-nil
 
 name_length : (call : Call) (name : List ℕ) → length (sent call name) ≡ text_len (kind_of call) (first_of call (length name))
-name_length (C.Instantiate event_mode early_return) name = refl
+name_length (C.Instantiate event_mode early_return batches) name = refl
 name_length (C.EnterInitialization start stop) name = refl
 name_length C.ExitInitialization name = refl
 name_length C.EnterEvent name = refl
@@ -222,7 +235,7 @@ name_length C.Terminate name = refl
 name_length C.FreeInstance name = refl
 
 token_length : (call : Call) (token : List ℕ) → length (sent call token) ≡ text_len (kind_of call) (last_of call (length token))
-token_length (C.Instantiate event_mode early_return) token = refl
+token_length (C.Instantiate event_mode early_return batches) token = refl
 token_length (C.EnterInitialization start stop) token = refl
 token_length C.ExitInitialization token = refl
 token_length C.EnterEvent token = refl
@@ -287,7 +300,7 @@ frame_of_head h is name token bytes name_is token_is name_text token_text spelle
     let kind = kind_at h.kind in
     let call = call_at (numbers_of h) in
     let s = says kind h.kind h.detail h.flags h.reference h.first h.last is.allowed in
-    let number : head (facts_of kind).number h.detail h.flags h.reference h.first h.last ≡ h = ap (λ (k : ℕ). head k h.detail h.flags h.reference h.first h.last) (kind_again h.kind is.kind) in
+    let number : head (facts_of kind).number h.detail h.flags h.reference h.first h.last ≡ h = ap (λ (k : ℕ). head k h.detail h.flags h.reference h.first h.last) (kind_again h.kind (kinds_in h.kind is.kind)) in
     let head_is : head_of_call call (length name) (length token) ≡ h = rw (name_is, token_is) (s.head_is ∙ number) in
     let sent_name : sent call name ≡ name = sent_is kind h.detail h.reference h.first h.last h.first name name_is in
     let sent_token : sent call token ≡ token = sent_is kind h.detail h.reference h.first h.last h.last token token_is in
@@ -364,7 +377,7 @@ second_part a x y n m at to =
 
 -- with other calls than Instantiate any texts make the same frame
 resent : (call : Call) (name token bytes : List ℕ) → IsFrameOf call name token bytes → IsFrameOf call (sent call name) (sent call token) bytes
-resent (C.Instantiate event_mode early_return) name token bytes h = h
+resent (C.Instantiate event_mode early_return batches) name token bytes h = h
 resent (C.EnterInitialization start stop) name token bytes h = record { can_be_sent = h.can_be_sent; name_text = IsUtf8-nil; token_text = IsUtf8-nil; in_range = h.in_range; spelled = h.spelled }
 resent C.ExitInitialization name token bytes h = record { can_be_sent = h.can_be_sent; name_text = IsUtf8-nil; token_text = IsUtf8-nil; in_range = h.in_range; spelled = h.spelled }
 resent C.EnterEvent name token bytes h = record { can_be_sent = h.can_be_sent; name_text = IsUtf8-nil; token_text = IsUtf8-nil; in_range = h.in_range; spelled = h.spelled }
@@ -409,7 +422,7 @@ bare h bytes e = ap length e ∙ omega (arith, length-append (spelling h) [], he
 
 -- the bytes behind the numbers are what is sent
 part_sent : (call : Call) (name token bytes : List ℕ) (i j : ℕ) → IsFrameOf call name token bytes → 24 ≤ i → sent call (slice_range bytes i j) ≡ slice_range bytes i j
-part_sent (C.Instantiate event_mode early_return) name token bytes i j h le = refl
+part_sent (C.Instantiate event_mode early_return batches) name token bytes i j h le = refl
 part_sent (C.EnterInitialization start stop) name token bytes i j h le = sym (past bytes i j (bare (head_of_call (C.EnterInitialization start stop) (length name) (length token)) bytes h.spelled) le)
 part_sent C.ExitInitialization name token bytes i j h le = sym (past bytes i j (bare (head_of_call C.ExitInitialization (length name) (length token)) bytes h.spelled) le)
 part_sent C.EnterEvent name token bytes i j h le = sym (past bytes i j (bare (head_of_call C.EnterEvent (length name) (length token)) bytes h.spelled) le)

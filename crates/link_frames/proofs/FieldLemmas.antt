@@ -149,6 +149,13 @@ field_got size spans bytes place front le p small is h =
       spelled = record { size_is = omega (arith, length-take size bytes); are_bytes = taken_bytes size bytes small; number = ap (λ (n : ℕ). number 0 (take n bytes)) (sym p) ∙ sym is; span = in_spans spans front s };
     }
 
+-- so many bytes whose number lies in the spans
+pub field_at_once : (size : ℕ) (spans : Spans) (bytes : List ℕ) (value : ℕ) → size ≤ length bytes → AreBytes bytes → value ≡ number 0 (take size bytes) → InSpans spans value → Gets (Field size spans) bytes value size
+field_at_once size spans bytes value le small is span = record {
+  within = le;
+  spelled = record { size_is = omega (arith, length-take size bytes); are_bytes = taken_bytes size bytes small; number = sym is; span = span };
+}
+
 -- a number of the spans is written in so many bytes
 pub field_filled : (size : ℕ) (spans : Spans) → IsSane size spans → (bytes : List ℕ) × Field size spans (spans.one.low) bytes
 field_filled size spans sane =

@@ -11,7 +11,7 @@ use Rattle.link_frames.specs.declared.head.Head.{Head}
 use Rattle.link_frames.specs.declared.layout.Form.{Form}
 use Rattle.link_frames.specs.Field.{AreBytes, Field, InSpans, number}
 use Rattle.link_frames.specs.Head.{InRange, head, numbers_of, spelling}
-use Rattle.link_frames.specs.Layout.{any, between, kind_at, row_by, zero_only}
+use Rattle.link_frames.specs.Layout.{any, between, kind_at, kinds_of, row_by, zero_only}
 use Rattle.link_frames.specs.Numbers.{Reads}
 
 -- ---- numbers of kinds
@@ -97,6 +97,15 @@ is_between low high n h =
       | inl s ↦ record { from = s.from; upto = s.upto }
       | inr s ↦ record { from = s.from; upto = s.upto }
     ]
+
+pub in_kinds : (n : ℕ) → IsKindNumber n → InSpans (between 1 18) n
+in_kinds n h = in_between 1 18 n h.from h.upto
+
+pub kinds_in : (n : ℕ) → InSpans (between 1 18) n → IsKindNumber n
+kinds_in n h = let b = is_between 1 18 n h in record { from = b.from; upto = b.upto }
+
+pub kind_small : (kind : Kind) → (facts_of kind).number < 256
+kind_small kind = let k = number_in kind in omega (arith, k.upto)
 
 pub is_zero : (n : ℕ) → InSpans zero_only n → n ≡ 0
 is_zero n h = omega (arith, (is_between 0 0 n h).upto)
@@ -195,7 +204,8 @@ pub record Allowed (form : Form) (kind : Kind) (h : Head) : Type 0 where
   pub last : InSpans (row_by form kind h.detail h.flags h.reference).last h.last
 
 pub record IsHead (form : Form) (h : Head) : Type 0 where
-  pub kind : IsKindNumber h.kind
+  pub kind : InSpans (kinds_of form) h.kind
+  pub small : h.kind < 256
   pub detail : h.detail < 256
   pub flags : h.flags < 256
   pub in_range : InRange h
@@ -210,7 +220,7 @@ head_reads form h is =
       front = h.kind ∷ [];
       rest = _;
       both = refl;
-      is_first = field_1 (between 1 18) h.kind (omega (arith, is.kind.upto)) (in_between 1 18 h.kind is.kind.from is.kind.upto);
+      is_first = field_1 (kinds_of form) h.kind is.small is.kind;
       is_next = record {
         number = h.detail;
         front = h.detail ∷ [];
@@ -277,7 +287,6 @@ read_head form all bytes p1 =
     let p6 = p5.is_next in
     let p7 = p6.is_next in
     let end = p7.is_next in
-    let kind = is_between 1 18 p1.number p1.is_first.span in
     let zero_is : p4.number ≡ 0 = is_zero p4.number p4.is_first.span in
     let o1 = only_1 _ p1.number p1.front p1.is_first in
     let o2 = only_1 _ p2.number p2.front p2.is_first in
@@ -289,7 +298,8 @@ read_head form all bytes p1 =
     record {
       head = head p1.number p2.number p3.number p5.number p6.number p7.number;
       is = record {
-        kind = record { from = kind.from; upto = kind.upto };
+        kind = p1.is_first.span;
+        small = o1.below;
         detail = o2.below;
         flags = o3.below;
         in_range = record { reference = o5.below; first = o6.below; last = o7.below };

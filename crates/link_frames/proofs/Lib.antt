@@ -13,3 +13,7 @@ mod TextLemmas
 mod WordLemmas
 mod CallLemmas
 mod ListLemmas
+pub mod BatchLemmas
+mod BatchLaws
+mod BatchHeads
+pub mod PutLemmas

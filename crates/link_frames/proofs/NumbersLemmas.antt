@@ -22,10 +22,10 @@ reads_single form zero before = none_single before
 reads_single form (suc left) before =
     behind_single (Field (size_at (length before)) (spans_at form before)) (λ (n : ℕ). Reads form left (before ++ (n ∷ []))) (field_single (size_at (length before)) (spans_at form before)) (λ n. reads_single form left (before ++ (n ∷ [])))
 
-record Filled (form : Form) (left : ℕ) (before : List ℕ) : Type 0 where
-  all : List ℕ
-  bytes : List ℕ
-  reads : Reads form left before all bytes
+pub record Filled (form : Form) (left : ℕ) (before : List ℕ) : Type 0 where
+  pub all : List ℕ
+  pub bytes : List ℕ
+  pub reads : Reads form left before all bytes
 
 filled : (form : Form) (left : ℕ) (before : List ℕ) → length before + left ≡ 7 → Filled form left before
 filled form zero before e = record { all = before; bytes = []; reads = (refl, refl) }
@@ -36,6 +36,9 @@ filled form (suc left) before e =
     let n = spans.one.low in
     let r = filled form left (before ++ (n ∷ [])) (omega (arith, length-append before (n ∷ []))) in
     record { all = r.all; bytes = f.0 ++ r.bytes; reads = record { number = n; front = f.0; rest = r.bytes; is_first = f.1; is_next = r.reads; both = refl } }
+
+pub filled_7 : (form : Form) → Filled form 7 []
+filled_7 form = filled form 7 [] refl
 
 pub followed : (form : Form) (left : ℕ) (before : List ℕ) → length before + suc left ≡ 7 → Followed (λ (n : ℕ). Reads form left (before ++ (n ∷ [])))
 followed form left before e =

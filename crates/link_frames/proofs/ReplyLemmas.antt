@@ -19,14 +19,15 @@ use Rattle.link_frames.specs.Layout.{between, done_row, kind_at}
 use Rattle.link_frames.specs.Numbers.{Reads}
 use Rattle.link_frames.specs.Reply.{IsReplyFrame, bad_number, content_at, first_of, flags_of, head_of_content, head_of_reply, last_of, qualifier_of, reply_at, reply_by}
 use Rattle.link_frames.specs.Taking.{AreSingle}
-use Rattle.link_frames.proofs.HeadLemmas.{Allowed, IsHead, head_reads, head_same, in_any, in_between, in_zero, is_between, is_zero, kind_again, number_again, number_in, read_head}
+use Rattle.link_frames.proofs.HeadLemmas.{Allowed, IsHead, head_reads, head_same, in_any, in_between, in_kinds, in_zero, is_between, is_zero, kind_again, kind_small, kinds_in, number_again, number_in, read_head}
 use Rattle.link_frames.proofs.MapLemmas.{Same, made_single}
 use Rattle.link_frames.proofs.NumbersLemmas.{reads_single}
 
 -- ---- a reply is that of its numbers
 
 content_again : (content : Content) → content_at (kind_of_content content) (flags_of content) (qualifier_of content) (first_of content) (last_of content) ≡ content
-content_again A.Instantiate = refl
+content_again (A.Instantiate true) = refl
+content_again (A.Instantiate false) = refl
 content_again A.EnterInitialization = refl
 content_again A.ExitInitialization = refl
 content_again A.EnterEvent = refl
@@ -94,7 +95,8 @@ flags_in false false true = in_between 0 7 _ (omega arith) (omega arith)
 flags_in false false false = in_between 0 7 _ (omega arith) (omega arith)
 
 content_holds : (content : Content) → first_of content < 2 ^ 64 → last_of content < 2 ^ 64 → Holds (kind_of_content content) (flags_of content) (qualifier_of content) (first_of content) (last_of content)
-content_holds A.Instantiate first last = record { flags = in_zero; reference = in_zero; first = in_zero; last = in_zero }
+content_holds (A.Instantiate true) first last = record { flags = in_between 0 1 1 (omega arith) (omega arith); reference = in_zero; first = in_zero; last = in_zero }
+content_holds (A.Instantiate false) first last = record { flags = in_between 0 1 0 (omega arith) (omega arith); reference = in_zero; first = in_zero; last = in_zero }
 content_holds A.EnterInitialization first last = record { flags = in_zero; reference = in_zero; first = in_zero; last = in_zero }
 content_holds A.ExitInitialization first last = record { flags = in_zero; reference = in_zero; first = in_zero; last = in_zero }
 content_holds A.EnterEvent first last = record { flags = in_zero; reference = in_zero; first = in_zero; last = in_zero }
@@ -184,7 +186,8 @@ bad_small B.Error = omega arith
 bad_small B.Fatal = omega arith
 
 flags_small : (content : Content) → flags_of content < 256
-flags_small A.Instantiate = omega arith
+flags_small (A.Instantiate true) = omega arith
+flags_small (A.Instantiate false) = omega arith
 flags_small A.EnterInitialization = omega arith
 flags_small A.ExitInitialization = omega arith
 flags_small A.EnterEvent = omega arith
@@ -208,14 +211,16 @@ reply_head : (reply : Reply) → InRange (head_of_reply reply) → IsHead OfRepl
 reply_head (Done w content) r =
     let kind = kind_of_content content in
     record {
-      kind = number_in kind;
+      kind = in_kinds _ (number_in kind);
+      small = kind_small kind;
       detail = flag_small w;
       flags = flags_small content;
       in_range = r;
       allowed = at_number kind (head_of_reply (Done w content)) refl (done_allowed w kind _ _ _ _ (content_holds content r.first r.last));
     }
 reply_head (Refused kind status) r = record {
-  kind = number_in kind;
+  kind = in_kinds _ (number_in kind);
+  small = kind_small kind;
   detail = bad_small status;
   flags = omega arith;
   in_range = r;
@@ -255,8 +260,13 @@ interval_again s f (suc zero) a b h = head_same _ _ 0 1 a b _ _ f 1 a b refl ref
 interval_again s f (suc (suc zero)) a b h = head_same _ _ 0 2 a b _ _ f 2 a b refl refl (sym (is_zero f h.flags)) refl refl refl
 interval_again s f (suc (suc (suc q))) a b h = absurd (omega (arith, (is_between 0 2 _ h.reference).upto))
 
+agreed_again : (s f q a b : ℕ) → Holds K.Instantiate f q a b → head_of_content s (content_at K.Instantiate f q a b) ≡ head 1 s f q a b
+agreed_again s zero q a b h = head_same _ _ 0 0 0 0 _ _ 0 q a b refl refl refl (sym (is_zero q h.reference)) (sym (is_zero a h.first)) (sym (is_zero b h.last))
+agreed_again s (suc zero) q a b h = head_same _ _ 1 0 0 0 _ _ 1 q a b refl refl refl (sym (is_zero q h.reference)) (sym (is_zero a h.first)) (sym (is_zero b h.last))
+agreed_again s (suc (suc f)) q a b h = absurd (omega (arith, (is_between 0 1 _ h.flags).upto))
+
 content_head : (kind : Kind) (s f q a b : ℕ) → Holds kind f q a b → head_of_content s (content_at kind f q a b) ≡ head (facts_of kind).number s f q a b
-content_head K.Instantiate s f q a b h = plain_again K.Instantiate s f q a b h.flags h.reference h.first h.last
+content_head K.Instantiate s f q a b h = agreed_again s f q a b h
 content_head K.EnterInitialization s f q a b h = plain_again K.EnterInitialization s f q a b h.flags h.reference h.first h.last
 content_head K.ExitInitialization s f q a b h = plain_again K.ExitInitialization s f q a b h.flags h.reference h.first h.last
 content_head K.EnterEvent s f q a b h = plain_again K.EnterEvent s f q a b h.flags h.reference h.first h.last
@@ -286,7 +296,7 @@ by_again kind k (suc (suc (suc (suc (suc s))))) f q a b h = absurd (omega (arith
 head_again : (h : Head) → IsHead OfReply h → head_of_reply (reply_at (numbers_of h)) ≡ h
 head_again h is =
     by_again (kind_at h.kind) h.kind h.detail h.flags h.reference h.first h.last is.allowed
-    ∙ ap (λ (k : ℕ). head k h.detail h.flags h.reference h.first h.last) (kind_again h.kind is.kind)
+    ∙ ap (λ (k : ℕ). head k h.detail h.flags h.reference h.first h.last) (kind_again h.kind (kinds_in h.kind is.kind))
 
 -- ---- what is read is a frame
 

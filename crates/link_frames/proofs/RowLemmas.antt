@@ -7,10 +7,12 @@ use Rattle.value_types.specs.declared.values.PortType.{PortType}
 use Rattle.value_types.specs.declared.values.PortType.TheVariants.{Int8, UInt8, Int16, UInt16, Int32, UInt32, Int64, UInt64, Boolean, Enumeration, Clock}
 use Rattle.link_frames.specs.declared.field.Spans.{Spans}
 use Rattle.link_frames.specs.declared.layout.Form.{Form}
-use Rattle.link_frames.specs.declared.layout.Form.TheVariants.{OfCall, OfReply}
+use Rattle.link_frames.specs.declared.layout.Form.TheVariants.{OfCall, OfReply, OfBatch, CallItem, ReplyItem}
+use Rattle.link_frames.specs.declared.layout.Items.{Items}
+use Rattle.link_frames.specs.declared.layout.Items.TheVariants.{Either, Gets, Sets}
 use Rattle.link_frames.specs.declared.layout.Row.{Row}
 use Rattle.link_frames.specs.Field.{IsSane}
-use Rattle.link_frames.specs.Layout.{any, between, call_row, done_row, kind_at, of_clock, plain_call, plain_reply, row, row_by, row_of, size_at, spans_at, status_span, text_max, type_at, words, zero_only}
+use Rattle.link_frames.specs.Layout.{any, between, call_row, done_row, kind_at, kinds_of, kinds_of_items, of_clock, plain_call, plain_reply, row, row_by, row_of, size_at, spans_at, status_span, text_max, type_at, words, zero_only}
 
 record IsSaneRow (row : Row) : Type 0 where
   detail : IsSane 1 row.detail
@@ -63,7 +65,7 @@ two_numbers_sane : IsSaneRow (row zero_only zero_only zero_only any any)
 two_numbers_sane = record { detail = zero_1; flags = zero_1; reference = zero_4; first = any_8; last = any_8 }
 
 call_sane : (kind : Kind) (port_type : PortType) → IsSaneRow (call_row kind port_type)
-call_sane K.Instantiate port_type = record { detail = zero_1; flags = zero_1; reference = between_4 0 3 (omega arith) (omega arith); first = between_8 1 text_max (omega arith) (omega arith); last = between_8 0 text_max (omega arith) (omega arith) }
+call_sane K.Instantiate port_type = record { detail = zero_1; flags = zero_1; reference = between_4 0 7 (omega arith) (omega arith); first = between_8 1 text_max (omega arith) (omega arith); last = between_8 0 text_max (omega arith) (omega arith) }
 call_sane K.EnterInitialization port_type = two_numbers_sane
 call_sane K.ExitInitialization port_type = plain_call_sane
 call_sane K.EnterEvent port_type = plain_call_sane
@@ -97,7 +99,7 @@ interval_sane true = record { detail = status_1; flags = zero_1; reference = bet
 interval_sane false = record { detail = status_1; flags = zero_1; reference = between_4 0 2 (omega arith) (omega arith); first = zero_8; last = zero_8 }
 
 done_sane : (kind : Kind) (flags qualifier : ℕ) → IsSaneRow (done_row kind flags qualifier)
-done_sane K.Instantiate flags qualifier = plain_reply_sane
+done_sane K.Instantiate flags qualifier = record { detail = status_1; flags = between_1 0 1 (omega arith) (omega arith); reference = zero_4; first = zero_8; last = zero_8 }
 done_sane K.EnterInitialization flags qualifier = plain_reply_sane
 done_sane K.ExitInitialization flags qualifier = plain_reply_sane
 done_sane K.EnterEvent flags qualifier = plain_reply_sane
@@ -123,10 +125,25 @@ reply_sane false kind flags qualifier = done_sane kind flags qualifier
 row_sane : (form : Form) (kind : Kind) (detail flags reference : ℕ) → IsSaneRow (row_by form kind detail flags reference)
 row_sane OfCall kind detail flags reference = call_sane kind (type_at detail)
 row_sane OfReply kind detail flags reference = reply_sane (nat_le 2 detail) kind flags reference
+row_sane OfBatch kind detail flags reference = record { detail = zero_1; flags = zero_1; reference = between_4 1 64 (omega arith) (omega arith); first = zero_8; last = zero_8 }
+row_sane (CallItem items) kind detail flags reference = call_sane kind (type_at detail)
+row_sane (ReplyItem items) kind detail flags reference = reply_sane (nat_le 2 detail) kind flags reference
 
-abbrev picked : ℕ → Row → Spans
-picked n row =
-    if n == 0 then between 1 18
+items_sane : (items : Items) → IsSane 1 (kinds_of_items items)
+items_sane Either = between_1 8 9 (omega arith) (omega arith)
+items_sane Gets = between_1 8 8 (omega arith) (omega arith)
+items_sane Sets = between_1 9 9 (omega arith) (omega arith)
+
+kinds_sane : (form : Form) → IsSane 1 (kinds_of form)
+kinds_sane OfCall = between_1 1 18 (omega arith) (omega arith)
+kinds_sane OfReply = between_1 1 18 (omega arith) (omega arith)
+kinds_sane OfBatch = between_1 19 19 (omega arith) (omega arith)
+kinds_sane (CallItem items) = items_sane items
+kinds_sane (ReplyItem items) = items_sane items
+
+abbrev picked : Spans → ℕ → Row → Spans
+picked kinds n row =
+    if n == 0 then kinds
     else if n == 1 then row.detail
     else if n == 2 then row.flags
     else if n == 4 then row.reference
@@ -134,15 +151,15 @@ picked n row =
     else if n == 6 then row.last
     else zero_only
 
-picked_sane : (n : ℕ) (row : Row) → n < 7 → IsSaneRow row → IsSane (size_at n) (picked n row)
-picked_sane zero row lt h = between_1 1 18 (omega arith) (omega arith)
-picked_sane (suc zero) row lt h = h.detail
-picked_sane (suc (suc zero)) row lt h = h.flags
-picked_sane (suc (suc (suc zero))) row lt h = zero_1
-picked_sane (suc (suc (suc (suc zero)))) row lt h = h.reference
-picked_sane (suc (suc (suc (suc (suc zero))))) row lt h = h.first
-picked_sane (suc (suc (suc (suc (suc (suc zero)))))) row lt h = h.last
-picked_sane (suc (suc (suc (suc (suc (suc (suc n))))))) row lt h = absurd (omega arith)
+picked_sane : (kinds : Spans) (n : ℕ) (row : Row) → n < 7 → IsSane 1 kinds → IsSaneRow row → IsSane (size_at n) (picked kinds n row)
+picked_sane kinds zero row lt k h = k
+picked_sane kinds (suc zero) row lt k h = h.detail
+picked_sane kinds (suc (suc zero)) row lt k h = h.flags
+picked_sane kinds (suc (suc (suc zero))) row lt k h = zero_1
+picked_sane kinds (suc (suc (suc (suc zero)))) row lt k h = h.reference
+picked_sane kinds (suc (suc (suc (suc (suc zero))))) row lt k h = h.first
+picked_sane kinds (suc (suc (suc (suc (suc (suc zero)))))) row lt k h = h.last
+picked_sane kinds (suc (suc (suc (suc (suc (suc (suc n))))))) row lt k h = absurd (omega arith)
 
 pub spans_sane : (form : Form) (before : List ℕ) → length before < 7 → IsSane (size_at (length before)) (spans_at form before)
-spans_sane form before lt = picked_sane (length before) (row_of form before) lt (row_sane form (kind_at (slice_index before 0)) (slice_index before 1) (slice_index before 2) (slice_index before 4))
+spans_sane form before lt = picked_sane (kinds_of form) (length before) (row_of form before) lt (kinds_sane form) (row_sane form (kind_at (slice_index before 0)) (slice_index before 1) (slice_index before 2) (slice_index before 4))

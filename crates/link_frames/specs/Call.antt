@@ -28,9 +28,10 @@ detail_of (C.Get kind reference) = type_number kind
 detail_of (C.Set kind reference value) = type_number kind
 detail_of call = 0
 
--- of Instantiate: event mode 1, early return 2; else the value reference
+-- of Instantiate: event mode 1, early return 2, batches 4; else the value reference
 abbrev pub reference_of : Call → ℕ
-reference_of (C.Instantiate event_mode early_return) = flag event_mode 1 + flag early_return 2
+reference_of (C.Instantiate event_mode early_return batches) =
+    flag event_mode 1 + flag early_return 2 + flag batches 4
 reference_of (C.Get kind reference) = reference
 reference_of (C.Set kind reference value) = reference
 reference_of (C.GetClock reference) = reference
@@ -41,7 +42,7 @@ reference_of call = 0
 
 -- the length of the name, the start, the point where a step begins, or a value's word
 abbrev pub first_of : Call → ℕ → ℕ
-first_of (C.Instantiate event_mode early_return) name_len = name_len
+first_of (C.Instantiate event_mode early_return batches) name_len = name_len
 first_of (C.EnterInitialization start stop) name_len = start
 first_of (C.DoStep at size) name_len = at
 first_of (C.Set kind reference value) name_len = word_of value
@@ -49,7 +50,7 @@ first_of call name_len = 0
 
 -- the length of the token, the stop, or the size of a step
 abbrev pub last_of : Call → ℕ → ℕ
-last_of (C.Instantiate event_mode early_return) token_len = token_len
+last_of (C.Instantiate event_mode early_return batches) token_len = token_len
 last_of (C.EnterInitialization start stop) token_len = stop
 last_of (C.DoStep at size) token_len = size
 last_of call token_len = 0
@@ -62,7 +63,7 @@ head_of_call call name_len token_len =
 
 -- the texts of Instantiate have these lengths, in bytes; the types of Get and Set aren't Clock, and the value of Set is in the range of its type
 abbrev pub CanBeSent : Call → ℕ → ℕ → Type 0
-CanBeSent (C.Instantiate event_mode early_return) name_len token_len =
+CanBeSent (C.Instantiate event_mode early_return batches) name_len token_len =
     (1 ≤ name_len) × (name_len ≤ text_max) × (token_len ≤ text_max)
 CanBeSent (C.Get kind reference) name_len token_len = kind ≢ Clock
 CanBeSent (C.Set kind reference value) name_len token_len = (kind ≢ Clock) × Fits kind value
@@ -70,7 +71,7 @@ CanBeSent call name_len token_len = Unit {0}
 
 -- the text goes with Instantiate alone
 abbrev pub sent : Call → List ℕ → List ℕ
-sent (C.Instantiate event_mode early_return) text = text
+sent (C.Instantiate event_mode early_return batches) text = text
 sent call text = []
 
 -- a call with its name and token, and the bytes of its frame
@@ -117,7 +118,7 @@ value_at kind word = unwrap_or (word_value kind word) (pos 0)
 -- the call of a kind with these numbers
 abbrev pub call_by : Kind → ℕ → ℕ → ℕ → ℕ → Call
 call_by K.Instantiate detail reference first last =
-    C.Instantiate (reference % 2 == 1) (reference / 2 == 1)
+    C.Instantiate (reference % 2 == 1) (reference / 2 % 2 == 1) (reference / 4 == 1)
 call_by K.EnterInitialization detail reference first last = C.EnterInitialization first last
 call_by K.ExitInitialization detail reference first last = C.ExitInitialization
 call_by K.EnterEvent detail reference first last = C.EnterEvent

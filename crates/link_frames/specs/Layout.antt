@@ -8,7 +8,9 @@ use Rattle.value_types.specs.declared.values.PortType.{PortType}
 use Rattle.value_types.specs.declared.values.PortType.TheVariants.{Int8, UInt8, Int16, UInt16, Int32, UInt32, Int64, UInt64, Boolean, Enumeration, Clock}
 use Rattle.link_frames.specs.declared.field.Spans.{Spans}
 use Rattle.link_frames.specs.declared.layout.Form.{Form}
-use Rattle.link_frames.specs.declared.layout.Form.TheVariants.{OfCall, OfReply}
+use Rattle.link_frames.specs.declared.layout.Form.TheVariants.{OfCall, OfReply, OfBatch, CallItem, ReplyItem}
+use Rattle.link_frames.specs.declared.layout.Items.{Items}
+use Rattle.link_frames.specs.declared.layout.Items.TheVariants.{Either, Gets, Sets}
 use Rattle.link_frames.specs.declared.layout.Row.{Row}
 
 -- ---- numbers of kinds and types
@@ -105,10 +107,10 @@ plain_call = row zero_only zero_only zero_only zero_only zero_only
 abbrev pub of_clock : Row
 of_clock = row zero_only zero_only any_reference zero_only zero_only
 
--- a call: type, 0, reference, and two numbers, the first of Set by the type. Of Instantiate the reference has bit 0 for event mode and bit 1 for early return, and the numbers are the lengths of the name and the token
+-- a call: type, 0, reference, and two numbers, the first of Set by the type. Of Instantiate the reference has bit 0 for event mode, bit 1 for early return and bit 2 for batches, and the numbers are the lengths of the name and the token
 abbrev pub call_row : Kind → PortType → Row
 call_row K.Instantiate kind =
-    row zero_only zero_only (between 0 3) (between 1 text_max) (between 0 text_max)
+    row zero_only zero_only (between 0 7) (between 1 text_max) (between 0 text_max)
 call_row K.EnterInitialization kind = row zero_only zero_only zero_only any any
 call_row K.ExitInitialization kind = plain_call
 call_row K.EnterEvent kind = plain_call
@@ -143,7 +145,8 @@ interval_row qualifier =
 
 -- a reply with OK or Warning: status, flags, qualifier, and two numbers, by the flags and the qualifier
 abbrev pub done_row : Kind → ℕ → ℕ → Row
-done_row K.Instantiate flags qualifier = plain_reply
+done_row K.Instantiate flags qualifier =
+    row status_span (between 0 1) zero_only zero_only zero_only
 done_row K.EnterInitialization flags qualifier = plain_reply
 done_row K.ExitInitialization flags qualifier = plain_reply
 done_row K.EnterEvent flags qualifier = plain_reply
@@ -168,10 +171,17 @@ abbrev pub reply_row : Kind → ℕ → ℕ → ℕ → Row
 reply_row kind status flags qualifier =
     if nat_le 2 status then plain_reply else done_row kind flags qualifier
 
+-- the head of a batch: the number of its items, where a call has its reference
+abbrev pub batch_row : Row
+batch_row = row zero_only zero_only (between 1 64) zero_only zero_only
+
 -- the row, by the numbers read so far
 abbrev pub row_by : Form → Kind → ℕ → ℕ → ℕ → Row
 row_by OfCall kind detail flags reference = call_row kind (type_at detail)
 row_by OfReply kind detail flags reference = reply_row kind detail flags reference
+row_by OfBatch kind detail flags reference = batch_row
+row_by (CallItem items) kind detail flags reference = call_row kind (type_at detail)
+row_by (ReplyItem items) kind detail flags reference = reply_row kind detail flags reference
 
 -- the row for these numbers, of which the first is the kind
 abbrev pub row_of : Form → List ℕ → Row
@@ -181,6 +191,20 @@ row_of form before =
 
 -- ---- the seven numbers
 
+-- the numbers of the kinds of a batch's items
+abbrev pub kinds_of_items : Items → Spans
+kinds_of_items Either = between 8 9
+kinds_of_items Gets = between 8 8
+kinds_of_items Sets = between 9 9
+
+-- the numbers of the kinds that a frame of the form may have
+abbrev pub kinds_of : Form → Spans
+kinds_of OfCall = between 1 18
+kinds_of OfReply = between 1 18
+kinds_of OfBatch = between 19 19
+kinds_of (CallItem items) = kinds_of_items items
+kinds_of (ReplyItem items) = kinds_of_items items
+
 -- how many bytes the number at a place has
 abbrev pub size_at : ℕ → ℕ
 size_at place = if nat_lt place 4 then 1 else if place == 4 then 4 else 8
@@ -188,7 +212,7 @@ size_at place = if nat_lt place 4 then 1 else if place == 4 then 4 else 8
 -- the spans of the number that follows these
 abbrev pub spans_at : Form → List ℕ → Spans
 spans_at form before =
-    if length before == 0 then between 1 18
+    if length before == 0 then kinds_of form
     else if length before == 1 then (row_of form before).detail
     else if length before == 2 then (row_of form before).flags
     else if length before == 4 then (row_of form before).reference

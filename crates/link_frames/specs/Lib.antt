@@ -6,3 +6,4 @@ pub mod Head
 pub mod Reply
 pub mod Text
 pub mod Call
+pub mod Batch

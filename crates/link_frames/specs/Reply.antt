@@ -20,8 +20,9 @@ use Rattle.link_frames.specs.Layout.{kind_at}
 
 -- ---- from a reply to its numbers
 
--- of DoStep: event handling needed 1, terminate 2, early 4; of Update: needs update 1, terminate 2, next event time defined 4
+-- of Instantiate: batches 1; of DoStep: event handling needed 1, terminate 2, early 4; of Update: needs update 1, terminate 2, next event time defined 4
 abbrev pub flags_of : Content → ℕ
+flags_of (A.Instantiate batches) = flag batches 1
 flags_of (A.DoStep event_needed terminate early end) =
     flag event_needed 1 + flag terminate 2 + flag early 4
 flags_of (A.Update again terminate event_time) =
@@ -102,7 +103,7 @@ fraction_at counter resolution = record { counter = counter; resolution = resolu
 
 -- the content of a kind with these flags, qualifier and numbers
 abbrev pub content_at : Kind → ℕ → ℕ → ℕ → ℕ → Content
-content_at K.Instantiate flags qualifier first last = A.Instantiate
+content_at K.Instantiate flags qualifier first last = A.Instantiate (flags == 1)
 content_at K.EnterInitialization flags qualifier first last = A.EnterInitialization
 content_at K.ExitInitialization flags qualifier first last = A.ExitInitialization
 content_at K.EnterEvent flags qualifier first last = A.EnterEvent

@@ -38,8 +38,9 @@ fn head_of_call(call: &Call, name_len: u64, token_len: u64) -> Head
         Call::Instantiate {
             event_mode,
             early_return,
+            batches,
         } => Head {
-            reference: u32::from(event_mode) + 2 * u32::from(early_return),
+            reference: u32::from(event_mode) + 2 * u32::from(early_return) + 4 * u32::from(batches),
             first: name_len,
             last: token_len,
             ..plain
@@ -107,12 +108,14 @@ fn call_at(numbers: &Numbers) -> Call
     let [kind, detail, _, _, reference, first, last] = *numbers;
     let port_type = type_at(detail);
     let event_mode = reference % 2 == 1;
-    let early_return = reference / 2 == 1;
+    let early_return = reference / 2 % 2 == 1;
+    let batches = reference / 4 == 1;
     let reference = reference as u32;
     match kind_at(kind) {
         Kind::Instantiate => Call::Instantiate {
             event_mode,
             early_return,
+            batches,
         },
         Kind::EnterInitialization => Call::EnterInitialization {
             start: first,
@@ -182,7 +185,7 @@ fn frame_at(numbers: &Numbers) -> CallFrame
 }
 
 // Puts bytes at a place.
-fn put_at(out: &mut [u8], place: usize, bytes: &[u8])
+pub(crate) fn put_at(out: &mut [u8], place: usize, bytes: &[u8])
     requires { place + length bytes.now ≤ length out.old }
     ensures front { take (place + length bytes.now) out.new ≡ take place out.old ++ bytes.now }
     ensures rest { drop (place + length bytes.now) out.new ≡ drop

@@ -1,5 +1,5 @@
-ghost use Rattle.std.specs.Prelude.{◌≡◌, ◌≤◌, ◌<◌, ◌^◌, ◌↔◌, IsTrue};
-ghost use Rattle.link_frames.specs.Field.{Field, IsSane, Stands, StandsIn, worth};
+ghost use Rattle.std.specs.Prelude.{◌≡◌, ◌≤◌, ◌<◌, ◌^◌, ◌↔◌, IsTrue, length, take};
+ghost use Rattle.link_frames.specs.Field.{Field, InSpan, InSpans, IsSane, Stands, StandsIn, number, worth};
 ghost use Rattle.link_frames.specs.Taking.{Takes};
 
 use crate::Taken;
@@ -55,8 +55,51 @@ fn stands(behind: usize, spans: Spans, front: u64) -> bool
     stands_in(behind, spans.one, front) || stands_in(behind, spans.other, front)
 }
 
-/// Takes a number of so many bytes in the spans.
+// The number that the first bytes are.
+fn number_of(bytes: &[u8], size: usize) -> u64
+    requires few { size ≤ 8 }
+    requires within { size ≤ length bytes.now }
+    ensures { result ≡ number 0 (take size bytes.now) }
+{
+    let mut value: u64 = 0;
+    for place in 0..size {
+        value = value * 256 + u64::from(bytes[place]);
+    }
+    value
+}
+
+fn is_in(spans: Spans, value: u64) -> bool
+    ensures { IsTrue result → InSpans spans value }
+{
+    is_within(spans.one, value) || is_within(spans.other, value)
+}
+
+fn is_within(span: Span, value: u64) -> bool
+    ensures { IsTrue result → InSpan span value }
+{
+    span.low <= value && value <= span.high
+}
+
+/// Takes a number of so many bytes in the spans. A good one is read at once; else each byte is looked at.
 pub(crate) fn take_number(bytes: &[u8], size: usize, spans: Spans) -> Taken<u64>
+    requires few { size ≤ 8 }
+    requires sane { IsSane size spans }
+    ensures { Takes (Field size spans) bytes.now result }
+{
+    if size <= bytes.len() {
+        let value = number_of(bytes, size);
+        if is_in(spans, value) {
+            return Taken::Got {
+                value,
+                length: size,
+            };
+        }
+    }
+    take_by_bytes(bytes, size, spans)
+}
+
+// Takes it byte by byte, up to the first that begins no number of the spans.
+fn take_by_bytes(bytes: &[u8], size: usize, spans: Spans) -> Taken<u64>
     requires few { size ≤ 8 }
     requires sane { IsSane size spans }
     ensures { Takes (Field size spans) bytes.now result }

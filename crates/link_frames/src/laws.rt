@@ -1,6 +1,9 @@
 ghost use Rattle.std.specs.Prelude.{◌≡◌, ◌+◌, ℕ, List, length};
 ghost use Rattle.fmi_calls.specs.declared.call.Call.{Call};
 ghost use Rattle.fmi_calls.specs.declared.call.Reply.{Reply};
+ghost use Rattle.fmi_calls.specs.Kinds.{kind_of, kind_of_reply};
+ghost use Rattle.link_frames.specs.Batch.{AreApart, IsCallBatch, IsReplyBatch, ItemsStand, OneBatch};
+ghost use Rattle.link_frames.specs.declared.call.CallFrame.{CallFrame};
 ghost use Rattle.link_frames.specs.Call.{IsCallFrame, IsFrameOf, frame_with, sent};
 ghost use Rattle.link_frames.specs.Reply.{IsReplyFrame};
 ghost use Rattle.link_frames.specs.Taking.{AreSingle};
@@ -21,4 +24,17 @@ pub fn frame_laws()
         length bytes ≡ 24 }
     ensures taken { (call : Call) (name token bytes : List ℕ) → IsFrameOf call name token bytes →
         IsCallFrame (frame_with call name token) bytes }
+{}
+
+/// Laws of batches: none is a proper front of another, nor is a batch of a single frame or a single frame of a batch; the
+/// bytes of a batch are those of one list of calls or replies, of which the i-th has the 24 bytes from `24 * (i + 1)` on.
+pub fn batch_laws()
+    ensures calls { AreSingle IsCallBatch }
+    ensures replies { AreSingle IsReplyBatch }
+    ensures apart_calls { AreApart IsCallFrame IsCallBatch }
+    ensures apart_replies { AreApart IsReplyFrame IsReplyBatch }
+    ensures one_of_calls { OneBatch IsCallFrame (λ (f : CallFrame). kind_of f.call) }
+    ensures one_of_replies { OneBatch IsReplyFrame kind_of_reply }
+    ensures items_of_calls { ItemsStand IsCallFrame (λ (f : CallFrame). kind_of f.call) }
+    ensures items_of_replies { ItemsStand IsReplyFrame kind_of_reply }
 {}

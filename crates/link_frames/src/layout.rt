@@ -1,15 +1,27 @@
 ghost use Rattle.std.specs.Prelude.{◌≡◌, ◌<◌, slice_index};
-ghost use Rattle.link_frames.specs.Layout.{any, any_reference, around_zero, between, call_row, done_row, interval_row, kind_at, of_clock, plain_call, plain_reply, reply_row, row_of, size_at, spans_at, text_max, type_at, type_number, words, zero_only};
+ghost use Rattle.link_frames.specs.Layout.{any, any_reference, around_zero, batch_row, between, call_row, done_row, interval_row, kind_at, kinds_of, kinds_of_items, of_clock, plain_call, plain_reply, reply_row, row_of, size_at, spans_at, text_max, type_at, type_number, words, zero_only};
 
 use crate::field::{Span, Spans};
 use fmi_calls::Kind;
 use value_types::PortType;
+
+/// Of which kind the items of a batch are.
+#[derive(Clone, Copy, Debug, PartialEq, Eq)]
+pub(crate) enum Items {
+    Either,
+    Gets,
+    Sets,
+}
 
 /// Whose layout it is.
 #[derive(Clone, Copy, Debug, PartialEq, Eq)]
 pub(crate) enum Form {
     OfCall,
     OfReply,
+    /// the head of a batch
+    OfBatch,
+    CallItem(Items),
+    ReplyItem(Items),
 }
 
 /// The spans of the numbers behind the kind.
@@ -170,7 +182,7 @@ fn call_row(kind: Kind, port_type: PortType) -> Row
 {
     match kind {
         Kind::Instantiate => Row {
-            reference: between(0, 3),
+            reference: between(0, 7),
             first: between(1, TEXT_MAX),
             last: between(0, TEXT_MAX),
             ..plain_call()
@@ -221,6 +233,10 @@ fn done_row(kind: Kind, flags: u64, qualifier: u64) -> Row
     ensures { result ≡ done_row kind flags qualifier }
 {
     match kind {
+        Kind::Instantiate => Row {
+            flags: between(0, 1),
+            ..plain_reply()
+        },
         Kind::DoStep => Row {
             flags: between(0, 7),
             first: any(),
@@ -241,8 +257,7 @@ fn done_row(kind: Kind, flags: u64, qualifier: u64) -> Row
             last: any(),
             ..plain_reply()
         },
-        Kind::Instantiate
-        | Kind::EnterInitialization
+        Kind::EnterInitialization
         | Kind::ExitInitialization
         | Kind::EnterEvent
         | Kind::EnterStep
@@ -278,6 +293,37 @@ fn reply_row(kind: Kind, status: u64, flags: u64, qualifier: u64) -> Row
     }
 }
 
+// The head of a batch: the number of its items, where a call has its reference.
+fn batch_row() -> Row
+    ensures { result ≡ batch_row }
+{
+    Row {
+        reference: between(1, 64),
+        ..plain_call()
+    }
+}
+
+fn kinds_of_items(items: Items) -> Spans
+    ensures { result ≡ kinds_of_items items }
+{
+    match items {
+        Items::Either => between(8, 9),
+        Items::Gets => between(8, 8),
+        Items::Sets => between(9, 9),
+    }
+}
+
+// The numbers of the kinds that a frame of the form may have.
+fn kinds_of(form: Form) -> Spans
+    ensures { result ≡ kinds_of form }
+{
+    match form {
+        Form::OfCall | Form::OfReply => between(1, 18),
+        Form::OfBatch => between(19, 19),
+        Form::CallItem(items) | Form::ReplyItem(items) => kinds_of_items(items),
+    }
+}
+
 fn number_at(before: &[u64], place: usize) -> u64
     ensures { result ≡ slice_index before.now place }
 {
@@ -290,8 +336,11 @@ fn row_of(form: Form, before: &[u64]) -> Row
     let kind = kind_at(number_at(before, 0));
     let detail = number_at(before, 1);
     match form {
-        Form::OfCall => call_row(kind, type_at(detail)),
-        Form::OfReply => reply_row(kind, detail, number_at(before, 2), number_at(before, 4)),
+        Form::OfCall | Form::CallItem(_) => call_row(kind, type_at(detail)),
+        Form::OfReply | Form::ReplyItem(_) => {
+            reply_row(kind, detail, number_at(before, 2), number_at(before, 4))
+        }
+        Form::OfBatch => batch_row(),
     }
 }
 
@@ -312,7 +361,7 @@ pub(crate) fn spans_at(form: Form, before: &[u64]) -> Spans
 {
     let row = row_of(form, before);
     match before.len() {
-        0 => between(1, 18),
+        0 => kinds_of(form),
         1 => row.detail,
         2 => row.flags,
         4 => row.reference,

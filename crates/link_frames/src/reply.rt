@@ -33,6 +33,10 @@ fn head_of_content(status: u8, content: &Content) -> Head
         last: 0,
     };
     match *content {
+        Content::Instantiate { batches } => Head {
+            flags: u8::from(batches),
+            ..plain
+        },
         Content::DoStep {
             event_needed,
             terminate,
@@ -62,8 +66,7 @@ fn head_of_content(status: u8, content: &Content) -> Head
             last: shift.resolution,
             ..plain
         },
-        Content::Instantiate
-        | Content::EnterInitialization
+        Content::EnterInitialization
         | Content::ExitInitialization
         | Content::EnterEvent
         | Content::EnterStep
@@ -154,7 +157,9 @@ fn content_at(kind: Kind, flags: u64, qualifier: u64, first: u64, last: u64) -> 
             interval: interval_at(qualifier, fraction),
         },
         Kind::GetShift => Content::GetShift { shift: fraction },
-        Kind::Instantiate => Content::Instantiate,
+        Kind::Instantiate => Content::Instantiate {
+            batches: flags == 1,
+        },
         Kind::EnterInitialization => Content::EnterInitialization,
         Kind::ExitInitialization => Content::ExitInitialization,
         Kind::EnterEvent => Content::EnterEvent,

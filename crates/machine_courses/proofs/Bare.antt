@@ -54,7 +54,7 @@ module _ (r : Run) where
         ap (λ (y : MachineState). y.slot) (sym (same_Some m.first s h)) ∙ (machines.each i c.0 m c.1 is).0.empty
 
   bare_made : AreMachines r → AreBare (I.instantiated r)
-  bare_made machines = bare_on (I.first_states r) (λ i c m s. after m s (instantiate_of c.shape)) (bare_first machines) (λ i c m s. refl)
+  bare_made machines = bare_on (I.first_states r) (λ i c m s. after m s (instantiate_of r.plan.link c.shape)) (bare_first machines) (λ i c m s. refl)
 
   bare_configured : AreMachines r → AreBare (I.configured r)
   bare_configured machines = bare_on (I.instantiated r) (λ i c m s. I.with_bound m (I.bound_values r i) s) (bare_made machines) (λ i c m s. bound_same m (I.bound_values r i) s)

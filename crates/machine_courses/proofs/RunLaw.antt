@@ -36,9 +36,9 @@ use Rattle.machine_courses.proofs.Rows.{follows, over_all}
 use Rattle.machine_courses.proofs.Steps.{lacks}
 
 -- once each was made
-pub made_replies : (r : Run) (made log : List Sent) → IsAnswered (shapes_of r.system) (making r.system) made → AreReplies r (I.first_states r) (made ++ log) → AreReplies r (I.instantiated r) log
+pub made_replies : (r : Run) (made log : List Sent) → IsAnswered (shapes_of r.system) (making r.plan.link r.system) made → AreReplies r (I.first_states r) (made ++ log) → AreReplies r (I.instantiated r) log
 made_replies r made log making replies =
-    subst (λ (ss : List MachineState). AreReplies r ss log) (stage_states r (I.first_states r) everyone instantiate_of made making) (replies_then r (I.first_states r) made log making.good replies)
+    subst (λ (ss : List MachineState). AreReplies r ss log) (stage_states r (I.first_states r) everyone (instantiate_of r.plan.link) made making) (replies_then r (I.first_states r) made log making.good replies)
 
 module _ (r : Run) (sound : IsSound r.system) (plan : IsPlan r.plan) (machines : AreMachines r) (ignore : IgnoreSlots r) where
   -- behind an instant

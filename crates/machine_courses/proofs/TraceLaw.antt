@@ -187,4 +187,4 @@ trace_by_log r made log is end o binds well c =
 
 pub unmade_by_log : UnmadeByLog
 unmade_by_log r bad log machines well replies stops =
-    lost_stops r (I.first_states r) (record { machines = machines; states = length-map r.machines (λ (m : Machine). m.first) ∙ machines }) bad log replies everyone instantiate_of stops (λ i c m z fmu asked. (well i).before.instantiate c m z fmu)
+    lost_stops r (I.first_states r) (record { machines = machines; states = length-map r.machines (λ (m : Machine). m.first) ∙ machines }) bad log replies everyone (instantiate_of r.plan.link) stops (λ i c m z fmu asked. (well i).before.instantiate c m z fmu)

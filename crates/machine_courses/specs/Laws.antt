@@ -25,7 +25,7 @@ pub record IsRunOf (r : Run) (made log : List Sent) (is : List Instant) (end : R
   pub plan : IsPlan r.plan
   pub machines : AreMachines r
   pub ignore : IgnoreSlots r
-  pub making : IsAnswered (shapes_of r.system) (making r.system) made
+  pub making : IsAnswered (shapes_of r.system) (making r.plan.link r.system) made
   pub replies : AreReplies r (first_states r) (made ++ log)
   pub ends : EndsBy r.system r.bound r.plan log is end o.before o.after
   pub counted : o.counted ≡ length is
@@ -48,5 +48,5 @@ abbrev pub UnmadeByLog : Type 0
 UnmadeByLog =
     (r : Run) (bad : BadAnswer) (log : List Sent) →
     length r.machines ≡ length r.system.components → WellBehaved r →
-    AreReplies r (first_states r) log → StopsAt (shapes_of r.system) (making r.system) bad log →
+    AreReplies r (first_states r) log → StopsAt (shapes_of r.system) (making r.plan.link r.system) bad log →
     IsLost (length r.system.components) log bad.why

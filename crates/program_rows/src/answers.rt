@@ -97,7 +97,7 @@ fn interval_of(rest: &str) -> Option<Interval> {
 
 fn content_of(kind: Kind, rest: &str) -> Option<Content> {
     let content = match kind {
-        Kind::Instantiate => Content::Instantiate,
+        Kind::Instantiate => Content::Instantiate { batches: false },
         Kind::EnterInitialization => Content::EnterInitialization,
         Kind::ExitInitialization => Content::ExitInitialization,
         Kind::EnterEvent => Content::EnterEvent,

@@ -69,6 +69,7 @@ impl Rows {
                 .exchanges
                 .take_until(alloc, &self.course.run, rest),
             "fails" => self.case.failing.add(rest),
+            "wire" => self.take_wire(alloc, rest),
             "words" => self.case.take_words(alloc, rest),
             "system" => self.take_system(alloc, rest),
             "file" => self.take_file(alloc, rest),
@@ -121,6 +122,15 @@ impl Rows {
     fn take_text(&mut self, text: &str) -> Result<bool, AllocError> {
         self.case.texts.push(text)?;
         self.case.texts.push("\n")
+    }
+
+    // `SENT COMING`, both in hexadecimal digits: the FMUs stand behind a wire.
+    fn take_wire(&mut self, alloc: Global, rest: &str) -> Result<bool, AllocError> {
+        let (sent, coming) = rest.split_once(' ').unwrap_or((rest, ""));
+        let coming = format!(in alloc; "{coming}")?;
+        let sent = format!(in alloc; "{sent}")?;
+        self.case.go_over_wire(coming, sent, None);
+        Ok(true)
     }
 
     // `COUNT TEXT`.

@@ -65,7 +65,7 @@ pub reply_fits : (kind : PortType) (reply : Reply) → IfSome (value_in kind rep
 reply_fits kind (R.Refused k status) = tt
 reply_fits kind (R.Done w (A.Get word)) = word_fits kind word
 reply_fits kind (R.Done w (A.GetClock word)) = word_fits kind word
-reply_fits kind (R.Done w A.Instantiate) = tt
+reply_fits kind (R.Done w (A.Instantiate batches)) = tt
 reply_fits kind (R.Done w A.EnterInitialization) = tt
 reply_fits kind (R.Done w A.ExitInitialization) = tt
 reply_fits kind (R.Done w A.EnterEvent) = tt

@@ -189,7 +189,7 @@ module _ (r : Run) (sound : IsSound r.system) (i : ℕ)
   before : B.BehavesBefore r i
   unfolding well
   before = record {
-    instantiate = well false (I.first_states r) (S.fit_first r i machine) instantiate_of (λ c of. ((refl, refl), refl));
+    instantiate = well false (I.first_states r) (S.fit_first r i machine) (instantiate_of r.plan.link) (λ c of. ((refl, refl), refl));
     parameters = sets B.Configuring false (I.instantiated r) (S.fit_instantiated r i machine);
     enter = well false (I.configured r) (S.fit_configured r i machine) (λ shape. I.enter_initialization r) (λ c of. (tt, refl));
   }

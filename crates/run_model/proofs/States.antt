@@ -1,6 +1,6 @@
 -- Along a run each state keeps to its FMU's shape, and no FMU is in Initialization Mode once the instants have begun. What is shown of one FMU asks for its own machine alone.
 use Rattle.std.proofs.Common.{◌≡◌, ℕ, zero, suc, ℤ, Bool, true, false, List, [], ◌∷◌, length, refl, sym, ◌∙◌, ap, subst, arith, ◌+◌, ◌-◌}
-use Rattle.std.specs.Prelude.{Option, Some, if◌then◌else◌, slice_get}
+use Rattle.std.specs.Prelude.{◌==◌, Option, Some, if◌then◌else◌, slice_get}
 use Rattle.std.specs.Option.{option_map}
 use Rattle.std.proofs.lemmas.Option.{none-some as none_some, same_Some, slice_get-map}
 use Rattle.std.proofs.lemmas.List.{length-map}
@@ -142,7 +142,7 @@ fit_first r i machine c m s fmu =
     subst (λ x. IsStateOf c.shape false m x) is (record { values = of.values; mode = of.before })
 
 pub fit_instantiated : (r : Run) (i : ℕ) → IsMachineAt r i → IsStateAt r false (I.instantiated r) i
-fit_instantiated r i machine = fit_each r i machine false false (I.first_states r) _ (fit_first r i machine) (λ c m x is f. record { values = f.values; mode = is.keeps x (C.Instantiate c.shape.has_event_mode c.shape.might_return_early) refl ∙ f.mode })
+fit_instantiated r i machine = fit_each r i machine false false (I.first_states r) _ (fit_first r i machine) (λ c m x is f. record { values = f.values; mode = is.keeps x (C.Instantiate c.shape.has_event_mode c.shape.might_return_early (r.plan.link == 2)) refl ∙ f.mode })
 
 pub fit_configured : (r : Run) (i : ℕ) → IsMachineAt r i → IsStateAt r false (I.configured r) i
 fit_configured r i machine = fit_each r i machine false false (I.instantiated r) _ (fit_instantiated r i machine) (λ c m x is f. fit_bound c.shape m (I.bound_values r i) x is f)

@@ -37,7 +37,7 @@ IsClockOf shape reference Is =
 
 -- a run sends the call to an FMU of the shape, in some state, before the closing
 abbrev pub RunSends : Shape → Call → Type 0
-RunSends shape (C.Instantiate event_mode early_return) =
+RunSends shape (C.Instantiate event_mode early_return batches) =
     (event_mode ≡ shape.has_event_mode) × (early_return ≡ shape.might_return_early)
 RunSends shape (C.EnterInitialization start stop) = Unit {0}
 RunSends shape C.ExitInitialization = Unit {0}

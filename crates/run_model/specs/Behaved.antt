@@ -106,7 +106,7 @@ SetsWell mode r states i =
 
 -- from the first call to Initialization Mode
 pub record BehavesBefore (r : Run) (i : ℕ) : Type 0 where
-  pub instantiate : AnswersWell r (first_states r) i instantiate_of
+  pub instantiate : AnswersWell r (first_states r) i (instantiate_of r.plan.link)
   pub parameters : SetsWell Configuring r (instantiated r) i
   pub enter : AnswersWell r (configured r) i (λ shape. enter_initialization r)
 

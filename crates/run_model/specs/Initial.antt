@@ -32,7 +32,7 @@ first_states r = map (λ (m : Machine). m.first) r.machines
 
 -- each FMU was instantiated with the flags of its shape
 abbrev pub instantiated : Run → List MachineState
-instantiated r = each r (first_states r) (λ i c m s. after m s (instantiate_of c.shape))
+instantiated r = each r (first_states r) (λ i c m s. after m s (instantiate_of r.plan.link c.shape))
 
 abbrev pub set_call : BoundValue → Call
 set_call b = C.Set b.kind b.reference b.value

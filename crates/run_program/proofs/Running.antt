@@ -128,8 +128,8 @@ ends_named system bound plan olds news log run lives is E.WriteFault before afte
 pub lived_names : (a : Account) → Lived a → NamesOne (length a.system.components) a.end
 lived_names a l = ends_named a.system a.bound a.plan a.olds a.news (l.made ++ l.log) l.log l.lives l.is a.end a.before a.after l.are l.ends l.text
 
-pub unmade_names : (system : System) (olds news : List View) (bad : BadAnswer) → Unmade system olds bad news → bad.component.0 < length system.components
-unmade_names system olds news bad u =
+pub unmade_names : (system : System) (link : ℕ) (olds news : List View) (bad : BadAnswer) → Unmade system link olds bad news → bad.component.0 < length system.components
+unmade_names system link olds news bad u =
     subst (λ (n : ℕ). bad.component.0 < n) (lives_count system olds news u.log u.lives u.are) (slice_get_within u.lives bad.component.0 u.least.life u.least.here)
 
 -- ---- from what the master says
@@ -214,7 +214,7 @@ goes a task old new can binds planned bound plan before after peers lived over r
 }
 
 pub fails : (task : Task) (system : System) (bad : BadAnswer) (olds news : List View) (old new : Scene) → CanRun system → RunsPeers task system olds news old.spawner new.spawner →
-    Unmade system olds bad news → new.out ≡ old.out → LivesAreOver → ToldUnmade → Fails task system bad old new
+    Unmade system task.plan.link olds bad news → new.out ≡ old.out → LivesAreOver → ToldUnmade → Fails task system bad old new
 fails task system bad olds news old new can peers unmade out over told = record {
   traces = record {
     account = record { system = system; bound = task.bound; plan = task.plan; olds = olds; news = news; before = old.out; after = new.out; instants = 0; end = E.Bad bad };
@@ -227,7 +227,8 @@ fails task system bad olds news old new can peers unmade out over told = record 
     peers = peers;
     same = lives_same system olds news unmade.log unmade.lives unmade.are;
     sound = can.sound;
-    well = λ r of is well. told system task.bound olds news bad r can.sound of well unmade;
+    well = λ r of is well. told system task.bound olds news bad r can.sound of well
+        (subst (λ (p : Plan). Unmade system p.link olds bad news) (sym is) unmade);
   };
   unmade = unmade;
   over = over system olds news unmade.log unmade.lives unmade.are;
@@ -235,8 +236,8 @@ fails task system bad olds news old new can peers unmade out over told = record 
 }
 
 -- a system that can't be prepared gives back each of its peers
-pub given_back : (system : System) (olds news : List View) (fault : PrepareFault) → IsSound system → ArePeersOf system olds → UnmadeIsClosed → FailsToPrepare system olds fault news → length news ≡ length olds
-given_back system olds news F.Memory sound peers closed f = ap (λ (vs : List View). length vs) f
-given_back system olds news (F.Bad bad) sound peers closed f =
-    let u = closed system olds news bad sound peers f in
+pub given_back : (system : System) (link : ℕ) (olds news : List View) (fault : PrepareFault) → IsSound system → ArePeersOf system olds → UnmadeIsClosed → FailsToPrepare system link olds fault news → length news ≡ length olds
+given_back system link olds news F.Memory sound peers closed f = ap (λ (vs : List View). length vs) f
+given_back system link olds news (F.Bad bad) sound peers closed f =
+    let u = closed system link olds news bad sound peers f in
     lives_news system olds news u.log u.lives u.are ∙ sym peers.len

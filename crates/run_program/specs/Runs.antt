@@ -132,7 +132,7 @@ pub record Goes (task : Task) (system : System) (end : RunEnd) (old new : Scene)
 -- the answer to an Instantiate isn't good, and nothing was put; each peer that isn't spared is over
 pub record Fails (task : Task) (system : System) (bad : BadAnswer) (old new : Scene) : Type 0 where
   pub traces : Traces task system (E.Bad bad) old new
-  pub unmade : Unmade system traces.account.olds bad traces.account.news
+  pub unmade : Unmade system task.plan.link traces.account.olds bad traces.account.news
   pub over : AreOver unmade.lives
   pub out : new.out ≡ old.out
 

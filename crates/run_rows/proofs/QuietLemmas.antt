@@ -72,7 +72,8 @@ unknown shape reference none asked =
     by t e (inr shift) = absurd (none reference (subst (λ o. IsSomeAnd o IsAskedForShift) (sym e) shift))
 
 pub quiet_answers_well : QuietAnswersWell
-quiet_answers_well shape none s (C.Instantiate event_mode early_return) many sent = refl
+quiet_answers_well shape none s (C.Instantiate event_mode early_return true) many sent = refl
+quiet_answers_well shape none s (C.Instantiate event_mode early_return false) many sent = refl
 quiet_answers_well shape none s (C.EnterInitialization start stop) many sent = refl
 quiet_answers_well shape none s C.ExitInitialization many sent = refl
 quiet_answers_well shape none s C.EnterEvent many sent = refl

@@ -27,7 +27,7 @@ behind (x ∷ xs) = xs
 
 -- a reply that tells nothing: each step ends at its bound, no Update asks for another, and no interval is known
 abbrev pub plain : Call → Content
-plain (C.Instantiate event_mode early_return) = A.Instantiate
+plain (C.Instantiate event_mode early_return batches) = A.Instantiate false
 plain (C.EnterInitialization start stop) = A.EnterInitialization
 plain C.ExitInitialization = A.ExitInitialization
 plain C.EnterEvent = A.EnterEvent
@@ -227,7 +227,7 @@ settle = record {
 
 -- tally, with the variable y: y has a digit for each kind of call that changes a state, from Instantiate in the last to Update in the first of seven
 abbrev pub digit_of : Call → ℤ
-digit_of (C.Instantiate event_mode early_return) = pos 1
+digit_of (C.Instantiate event_mode early_return batches) = pos 1
 digit_of (C.EnterInitialization start stop) = pos 10
 digit_of C.ExitInitialization = pos 100
 digit_of C.EnterStep = pos 1000

@@ -116,4 +116,4 @@ unbound = record { components = []; unreached = 0 }
 
 -- from 0 to 20 by steps of this size
 abbrev pub plan_by : ℕ → ℕ → Plan
-plan_by step limit = record { resolution = 1000; start = 0; step = step; stop = 20; limit = limit; workers = 1 }
+plan_by step limit = record { resolution = 1000; start = 0; step = step; stop = 20; limit = limit; workers = 1; link = 1 }

@@ -7,3 +7,4 @@ mod Turns
 mod Moving
 mod Replying
 mod Parts
+mod Several

@@ -130,7 +130,7 @@ or_false false = refl
 
 -- the answer of one exchange is a refusal with Fatal exactly where its result is
 module _ {T : Type 0} (shape : Shape) (value : Exchange → T) (e : Exchange) where
-  good_answer : (r : Result Reply PeerFault) → MatchResult r (λ reply. grade_of shape e.call reply ≡ G.Good) (λ fault. ⊥) → is_fatal_answer shape e.call r ≡ false
+  pub good_answer : (r : Result Reply PeerFault) → MatchResult r (λ reply. grade_of shape e.call reply ≡ G.Good) (λ fault. ⊥) → is_fatal_answer shape e.call r ≡ false
   good_answer (Ok reply) good = ap (λ g. is_fatal_reply g reply) good
   good_answer (Err fault) good = absurd good
 

@@ -1,27 +1,21 @@
 -- What the instances of a run were asked, and what they answered, in one list (FMI 3.0, 4.2.1).
-use Rattle.std.specs.Prelude.{◌≡◌, ℕ, ◌<◌, ◌==◌, ◌||◌, if◌then◌else◌, List, [], ◌∷◌, length, map, slice_index_or, Result, Ok, Err}
+use Rattle.std.specs.Prelude.{◌≡◌, ℕ, ◌<◌, ◌==◌, ◌||◌, if◌then◌else◌, List, [], ◌∷◌, ◌++◌, length, map, slice_index_or, Result, Ok, Err}
 use Rattle.value_types.specs.declared.shape.Shape.{Shape}
 use Rattle.fmi_calls.specs.declared.call.Call.{Call}
-use Rattle.fmi_calls.specs.Permission.{Permitted}
+use Rattle.fmi_calls.specs.declared.call.Reply.{Reply}
 use Rattle.fmu_peer.specs.declared.peer.Exchange.{Exchange}
 use Rattle.fmu_peer.specs.declared.ended.Why.{Why}
 use Rattle.fmu_peer.specs.Answer.{IsWhy}
 use Rattle.fmu_peer.specs.Close.{any_fatal}
 use Rattle.fmu_peer.specs.CloseAll.{Instance}
-use Rattle.fmu_peer.specs.Talk.{IsGood}
-use Rattle.fmu_peer.specs.View.{View, Asked}
+use Rattle.fmu_peer.specs.Many.{exchanges}
+use Rattle.fmu_peer.specs.Talk.{AllGood, IsGood, calls_in}
 use Rattle.slot_calls.specs.SavedStates.{saved_after}
+pub use Rattle.fmu_peer.specs.Many.{Talks}
 
 -- ---- one instance
 
--- the instance was asked these calls, each permitted in its turn, and answered so
-abbrev pub Talks : View → List Exchange → View → Type 0
-Talks old [] new = new ≡ old
-Talks old (e ∷ es) new =
-    (mid : View) × Permitted old.fixed.shape old.phase e.call ×
-    Asked old e.call e.result mid × Talks mid es new
-
--- the same of an instance among others, which is marked where one of these answers was a refusal with Fatal
+-- the instance, which stands among others, was asked these calls, each permitted in its turn, and answered so; it is marked where one of these answers was a refusal with Fatal
 pub record Has (old : Instance) (es : List Exchange) (new : Instance) : Type 0 where
   pub talks : Talks old.view es new.view
   pub source : new.source ≡ old.source
@@ -40,6 +34,21 @@ pub record One {T : Type 0} (call : Call) (value : Exchange → T) (old new : In
   pub is : exchange.call ≡ call
   pub has : Has old (exchange ∷ []) new
   pub worth : Worth old.view.fixed.shape value exchange result
+
+-- the instance was asked these calls, and answered each well
+pub record AnswersAll (calls : List Call) (replies : List Reply) (old new : Instance) : Type 0 where
+  pub has : Has old (exchanges calls replies) new
+  pub good : AllGood old.view.fixed.shape (exchanges calls replies)
+
+-- it was asked these calls up to the first whose answer isn't good, and that is why
+pub record StopsBehind (calls : List Call) (why : Why) (old new : Instance) : Type 0 where
+  pub front : List Exchange
+  pub last : Exchange
+  pub left : List Call
+  pub calls_are : calls ≡ calls_in (front ++ last ∷ []) ++ left
+  pub good : AllGood old.view.fixed.shape front
+  pub bad : IsWhy old.view.fixed.shape why last
+  pub has : Has old (front ++ last ∷ []) new
 
 -- ---- several instances, by the numbers of their components
 

@@ -53,7 +53,7 @@ Stands P view slot = P (view (peer_in slot.held))
 
 -- the call that an FMU of a shape is asked
 abbrev pub call_of : Ask → Shape → Call
-call_of A.Instantiate shape = instantiate_of shape
+call_of (A.Instantiate link) shape = instantiate_of link shape
 call_of (A.EnterInitialization start stop) shape = C.EnterInitialization start stop
 call_of A.ExitInitialization shape = C.ExitInitialization
 call_of A.EnterEvent shape = C.EnterEvent
@@ -62,7 +62,7 @@ call_of (A.DoStep at size) shape = C.DoStep at size
 
 -- which FMUs are asked, by their shapes: each, or each with event mode
 abbrev pub is_asked : Ask → Shape → Bool
-is_asked A.Instantiate = everyone
+is_asked (A.Instantiate link) = everyone
 is_asked (A.EnterInitialization start stop) = everyone
 is_asked A.ExitInitialization = everyone
 is_asked A.EnterEvent = has_events

@@ -134,8 +134,8 @@ fn advance_held<L: Peer>(held: Held<L>, ask: Ask) -> (Held<L>, Result<bool, Why>
         result.0 result.1 }
 {
     match ask {
-        Ask::Instantiate => match held {
-            Held::Fresh(fmu) => instantiate(fmu),
+        Ask::Instantiate { link } => match held {
+            Held::Fresh(fmu) => instantiate(fmu, link),
             _ => unreachable!(),
         },
         Ask::EnterInitialization { start, stop } => match held {
@@ -158,12 +158,12 @@ fn advance_held<L: Peer>(held: Held<L>, ask: Ask) -> (Held<L>, Result<bool, Why>
     }
 }
 
-fn instantiate<L: Peer>(fmu: Fmu<L, Fresh>) -> (Held<L>, Result<bool, Why>)
+fn instantiate<L: Peer>(fmu: Fmu<L, Fresh>, link: u32) -> (Held<L>, Result<bool, Why>)
     requires state { (L.view fmu.peer).phase.state ≡ P.Fresh }
-    ensures { Moves L.view (Held.Fresh fmu) (instantiate_of (L.view fmu.peer).fixed.shape)
+    ensures { Moves L.view (Held.Fresh fmu) (instantiate_of link (L.view fmu.peer).fixed.shape)
         asks_to_end result.0 result.1 }
 {
-    match fmu.instantiate() {
+    match fmu.instantiate(link) {
         Ok(fmu) => (Held::Instantiated(fmu), Ok(false)),
         Err(ended) => {
             let why = ended.why;

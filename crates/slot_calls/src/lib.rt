@@ -10,5 +10,5 @@ mod stage;
 pub use advancing::{advance, is_fatal, is_terminating};
 pub use ask::Ask;
 pub use bad_answer::BadAnswer;
-pub use sending::{send, value_in};
+pub use sending::{send, send_many, value_in};
 pub use stage::{each, round};

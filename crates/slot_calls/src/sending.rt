@@ -1,9 +1,10 @@
-ghost use Rattle.std.specs.Prelude.{◌≡◌, OnOk, IsTrue};
+ghost use Rattle.std.specs.Prelude.{◌≡◌, OnOk, IfErr, IsTrue, length};
 ghost use Rattle.fmi_calls.specs.Permission.{Permitted};
 ghost use Rattle.fmu_peer.specs.CloseAll.{instance_in, peer_in};
+ghost use Rattle.fmu_peer.specs.Many.{AnsweredAll, AreOfOneSort, FailedBehind, MayAskAll};
 ghost use Rattle.run_model.specs.Equations.{value_in};
 ghost use Rattle.slot_calls.specs.Carried.{IsWide, reply_in, with_some};
-ghost use Rattle.slot_calls.specs.Log.{One};
+ghost use Rattle.slot_calls.specs.Log.{AnswersAll, One, StopsBehind};
 ghost use Rattle.slot_calls.specs.Slots.{Called, IsLive, LiveSlot, Moves, keeps_mode, reads_or_sets};
 
 use crate::advancing::is_fatal;
@@ -24,6 +25,75 @@ pub fn send<L: Peer>(slot: &mut Slot<L>, call: Call) -> Result<Reply, Why>
     let answer = send_held(&mut slot.held, call);
     slot.is_fatal |= is_fatal(&answer);
     answer
+}
+
+/// Sends calls that read variables, or calls that set them, to the FMU in a slot, one after another up to the first answer
+/// that isn't good. The replies come at the places of their calls.
+pub fn send_many<L: Peer>(
+    slot: &mut Slot<L>,
+    calls: &[Call],
+    replies: &mut [Reply],
+) -> Result<(), Why>
+    requires live { LiveSlot L.view slot.old }
+    requires sort { AreOfOneSort calls.now }
+    requires places { length replies.old ≡ length calls.now }
+    requires may { MayAskAll (L.view (peer_in slot.old.held)).fixed.shape
+        (L.view (peer_in slot.old.held)).phase calls.now }
+    ensures places { length replies.new ≡ length calls.now }
+    ensures live { OnOk result (LiveSlot L.view slot.new) }
+    ensures all { OnOk result (AnswersAll calls.now replies.new (instance_in L.view slot.old)
+        (instance_in L.view slot.new)) }
+    ensures stops { IfErr result (λ why. StopsBehind calls.now why (instance_in L.view slot.old)
+        (instance_in L.view slot.new)) }
+{
+    let answer = many_held(&mut slot.held, calls, replies);
+    slot.is_fatal |= is_fatal(&answer);
+    answer
+}
+
+fn many_held<L: Peer>(held: &mut Held<L>, calls: &[Call], replies: &mut [Reply]) -> Result<(), Why>
+    requires live { IsLive L.view held.old }
+    requires sort { AreOfOneSort calls.now }
+    requires places { length replies.old ≡ length calls.now }
+    requires may { MayAskAll (L.view (peer_in held.old)).fixed.shape
+        (L.view (peer_in held.old)).phase calls.now }
+    ensures places { length replies.new ≡ length calls.now }
+    ensures live { OnOk result (IsLive L.view held.new) }
+    ensures all { OnOk result (AnsweredAll (L.view (peer_in held.old)) calls.now replies.new
+        (L.view (peer_in held.new))) }
+    ensures stops { IfErr result (λ why. FailedBehind (L.view (peer_in held.old)) calls.now why
+        (L.view (peer_in held.new))) }
+{
+    match held {
+        Held::Instantiated(fmu) => many_to(fmu, calls, replies),
+        Held::Initializing(fmu) => many_to(fmu, calls, replies),
+        Held::Eventing(fmu) => many_to(fmu, calls, replies),
+        Held::Stepping(fmu) => many_to(fmu, calls, replies),
+        _ => unreachable!(),
+    }
+}
+
+fn many_to<L: Peer, M: Mode>(
+    fmu: &mut Fmu<L, M>,
+    calls: &[Call],
+    replies: &mut [Reply],
+) -> Result<(), Why>
+    requires sort { AreOfOneSort calls.now }
+    requires places { length replies.old ≡ length calls.now }
+    requires may { MayAskAll (L.view fmu.old.peer).fixed.shape (L.view fmu.old.peer).phase
+        calls.now }
+    ensures places { length replies.new ≡ length calls.now }
+    ensures state { OnOk result ((L.view fmu.new.peer).phase.state ≡
+        (L.view fmu.old.peer).phase.state) }
+    ensures all { OnOk result (AnsweredAll (L.view fmu.old.peer) calls.now replies.new
+        (L.view fmu.new.peer)) }
+    ensures stops { IfErr result (λ why. FailedBehind (L.view fmu.old.peer) calls.now why
+        (L.view fmu.new.peer)) }
+{
+    match fmu.many(calls, replies) {
+        Ok(_) => Ok(()),
+        Err(why) => Err(why),
+    }
 }
 
 fn send_held<L: Peer>(held: &mut Held<L>, call: Call) -> Result<Reply, Why>

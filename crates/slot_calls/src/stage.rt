@@ -43,7 +43,7 @@ fn is_asked<L: Peer>(slot: &Slot<L>, ask: Ask) -> bool
 {
     match ask {
         Ask::EnterEvent | Ask::EnterStep => slot.held.peer().shape().has_event_mode,
-        Ask::Instantiate
+        Ask::Instantiate { .. }
         | Ask::EnterInitialization { .. }
         | Ask::ExitInitialization
         | Ask::DoStep { .. } => true,

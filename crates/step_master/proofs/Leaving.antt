@@ -149,8 +149,8 @@ elsewhere state wanted (inl fresh) is a b c = a (sym fresh ∙ is)
 elsewhere state wanted (inr (inl gone)) is a b c = b (sym gone ∙ is)
 elsewhere state wanted (inr (inr lost)) is a b c = c (sym lost ∙ is)
 
-makes : (shape : Shape) (phase : Phase) (call : Call) → IsUnmade phase.state → Permitted shape phase call → (event_mode early_return : Bool) × (call ≡ C.Instantiate event_mode early_return)
-makes shape phase (C.Instantiate event_mode early_return) un p = (event_mode, early_return, refl)
+makes : (shape : Shape) (phase : Phase) (call : Call) → IsUnmade phase.state → Permitted shape phase call → (event_mode early_return batches : Bool) × (call ≡ C.Instantiate event_mode early_return batches)
+makes shape phase (C.Instantiate event_mode early_return batches) un p = (event_mode, early_return, batches, refl)
 makes shape phase (C.EnterInitialization start stop) un p = absurd (elsewhere phase.state P.Instantiated un p.0 (λ e. cc) (λ e. cc) (λ e. cc))
 makes shape phase C.ExitInitialization un p = absurd (elsewhere phase.state P.Initialization un p (λ e. cc) (λ e. cc) (λ e. cc))
 makes shape phase (C.Get kind reference) un p = absurd (unpassed (λ s. can_be_read s shape phase.marks phase.active reference) phase.state un refl refl refl p.0)
@@ -165,14 +165,14 @@ makes shape phase (C.GetInterval reference) un p = absurd (unpassed (λ s. has_i
 makes shape phase (C.GetShift reference) un p = absurd (unpassed (λ s. has_shift s shape reference) phase.state un refl refl refl p)
 makes shape phase call un p = absurd (elsewhere phase.state P.Step un p.0 (λ e. cc) (λ e. cc) (λ e. cc))
 
-pub only_start : (shape : Shape) (call : Call) → Permitted shape (fresh shape) call → (event_mode early_return : Bool) × (call ≡ C.Instantiate event_mode early_return)
+pub only_start : (shape : Shape) (call : Call) → Permitted shape (fresh shape) call → (event_mode early_return batches : Bool) × (call ≡ C.Instantiate event_mode early_return batches)
 only_start shape call p = makes shape (fresh shape) call (inl refl) p
 
 none_permitted : (shape : Shape) (phase : Phase) (call : Call) → IsEnded phase.state → Permitted shape phase call → ⊥
 none_permitted shape phase call ended p = by (makes shape phase call (inr ended) p) ended where
-  by : ((event_mode early_return : Bool) × (call ≡ C.Instantiate event_mode early_return)) → IsEnded phase.state → ⊥
-  by (event_mode, early_return, is) (inl gone) = absurd (let e : P.Gone ≡ P.Fresh = sym gone ∙ (subst (Permitted shape phase) is p).0 in cc)
-  by (event_mode, early_return, is) (inr lost) = absurd (let e : P.Lost ≡ P.Fresh = sym lost ∙ (subst (Permitted shape phase) is p).0 in cc)
+  by : ((event_mode early_return batches : Bool) × (call ≡ C.Instantiate event_mode early_return batches)) → IsEnded phase.state → ⊥
+  by (event_mode, early_return, batches, is) (inl gone) = absurd (let e : P.Gone ≡ P.Fresh = sym gone ∙ (subst (Permitted shape phase) is p).0 in cc)
+  by (event_mode, early_return, batches, is) (inr lost) = absurd (let e : P.Lost ≡ P.Fresh = sym lost ∙ (subst (Permitted shape phase) is p).0 in cc)
 
 none_behind : (shape : Shape) (phase : Phase) (es : List Exchange) → IsEnded phase.state → LegalFrom shape phase es → es ≡ []
 none_behind shape phase [] ended legal = refl
@@ -180,24 +180,24 @@ none_behind shape phase (e ∷ es) ended legal = absurd (none_permitted shape ph
 
 -- ---- an Instantiate that isn't good
 
-bad_start : (shape : Shape) (phase : Phase) (a b : Bool) (reply : Reply) (g : Grade) → (g ≡ G.Good → ⊥) → IsEnded (graded shape phase (C.Instantiate a b) reply g).state
-bad_start shape phase a b reply G.Good bad = absurd (bad refl)
-bad_start shape phase a b reply G.Misreply bad = inl refl
-bad_start shape phase a b reply G.Refused bad = by (bad_status_of reply) refl
+bad_start : (shape : Shape) (phase : Phase) (a b d : Bool) (reply : Reply) (g : Grade) → (g ≡ G.Good → ⊥) → IsEnded (graded shape phase (C.Instantiate a b d) reply g).state
+bad_start shape phase a b d reply G.Good bad = absurd (bad refl)
+bad_start shape phase a b d reply G.Misreply bad = inl refl
+bad_start shape phase a b d reply G.Refused bad = by (bad_status_of reply) refl
   where
-    by : (status : BadStatus) → bad_status_of reply ≡ status → IsEnded (graded shape phase (C.Instantiate a b) reply G.Refused).state
-    by B.Discard is = inl (ap (λ (s : BadStatus). state_after_bad phase.state (C.Instantiate a b) s) is)
-    by B.Error is = inl (ap (λ (s : BadStatus). state_after_bad phase.state (C.Instantiate a b) s) is)
-    by B.Fatal is = inr (ap (λ (s : BadStatus). state_after_bad phase.state (C.Instantiate a b) s) is)
+    by : (status : BadStatus) → bad_status_of reply ≡ status → IsEnded (graded shape phase (C.Instantiate a b d) reply G.Refused).state
+    by B.Discard is = inl (ap (λ (s : BadStatus). state_after_bad phase.state (C.Instantiate a b d) s) is)
+    by B.Error is = inl (ap (λ (s : BadStatus). state_after_bad phase.state (C.Instantiate a b d) s) is)
+    by B.Fatal is = inr (ap (λ (s : BadStatus). state_after_bad phase.state (C.Instantiate a b d) s) is)
 
 -- the phase behind it
-start_ended : (shape : Shape) (phase : Phase) (a b : Bool) (e : Exchange) → e.call ≡ C.Instantiate a b → (IsGood shape e → ⊥) → IsEnded (next_by shape phase e).state
-start_ended shape phase a b e is bad =
+start_ended : (shape : Shape) (phase : Phase) (a b d : Bool) (e : Exchange) → e.call ≡ C.Instantiate a b d → (IsGood shape e → ⊥) → IsEnded (next_by shape phase e).state
+start_ended shape phase a b d e is bad =
     subst (λ (c : Call). IsEnded (next_of shape phase c (result_ok e.result)).state) (sym is) (by e.result (subst (λ (c : Call). MatchResult e.result (λ reply. grade_of shape c reply ≡ G.Good) (λ fault. ⊥) → ⊥) is bad))
   where
-    by : (r : Result Reply PeerFault) → (MatchResult r (λ reply. grade_of shape (C.Instantiate a b) reply ≡ G.Good) (λ fault. ⊥) → ⊥) → IsEnded (next_of shape phase (C.Instantiate a b) (result_ok r)).state
+    by : (r : Result Reply PeerFault) → (MatchResult r (λ reply. grade_of shape (C.Instantiate a b d) reply ≡ G.Good) (λ fault. ⊥) → ⊥) → IsEnded (next_of shape phase (C.Instantiate a b d) (result_ok r)).state
     by (Err fault) h = inr refl
-    by (Ok reply) h = bad_start shape (counted phase (C.Instantiate a b)) a b reply (grade_of shape (C.Instantiate a b) reply) h
+    by (Ok reply) h = bad_start shape (counted phase (C.Instantiate a b d)) a b d reply (grade_of shape (C.Instantiate a b d) reply) h
 
 -- ---- an instance that was freed
 
@@ -237,7 +237,7 @@ module _ (life : Life) (is : IsLife life) where
       let shape = shape_in life in
       let legal : LegalFrom shape (fresh shape) (s.first ∷ s.rest) = subst (Legal shape) s.is is.legal in
       let start = only_start shape s.first.call legal.0 in
-      let ended : IsEnded (next_by shape (fresh shape) s.first).state = start_ended shape (fresh shape) start.0 start.1 s.first start.2 s.bad in
+      let ended : IsEnded (next_by shape (fresh shape) s.first).state = start_ended shape (fresh shape) start.0 start.1 start.2 s.first start.3 s.bad in
       let none : s.rest ≡ [] = none_behind shape (next_by shape (fresh shape) s.first) s.rest ended legal.1 in
       ended_over (s.first ∷ []) (s.is ∙ ap (λ (es : List Exchange). s.first ∷ es) none) ended
 
@@ -279,20 +279,20 @@ not_both h k = cc
 
 -- a call of the run behind the first
 abbrev IsMid : Call → Type 0
-IsMid (C.Instantiate event_mode early_return) = ⊥
+IsMid (C.Instantiate event_mode early_return batches) = ⊥
 IsMid C.Terminate = ⊥
 IsMid C.FreeInstance = ⊥
 IsMid call = Unit {0}
 
 mid_of : (shape : Shape) (p : Phase) (call : Call) → IsRunCall call → Permitted shape p call → IsStanding p.state → IsMid call
-mid_of shape p (C.Instantiate event_mode early_return) r may h = elim (subst IsStanding may.0 h) [ inl lost ↦ absurd (cc) | inr freed ↦ absurd (cc) ]
+mid_of shape p (C.Instantiate event_mode early_return batches) r may h = elim (subst IsStanding may.0 h) [ inl lost ↦ absurd (cc) | inr freed ↦ absurd (cc) ]
 mid_of shape p C.Terminate r may h = absurd (cc)
 mid_of shape p C.FreeInstance r may h = absurd (cc)
 mid_of shape p call r may h = tt
 
 -- a bad answer to it leads where one to any other does
 after_mid : (s : InstanceState) (call : Call) (status : BadStatus) → IsMid call → state_after_bad s call status ≡ state_after_bad s C.Save status
-after_mid s (C.Instantiate event_mode early_return) status m = absurd m
+after_mid s (C.Instantiate event_mode early_return batches) status m = absurd m
 after_mid s C.FreeInstance status m = absurd m
 after_mid s call status m = refl
 
@@ -323,7 +323,7 @@ module _ (shape : Shape) (p : Phase) (saved : Bool) (h : IsClosable shape p save
   none_in s at living other full = elim (h.kept full) [ inl over ↦ not_both living (ap is_over (sym at) ∙ over) | inr kept ↦ other (sym at ∙ kept.1) ]
 
   good_closable : (call : Call) (reply : Reply) → grade_of shape call reply ≡ G.Good → IsMid call → Permitted shape p call → IsClosable shape (entered shape (counted p call) call reply) (saved_by shape call (Ok reply) saved)
-  good_closable (C.Instantiate event_mode early_return) reply good m may = absurd m
+  good_closable (C.Instantiate event_mode early_return batches) reply good m may = absurd m
   good_closable (C.EnterInitialization start stop) reply good m may = record { state = inr refl; kept = λ full. absurd (none_in P.Instantiated may.0 refl (λ e. cc) full) }
   good_closable C.ExitInitialization reply good m may = record { state = inr (running_freed shape.has_event_mode); kept = λ full. absurd (none_in P.Initialization may refl (λ e. cc) full) } where
     running_freed : (b : Bool) → can_be_freed (if b then P.Event else P.Step) false ≡ true
@@ -434,11 +434,11 @@ module _ (shape : Shape) where
   good_or_not G.Misreply = inr (λ h. absurd (cc))
 
   -- an Instantiate that is good makes it
-  made : (a b : Bool) (result : Result Reply PeerFault) → (IsClosable shape (next_of shape (fresh shape) (C.Instantiate a b) (result_ok result)) false)
-      ⊎ (IsGood shape (record { call = C.Instantiate a b; result = result }) → ⊥)
-  made a b (Err fault) = inr (λ h. h)
-  made a b (Ok reply) = elim (good_or_not (grade_of shape (C.Instantiate a b) reply)) [
-    | inl good ↦ inl (subst (λ (g : Grade). IsClosable shape (graded shape (counted (fresh shape) (C.Instantiate a b)) (C.Instantiate a b) reply g) false) (sym good) (record { state = inr refl; kept = λ full. absurd (cc) }))
+  made : (a b d : Bool) (result : Result Reply PeerFault) → (IsClosable shape (next_of shape (fresh shape) (C.Instantiate a b d) (result_ok result)) false)
+      ⊎ (IsGood shape (record { call = C.Instantiate a b d; result = result }) → ⊥)
+  made a b d (Err fault) = inr (λ h. h)
+  made a b d (Ok reply) = elim (good_or_not (grade_of shape (C.Instantiate a b d) reply)) [
+    | inl good ↦ inl (subst (λ (g : Grade). IsClosable shape (graded shape (counted (fresh shape) (C.Instantiate a b d)) (C.Instantiate a b d) reply g) false) (sym good) (record { state = inr refl; kept = λ full. absurd (cc) }))
     | inr bad ↦ inr bad
   ]
 
@@ -448,10 +448,10 @@ module _ (shape : Shape) where
   leaves : (es : List Exchange) → LegalFrom shape (fresh shape) es → All IsRunCall (calls_in es) → IsLastGivenUp es → Leaves es (phase_from shape (fresh shape) es) (saved_after shape false es)
   leaves [] legal runs last = inl refl
   leaves (e ∷ es) legal runs last = inr (by e.call (only_start shape e.call legal.0) refl) where
-    by : (call : Call) → ((a : Bool) × (b : Bool) × (call ≡ C.Instantiate a b)) → e.call ≡ call → StartsBadly shape (e ∷ es) ⊎ Left shape (phase_from shape (fresh shape) (e ∷ es)) (saved_after shape false (e ∷ es)) (e ∷ es)
-    by call (a, b, is) same =
-        let start : e.call ≡ C.Instantiate a b = same ∙ is in
-        elim (made a b e.result) [
+    by : (call : Call) → ((a : Bool) × (b : Bool) × (d : Bool) × (call ≡ C.Instantiate a b d)) → e.call ≡ call → StartsBadly shape (e ∷ es) ⊎ Left shape (phase_from shape (fresh shape) (e ∷ es)) (saved_after shape false (e ∷ es)) (e ∷ es)
+    by call (a, b, d, is) same =
+        let start : e.call ≡ C.Instantiate a b d = same ∙ is in
+        elim (made a b d e.result) [
           | inl closable ↦ inr (one_more _ _ e es (left_from (next_by shape (fresh shape) e) (saved_by shape e.call e.result false) es legal.1 (All-tail IsRunCall e.call (calls_in es) runs) (last_later e es last)
               (subst (λ (c : Call). IsClosable shape (next_of shape (fresh shape) c (result_ok e.result)) (saved_by shape c e.result false)) (sym start) closable)))
           | inr bad ↦ inl (record { first = e; rest = es; is = refl; bad = subst (λ (c : Call). IsGood shape (record { call = c; result = e.result }) → ⊥) (sym start) bad })

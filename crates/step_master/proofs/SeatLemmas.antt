@@ -157,9 +157,9 @@ views_same view peer f same [] = refl
 views_same view peer f same (s ∷ slots) = ap₂ ◌∷◌ (sym (same s)) (views_same view peer f same slots)
 
 -- an instance before its first call is made by a good Instantiate
-pub start_leads : (v w : View) (e : Exchange) → IsFresh v → Led v e w → e.call ≡ instantiate_of v.fixed.shape → IsMade w
-start_leads v w e h l is =
-    let phase : w.phase ≡ entered v.fixed.shape (counted v.phase e.call) (instantiate_of v.fixed.shape) l.reply = l.phase ∙ ap (λ (c : Call). entered v.fixed.shape (counted v.phase e.call) c l.reply) is in
+pub start_leads : (link : ℕ) (v w : View) (e : Exchange) → IsFresh v → Led v e w → e.call ≡ instantiate_of link v.fixed.shape → IsMade w
+start_leads link v w e h l is =
+    let phase : w.phase ≡ entered v.fixed.shape (counted v.phase e.call) (instantiate_of link v.fixed.shape) l.reply = l.phase ∙ ap (λ (c : Call). entered v.fixed.shape (counted v.phase e.call) c l.reply) is in
     record {
       state = ap (λ (p : Phase). p.state) phase;
       unstepped = ap (λ (p : Phase). p.first_size) phase ∙ ap (λ (p : Phase). p.first_size) h.phase;

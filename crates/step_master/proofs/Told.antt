@@ -122,7 +122,8 @@ module _ (a : Account) (r : Run) (sound : IsSound a.system) (plan : IsPlan a.pla
     plan = subst IsPlan (sym plan_is) plan;
     machines = are_machines r a.olds a.news (lived.made ++ lived.log) lived.lives own_lives run.tell (subst (λ (s : System). TellTheirs s a.olds) (sym run.system_is) lived.machines);
     ignore = ignore_slots r a.olds a.news (lived.made ++ lived.log) lived.lives own_lives run.tell (subst (λ (s : System). TellTheirs s a.olds) (sym run.system_is) lived.machines);
-    making = subst (λ (s : System). IsAnswered (shapes_of s) (making s) lived.made) (sym run.system_is) lived.making;
+    making = subst (λ (s : System). IsAnswered (shapes_of s) (making r.plan.link s) lived.made) (sym run.system_is)
+        (subst (λ (p : Plan). IsAnswered (shapes_of a.system) (making p.link a.system) lived.made) (sym plan_is) lived.making);
     replies = replies_of r a.olds a.news (lived.made ++ lived.log) lived.lives own_lives run.tell;
     ends = subst (λ (s : System). EndsBy s r.bound r.plan lived.log lived.is a.end a.before a.after) (sym run.system_is)
         (subst (λ (b : Bound). EndsBy a.system b r.plan lived.log lived.is a.end a.before a.after) (sym run.bound_is)
@@ -162,8 +163,8 @@ told_trace law a r sound binds plan run plan_is well lived =
     well (own_run a r sound plan run plan_is lived))
 
 pub told_unmade : UnmadeByLog → ToldUnmade
-told_unmade law system bound olds news bad r sound run well u = by (subst (λ (s : System). Unmade s olds bad news) (sym run.system_is) u) where
-  by : Unmade r.system olds bad news → IsLink bad.why × SomeRose olds news
+told_unmade law system bound olds news bad r sound run well u = by (subst (λ (s : System). Unmade s r.plan.link olds bad news) (sym run.system_is) u) where
+  by : Unmade r.system r.plan.link olds bad news → IsLink bad.why × SomeRose olds news
   by u =
       let lost = law r bad u.log (run.tell.count ∙ len_olds r.system olds news u.log u.lives u.are) well (replies_of r olds news u.log u.lives u.are run.tell) u.stops in
       (lost.link, rose_of r.system olds news u.log u.lives u.are bad.why lost)

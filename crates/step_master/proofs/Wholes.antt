@@ -276,8 +276,8 @@ module _ (answers : FirstBadAnswer) (once : NoCallTwice) (asked_for : UpdatesAsk
       }
 
   pub unmade_is_closed : UnmadeIsClosed
-  unmade_is_closed system olds news bad sound peers u =
-      let come : Comes system (Some bad) u.log = Unmade bad u.log u.stops in
+  unmade_is_closed system link olds news bad sound peers u =
+      let come : Comes system (Some bad) u.log = Unmade link bad u.log u.stops in
       let needed = once system (Some bad) u.log sound come in
       let updates = λ (talks : List (List Exchange)) (are : AreTalks (length system.components) u.log talks). asked_for system (Some bad) u.log talks sound come are in
       let left = λ (talks : List Talk) (are : EndAs system u.log talks). states system (Some bad) u.log talks sound come are in

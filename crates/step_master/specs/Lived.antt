@@ -37,7 +37,7 @@ pub record Lived (a : Account) : Type 0 where
   pub log : List Sent
   pub is : List Instant
   pub lives : List Life
-  pub making : IsAnswered (shapes_of a.system) (making a.system) made
+  pub making : IsAnswered (shapes_of a.system) (making a.plan.link a.system) made
   pub are : AreLives a.system a.olds a.news (made ++ log) lives
   pub text : EndsBy a.system a.bound a.plan log is a.end a.before a.after
   pub counted : a.instants ≡ length is
@@ -45,11 +45,11 @@ pub record Lived (a : Account) : Type 0 where
   pub machines : TellTheirs a.system a.olds
 
 -- the answer to an Instantiate wasn't good, and all were closed
-pub record Unmade (system : System) (olds : List View) (bad : BadAnswer)
+pub record Unmade (system : System) (link : ℕ) (olds : List View) (bad : BadAnswer)
     (news : List View) : Type 0 where
   pub log : List Sent
   pub lives : List Life
-  pub stops : StopsAt (shapes_of system) (making system) bad log
+  pub stops : StopsAt (shapes_of system) (making link system) bad log
   pub are : AreLives system olds news log lives
   pub least : IsLeastBad bad lives
 
@@ -66,8 +66,8 @@ RunIsLived =
 -- a system that couldn't be prepared
 abbrev pub UnmadeIsClosed : Type 0
 UnmadeIsClosed =
-    (system : System) (olds news : List View) (bad : BadAnswer) → IsSound system →
-    ArePeersOf system olds → IsUnmade system olds bad news → Unmade system olds bad news
+    (system : System) (link : ℕ) (olds news : List View) (bad : BadAnswer) → IsSound system →
+    ArePeersOf system olds → IsUnmade system link olds bad news → Unmade system link olds bad news
 
 -- of a system's peers each that isn't spared is over
 abbrev pub LivesAreOver : Type 0

@@ -42,7 +42,7 @@ pub record Prepares (system : System) (bound : Bound) (plan : Plan) (views : Lis
     (new : Standing) : Type 0 where
   pub log : List Sent
   pub told : Told log (seated system.components views) new.instances
-  pub answered : IsAnswered (shapes_of system) (making system) log
+  pub answered : IsAnswered (shapes_of system) (making plan.link system) log
   pub system_is : new.system ≡ system
   pub bound_is : new.bound ≡ bound
   pub plan_is : new.plan ≡ plan
@@ -51,18 +51,18 @@ pub record Prepares (system : System) (bound : Bound) (plan : Plan) (views : Lis
   pub machines : TellTheirs system views
 
 -- the answer to an Instantiate isn't good: no further was sent, and all were closed
-pub record IsUnmade (system : System) (views : List View) (bad : BadAnswer)
+pub record IsUnmade (system : System) (link : ℕ) (views : List View) (bad : BadAnswer)
     (news : List View) : Type 0 where
   pub log : List Sent
   pub mids : List Instance
   pub told : Told log (seated system.components views) mids
-  pub stops : StopsAt (shapes_of system) (making system) bad log
+  pub stops : StopsAt (shapes_of system) (making link system) bad log
   pub closes : Closes mids news
 
 -- where memory is wanting, nothing was sent
-abbrev pub FailsToPrepare : System → List View → PrepareFault → List View → Type 0
-FailsToPrepare system views F.Memory news = news ≡ views
-FailsToPrepare system views (F.Bad bad) news = IsUnmade system views bad news
+abbrev pub FailsToPrepare : System → ℕ → List View → PrepareFault → List View → Type 0
+FailsToPrepare system link views F.Memory news = news ≡ views
+FailsToPrepare system link views (F.Bad bad) news = IsUnmade system link views bad news
 
 -- ---- running
 

@@ -71,5 +71,5 @@ ToldTrace =
 abbrev pub ToldUnmade : Type 0
 ToldUnmade =
     (system : System) (bound : Bound) (olds news : List View) (bad : BadAnswer) (r : Run) →
-    IsSound system → IsRunOf system bound olds r → WellBehaved r → Unmade system olds bad news →
+    IsSound system → IsRunOf system bound olds r → WellBehaved r → Unmade system r.plan.link olds bad news →
     IsLink bad.why × SomeRose olds news

@@ -43,7 +43,7 @@ impl<L: Peer> Master<L> {
         ensures ready { IfOk result (IsReady L.view) }
         ensures ok { IfOk result (λ master. Prepares system bound plan (map L.view peers.items)
             (standing L.view master)) }
-        ensures err { IfErr result (λ end. FailsToPrepare system (map L.view peers.items) end.fault
+        ensures err { IfErr result (λ end. FailsToPrepare system plan.link (map L.view peers.items) end.fault
             (map L.view end.peers.items)) }
     {
         let experiment = Experiment {
@@ -58,7 +58,7 @@ impl<L: Peer> Master<L> {
             });
         };
         match Seats::new(alloc, experiment.system.components.as_slice(), peers) {
-            Ok(mut seats) => match seats.make() {
+            Ok(mut seats) => match seats.make(experiment.plan.link) {
                 Ok(()) => Ok(Master {
                     experiment,
                     seats,

@@ -48,18 +48,18 @@ impl<L: Peer> Seats<L> {
         }
     }
 
-    /// Makes each instance, up to the first answer that isn't good.
-    pub fn make(&mut self) -> Result<(), BadAnswer>
+    /// Makes each instance, over links of this version, up to the first answer that isn't good.
+    pub fn make(&mut self, link: u32) -> Result<(), BadAnswer>
         requires few { length self.old.slots.items ≤ 2 ^ 32 }
         requires live { All (LiveSlot L.view) self.old.slots.items }
         requires fresh { All (Stands IsFresh L.view) self.old.slots.items }
         ensures live { OnOk result (All (LiveSlot L.view) self.new.slots.items) }
         ensures made { OnOk result (All (Stands IsMade L.view) self.new.slots.items) }
         ensures stage { Stage
-            (to_each instantiate_of (shapes (instances L.view self.old.slots.items))) nothing
+            (to_each (instantiate_of link) (shapes (instances L.view self.old.slots.items))) nothing
             (instances L.view self.old.slots.items) (instances L.view self.new.slots.items) result }
     {
-        make(&mut self.slots)
+        make(&mut self.slots, link)
     }
 
     /// Closes the instances in order, and gives the peers back.

@@ -83,16 +83,16 @@ fn peer_of<L: Peer>(slot: Slot<L>) -> L
     }
 }
 
-/// Makes each instance, up to the first answer that isn't good.
-pub(crate) fn make<L: Peer>(slots: &mut [Slot<L>]) -> Result<(), BadAnswer>
+/// Makes each instance, over links of this version, up to the first answer that isn't good.
+pub(crate) fn make<L: Peer>(slots: &mut [Slot<L>], link: u32) -> Result<(), BadAnswer>
     requires few { length slots.old ≤ 2 ^ 32 }
     requires live { All (LiveSlot L.view) slots.old }
     requires fresh { All (Stands IsFresh L.view) slots.old }
     ensures live { OnOk result (All (LiveSlot L.view) slots.new) }
     ensures made { OnOk result (All (Stands IsMade L.view) slots.new) }
-    ensures stage { Stage (to_each instantiate_of (shapes (instances L.view slots.old))) nothing
+    ensures stage { Stage (to_each (instantiate_of link) (shapes (instances L.view slots.old))) nothing
         (instances L.view slots.old) (instances L.view slots.new) result }
 {
-    each(slots, Ask::Instantiate)?;
+    each(slots, Ask::Instantiate { link })?;
     Ok(())
 }

@@ -94,7 +94,7 @@ const SET_INC: Call = Call::Set {
 // Runs of a counter by 2 up to its closing: the increment is set, or the state is saved and comes back twice.
 static RUNS: [&[(Call, Content)]; 2] = [
     &[
-        (INSTANTIATE, Content::Instantiate),
+        (INSTANTIATE, Content::Instantiate { batches: false }),
         (SET_INC, Content::Set),
         (INITIALIZE, Content::EnterInitialization),
         (Call::ExitInitialization, Content::ExitInitialization),
@@ -104,7 +104,7 @@ static RUNS: [&[(Call, Content)]; 2] = [
         (GET, Content::Get { word: 10 }),
     ],
     &[
-        (INSTANTIATE, Content::Instantiate),
+        (INSTANTIATE, Content::Instantiate { batches: false }),
         (INITIALIZE, Content::EnterInitialization),
         (Call::ExitInitialization, Content::ExitInitialization),
         stepped!(0, 20),

@@ -11,12 +11,13 @@ use value_types::{ByReference, Causality, Dependency, Knowns, PortType, Shape, V
 pub(crate) const INSTANTIATE: Call = Call::Instantiate {
     event_mode: false,
     early_return: false,
+    batches: false,
 };
 
 pub(crate) const INITIALIZE: Call = Call::EnterInitialization { start: 0, stop: 60 };
 
 pub(crate) static BEGIN: [(Call, Content); 2] = [
-    (INSTANTIATE, Content::Instantiate),
+    (INSTANTIATE, Content::Instantiate { batches: false }),
     (INITIALIZE, Content::EnterInitialization),
 ];
 

@@ -170,9 +170,10 @@ fn begin(event_mode: bool, early_return: bool) -> [(Call, Content); 2] {
     let instantiate = Call::Instantiate {
         event_mode,
         early_return,
+        batches: false,
     };
     [
-        (instantiate, Content::Instantiate),
+        (instantiate, Content::Instantiate { batches: false }),
         (INITIALIZE, Content::EnterInitialization),
     ]
 }

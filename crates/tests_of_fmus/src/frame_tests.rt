@@ -117,10 +117,10 @@ static REPLIES: [(Reply, &[u8; 24], &[u8; 24]); 25] = [
     (
         Reply::Done {
             is_warning: false,
-            content: Content::Instantiate,
+            content: Content::Instantiate { batches: false },
         },
         b"\x01\0\0\0\0\0\0\0\0\0\0\0\0\0\0\0\0\0\0\0\0\0\0\0",
-        b"##......................",
+        b"###.....................",
     ),
     (
         Reply::Done {
@@ -396,7 +396,7 @@ static NO_CALLS: [(&[u8], usize); 30] = [
         15,
     ),
     (
-        b"\x01\0\0\0\0\0\0\x04\0\0\0\0\0\0\0\x01\0\0\0\0\0\0\0\0c",
+        b"\x01\0\0\0\0\0\0\x08\0\0\0\0\0\0\0\x01\0\0\0\0\0\0\0\0c",
         7,
     ),
     (b"\x01\0\0\0\0\0\0\0\0\0\0\0\0\0\0\0\0\0\0\0\0\0\0\0c", 15),
@@ -541,8 +541,32 @@ fn is_instantiate(row: &(bool, bool, &str, &str, &[u8])) -> bool {
     let call = Call::Instantiate {
         event_mode: row.0,
         early_return: row.1,
+        batches: false,
     };
     has_frame(&call, row.2, row.3, row.4)
+}
+
+#[test]
+fn instantiate_asks_for_batches(rt: HostRuntime) {
+    let call = Call::Instantiate {
+        event_mode: false,
+        early_return: false,
+        batches: true,
+    };
+    let frame = b"\x01\0\0\0\0\0\0\x04\0\0\0\0\0\0\0\x01\0\0\0\0\0\0\0\x03c{c}";
+    assert!(rt; has_frame(&call, "c", "{c}", frame));
+    let agreed = Reply::Done {
+        is_warning: false,
+        content: Content::Instantiate { batches: true },
+    };
+    let mut out = [0xAA; 24];
+    put_reply(&agreed, &mut out);
+    assert_eq!(rt;
+        out.as_slice(),
+        b"\x01\0\x01\0\0\0\0\0\0\0\0\0\0\0\0\0\0\0\0\0\0\0\0\0".as_slice()
+    );
+    out[2] = 2;
+    assert_eq!(rt; take_reply(&out), Taken::Bad { at: 2 });
 }
 
 #[test]
@@ -615,6 +639,7 @@ fn some_calls_have_no_frame(rt: HostRuntime) {
     let instantiate = Call::Instantiate {
         event_mode: false,
         early_return: false,
+        batches: false,
     };
     let get = Call::Get {
         kind: PortType::Clock,

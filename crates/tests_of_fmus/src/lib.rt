@@ -18,6 +18,8 @@ mod gain_tests;
 #[cfg(test)]
 mod link_tests;
 #[cfg(test)]
+mod many_tests;
+#[cfg(test)]
 mod paths;
 #[cfg(test)]
 mod phase_tests;

@@ -74,6 +74,7 @@ fn ask<W: Wire + Send>(
 const INSTANTIATE: Call = Call::Instantiate {
     event_mode: false,
     early_return: true,
+    batches: false,
 };
 
 // The calls of a run, with their frames, the frames that answer them, and the replies that these are.
@@ -82,7 +83,7 @@ static RUN: [(Call, &[u8], &[u8; 24], Content); 5] = [
         INSTANTIATE,
         b"\x01\0\0\0\0\0\0\x02\0\0\0\0\0\0\0\x01\0\0\0\0\0\0\0\x03c{t}",
         b"\x01\0\0\0\0\0\0\0\0\0\0\0\0\0\0\0\0\0\0\0\0\0\0\0",
-        Content::Instantiate,
+        Content::Instantiate { batches: false },
     ),
     (
         Call::Set {
@@ -183,7 +184,7 @@ fn each_call_sends_its_frame_and_reads_the_reply(rt: HostRuntime) -> Result<(), 
 const REFUSAL: &[u8; 24] = b"\x01\x03\0\0\0\0\0\0\0\0\0\0\0\0\0\0\0\0\0\0\0\0\0\0";
 
 // A reply frame but for its flags.
-const NO_REPLY: [u8; 24] = *b"\x01\0\x01\0\0\0\0\0\0\0\0\0\0\0\0\0\0\0\0\0\0\0\0\0";
+const NO_REPLY: [u8; 24] = *b"\x01\0\x02\0\0\0\0\0\0\0\0\0\0\0\0\0\0\0\0\0\0\0\0\0";
 
 const FAILED: Result<Reply, PeerFault> = Err(PeerFault::Failed);
 
@@ -213,7 +214,7 @@ static ANSWERS: [Answer; 8] = [
         &[2],
         Ok(Reply::Done {
             is_warning: false,
-            content: Content::Instantiate,
+            content: Content::Instantiate { batches: false },
         }),
         [28, 24],
         [0, 0],

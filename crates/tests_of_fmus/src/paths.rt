@@ -9,11 +9,13 @@ use value_types::{
 pub(crate) const INSTANTIATE: Call = Call::Instantiate {
     event_mode: false,
     early_return: true,
+    batches: false,
 };
 
 pub(crate) const INSTANTIATE_EVENTS: Call = Call::Instantiate {
     event_mode: true,
     early_return: true,
+    batches: false,
 };
 
 pub(crate) const ENTER: Call = Call::EnterInitialization {
@@ -82,7 +84,7 @@ pub(crate) const EXITED: (Call, Option<Reply>) = (EXIT, done!(Content::ExitIniti
 
 pub(crate) const STARTED_EVENTS: (Call, Option<Reply>) = (
     INSTANTIATE_EVENTS,
-    done!(Content::Instantiate),
+    done!(Content::Instantiate { batches: false }),
 );
 
 pub(crate) const SETTLED: (Call, Option<Reply>) = updated!(false);

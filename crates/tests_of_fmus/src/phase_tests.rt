@@ -30,6 +30,7 @@ static NEVER: [Call; 14] = [
     Call::Instantiate {
         event_mode: true,
         early_return: true,
+        batches: false,
     },
     Call::EnterInitialization {
         start: 11,
@@ -102,7 +103,10 @@ macro_rules! refused {
     };
 }
 
-const STARTED: (Call, Option<Reply>) = (INSTANTIATE, done!(Content::Instantiate));
+const STARTED: (Call, Option<Reply>) = (
+    INSTANTIATE,
+    done!(Content::Instantiate { batches: false }),
+);
 
 const STEPPED: (Call, Option<Reply>) = (STEP, ended!(false, 40));
 

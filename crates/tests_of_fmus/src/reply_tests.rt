@@ -40,7 +40,7 @@ static STATUSES: [(BadStatus, Status); 3] = [
 static KINDS: [(Call, Content, Kind, u8, &str); 18] = [
     (
         INSTANTIATE,
-        Content::Instantiate,
+        Content::Instantiate { batches: false },
         Kind::Instantiate,
         1,
         "Instantiate",

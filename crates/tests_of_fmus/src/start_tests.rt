@@ -91,7 +91,7 @@ fn a_full_room_fails_and_starts_fail_by_their_list(rt: HostRuntime) -> Result<()
 
 const WARNED: Result<Reply, PeerFault> = Ok(Reply::Done {
     is_warning: true,
-    content: Content::Instantiate,
+    content: Content::Instantiate { batches: false },
 });
 
 // Two scripts: one without answers, and one with one. The first start fails.

@@ -374,6 +374,32 @@ static WORKERS: [(&str, u32); 6] = [
     ("one|--workers=10|d|--resolution|10|--step|3|--stop|7", 10),
 ];
 
+// Words between bars, and the version of the link that they ask for.
+static LINKS: [(&str, u32); 5] = [
+    ("one|d|--resolution|10|--step|3|--stop|7", 1),
+    ("one|d|--resolution|10|--step|3|--stop|7|--link|1", 1),
+    ("run|d|--resolution|10|--step|3|--stop|7|--link=2", 2),
+    ("run|--link|2|d|--resolution|10|--step|3|--stop|7", 2),
+    (
+        "one|--link=1|d|--resolution|10|--step|3|--stop|7|--host|h",
+        1,
+    ),
+];
+
+// Words between bars with a version of the link that makes them no line.
+static OTHER_LINKS: [&str; 10] = [
+    "run|d|--resolution|10|--step|3|--stop|7|--link",
+    "run|d|--resolution|10|--step|3|--stop|7|--link=",
+    "run|d|--resolution|10|--step|3|--stop|7|--link|0",
+    "one|d|--resolution|10|--step|3|--stop|7|--link=3",
+    "run|d|--resolution|10|--step|3|--stop|7|--link|02",
+    "run|d|--resolution|10|--step|3|--stop|7|--link|2|--link|2",
+    "one|d|--resolution|10|--step|3|--stop|7|--link|two",
+    "check|d|--resolution|1000|--link|2",
+    "trace-check|d|t|--link|2",
+    "bench|1|1|--link|2",
+];
+
 // Words between bars with a number of workers that makes them no line.
 static OTHER_WORKERS: [&str; 10] = [
     "run|d|--resolution|10|--step|3|--stop|7|--workers",
@@ -472,6 +498,29 @@ fn asks_for_workers(alloc: Global, words: &[String], workers: u32) -> bool {
     }
 }
 
+fn link_of(request: Request<'_>) -> Option<u32> {
+    match request {
+        Request::System(CommandLine::One(options) | CommandLine::Run(options)) => {
+            Some(options.plan.link)
+        }
+        Request::System(CommandLine::Check(_)) | Request::TraceCheck(_) | Request::Bench(_) => None,
+    }
+}
+
+fn asks_for_link(alloc: Global, words: &[String], link: u32) -> bool {
+    match read_words(alloc, words) {
+        Ok(request) => link_of(request) == Some(link),
+        Err(_) => false,
+    }
+}
+
+fn has_link(alloc: Global, row: &(&str, u32)) -> bool {
+    match split_words(alloc, row.0) {
+        Ok(words) => asks_for_link(alloc, &words, row.1),
+        Err(_) => false,
+    }
+}
+
 fn has_workers(alloc: Global, row: &(&str, u32)) -> bool {
     match split_words(alloc, row.0) {
         Ok(words) => asks_for_workers(alloc, &words, row.1),
@@ -501,6 +550,16 @@ fn a_line_gives_its_host(rt: HostRuntime) {
     assert_eq!(rt; HOSTS.iter().position(|row| !has_host(alloc, row)), None);
     assert_eq!(rt;
         OTHER_HOSTS.iter().position(|line| !is_no_line(alloc, line)),
+        None
+    );
+}
+
+#[test]
+fn a_line_gives_its_link(rt: HostRuntime) {
+    let alloc = rt.alloc();
+    assert_eq!(rt; LINKS.iter().position(|row| !has_link(alloc, row)), None);
+    assert_eq!(rt;
+        OTHER_LINKS.iter().position(|line| !is_no_line(alloc, line)),
         None
     );
 }

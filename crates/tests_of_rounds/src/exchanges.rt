@@ -56,8 +56,9 @@ const MADE: Exchange = good!(
     Call::Instantiate {
         event_mode: false,
         early_return: false,
+        batches: false,
     },
-    Content::Instantiate,
+    Content::Instantiate { batches: false },
 );
 
 // Of an FMU that might return early.
@@ -65,8 +66,9 @@ const MADE_EARLY: Exchange = good!(
     Call::Instantiate {
         event_mode: false,
         early_return: true,
+        batches: false,
     },
-    Content::Instantiate,
+    Content::Instantiate { batches: false },
 );
 
 const ENTERED: Exchange = good!(

@@ -34,7 +34,7 @@ fn give_up<L: Peer + Drop>(rt: &impl Abort, held: Held<L>, fault: &str) -> Fmu<L
 fn into_stepping<L: Peer + Drop>(rt: &impl Abort, peer: L) -> Fmu<L, Stepping>
     requires { (L.view peer).phase.state ≡ P.Fresh }
 {
-    match Fmu::new(peer).instantiate() {
+    match Fmu::new(peer).instantiate(1) {
         Ok(fmu) => initialize(rt, fmu),
         Err(ended) => give_up(rt, Held::Ended(ended), "it isn't made"),
     }

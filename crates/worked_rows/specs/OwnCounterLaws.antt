@@ -22,7 +22,7 @@ no_mode : (numbers : List ℤ) (call : Call) → changes_mode call ≡ true →
     own_answer numbers call ≡ None
 no_mode numbers (C.EnterInitialization start stop) changes = refl
 no_mode numbers C.ExitInitialization changes = refl
-no_mode numbers (C.Instantiate event_mode early_return) changes = refl
+no_mode numbers (C.Instantiate event_mode early_return batches) changes = refl
 no_mode numbers C.EnterEvent changes = refl
 no_mode numbers C.EnterStep changes = refl
 no_mode numbers (C.DoStep at size) changes = refl
@@ -45,7 +45,7 @@ pub unmoved : (m : Machine) (s : MachineState) (call : Call) (reply : Reply) →
 unmoved m s (C.Get kind reference) reply is = refl
 unmoved m s (C.EnterInitialization start stop) reply is = absurd (cc)
 unmoved m s C.ExitInitialization reply is = absurd (cc)
-unmoved m s (C.Instantiate event_mode early_return) reply is = absurd (cc)
+unmoved m s (C.Instantiate event_mode early_return batches) reply is = absurd (cc)
 unmoved m s C.EnterEvent reply is = absurd (cc)
 unmoved m s C.EnterStep reply is = absurd (cc)
 unmoved m s (C.DoStep at size) reply is = absurd (cc)
@@ -67,7 +67,7 @@ after_same : (m : Machine) (s : MachineState) (call : Call) →
 after_same m s (C.Get kind reference) = refl
 after_same m s (C.EnterInitialization start stop) = refl
 after_same m s C.ExitInitialization = refl
-after_same m s (C.Instantiate event_mode early_return) = refl
+after_same m s (C.Instantiate event_mode early_return batches) = refl
 after_same m s C.EnterEvent = refl
 after_same m s C.EnterStep = refl
 after_same m s (C.DoStep at size) = refl

@@ -91,7 +91,7 @@ answer counts n (C.GetClock reference) = Done false (A.GetClock 0)
 answer counts n (C.GetInterval reference) = Done false (A.GetInterval NotYetKnown)
 answer counts n (C.GetShift reference) =
     Done false (A.GetShift (record { counter = 0; resolution = 1 }))
-answer counts n (C.Instantiate event_mode early_return) = Done false A.Instantiate
+answer counts n (C.Instantiate event_mode early_return batches) = Done false (A.Instantiate false)
 answer counts n (C.EnterInitialization start stop) = Done false A.EnterInitialization
 answer counts n C.ExitInitialization = Done false A.ExitInitialization
 answer counts n C.EnterEvent = Done false A.EnterEvent

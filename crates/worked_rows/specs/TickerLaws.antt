@@ -19,7 +19,7 @@ pub keeps_mark : (counts : Counts) (s : MachineState) (call : Call) → changes_
 keeps_mark counts s (C.EnterInitialization start stop) other = absurd (cc)
 keeps_mark counts s C.ExitInitialization other = absurd (cc)
 keeps_mark counts s (C.DoStep at size) other = refl
-keeps_mark counts s (C.Instantiate event_mode early_return) other = refl
+keeps_mark counts s (C.Instantiate event_mode early_return batches) other = refl
 keeps_mark counts s C.EnterEvent other = refl
 keeps_mark counts s C.EnterStep other = refl
 keeps_mark counts s C.Update other = refl
@@ -40,7 +40,7 @@ pub never_discards : (counts : Counts) (s : MachineState) (call : Call) → chan
 never_discards counts s (C.EnterInitialization start stop) changes = refl
 never_discards counts s C.ExitInitialization changes = refl
 never_discards counts s (C.DoStep at size) changes = absurd (cc)
-never_discards counts s (C.Instantiate event_mode early_return) changes = absurd (cc)
+never_discards counts s (C.Instantiate event_mode early_return batches) changes = absurd (cc)
 never_discards counts s C.EnterEvent changes = absurd (cc)
 never_discards counts s C.EnterStep changes = absurd (cc)
 never_discards counts s C.Update changes = absurd (cc)

@@ -132,7 +132,7 @@ pub(crate) fn answer(
     ensures { result ≡ answer counts (told counted.now) call.now }
 {
     match *call {
-        Call::Instantiate { .. } => done_reply(Content::Instantiate),
+        Call::Instantiate { .. } => done_reply(Content::Instantiate { batches: false }),
         Call::EnterInitialization { .. } => done_reply(Content::EnterInitialization),
         Call::ExitInitialization => done_reply(Content::ExitInitialization),
         Call::EnterEvent => done_reply(Content::EnterEvent),

@@ -169,7 +169,7 @@ pub(crate) fn run<L: Peer>(rt: &impl Abort, peer: L, talk: &[Exchange]) -> Reach
     if talk.is_empty() {
         return reach(Held::Fresh(fmu), None, None);
     }
-    match fmu.instantiate() {
+    match fmu.instantiate(1) {
         Ok(fmu) => run_instantiated(rt, fmu, talk),
         Err(ended) => reach_ended(ended),
     }

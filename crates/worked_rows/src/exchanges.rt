@@ -6,6 +6,7 @@ use value_types::PortType;
 pub(crate) const START: Call = Call::Instantiate {
     event_mode: false,
     early_return: true,
+    batches: false,
 };
 
 pub(crate) const ENTER: Call = Call::EnterInitialization { start: 0, stop: 20 };
@@ -82,7 +83,7 @@ pub(crate) use good;
 pub(crate) use refused;
 pub(crate) use wrong;
 
-pub(crate) const STARTED: Exchange = good!(START, Content::Instantiate);
+pub(crate) const STARTED: Exchange = good!(START, Content::Instantiate { batches: false });
 
 pub(crate) const GIVEN_PARAMETER: Exchange = good!(SET_PARAMETER, Content::Set);
 

@@ -16,9 +16,10 @@ use value_types::PortType;
 const MAKE: Call = Call::Instantiate {
     event_mode: false,
     early_return: false,
+    batches: false,
 };
 
-const MADE: Exchange = good!(MAKE, Content::Instantiate);
+const MADE: Exchange = good!(MAKE, Content::Instantiate { batches: false });
 
 macro_rules! read {
     ($word:expr) => {

@@ -256,6 +256,7 @@ pub(crate) fn run_system<R: Threads + Sync, L: Peer>(
         stop,
         limit: 2,
         workers: 1,
+        link: 1,
     };
     match Master::prepare(alloc, system, bound, peers, plan) {
         Ok(mut master) => {

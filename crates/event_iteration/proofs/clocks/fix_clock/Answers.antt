@@ -1,4 +1,4 @@
-use Rattle.std.proofs.Common.{◌≡◌, inl, true, Some, Ok, Err, sym, ap, ap₂, ◌∙◌, subst, arith}
+use Rattle.std.proofs.Common.{◌≡◌, inl, Some, Ok, Err, sym, ap, ap₂, ◌∙◌, subst, arith}
 use Rattle.std.proofs.lemmas.Option.{same_Some}
 use Rattle.clock_fraction.specs.declared.fraction.Fraction.{Fraction}
 use Rattle.fmi_calls.specs.declared.call.Interval.{Interval}
@@ -10,10 +10,9 @@ use Rattle.system_model.proofs.CallerLemmas.{place_of}
 use Rattle.run_model.specs.Run.{Timer}
 use Rattle.run_model.specs.Timers.{fixed}
 use Rattle.slot_calls.specs.Slots.{instances}
-use Rattle.slot_calls.specs.Stage.{shapes}
 use Rattle.slot_calls.proofs.CallerLemmas.{shapes_same}
 use Rattle.event_iteration.specs.Clocks.{first_place}
-use Rattle.event_iteration.specs.Questions.{FixesPort, IsEntered, is_asked, is_changing, modes}
+use Rattle.event_iteration.specs.Questions.{FixesPort, IsEntered, is_asked, is_changing}
 use Rattle.event_iteration.proofs.Answering.{asked_role, may_interval, may_shift}
 use Rattle.event_iteration.proofs.AskedClocks.{among_components, in_range, shape_here, still_initializing, told_interval, told_shift}
 use Rattle.event_iteration.proofs.Fixing.{fixes_both, fixes_cut, fixes_cut_later, fixes_none}

@@ -10,5 +10,5 @@ cleared : (system : System) (values : List (Option ℤ)) → length values ≡ l
 cleared system values places none =
     ext_get_or None values (no_values system) (places ∙ sym (length-map system.ports (λ (x : Port). None))) (λ p lt. none p ∙ sym (none_at system.ports p))
 
-pub walk-requires-clause-none : goal.walk-requires-clause-none
-walk-requires-clause-none g c κs lives = cleared c.args.system.now c.clear.new.values (c.clear.auto.values ∙ c.requires.values) c.clear.ensures
+pub walk_all-requires-clause-none : goal.walk_all-requires-clause-none
+walk_all-requires-clause-none g c κs lives = cleared c.args.system.now c.clear.new.values (c.clear.auto.values ∙ c.requires.values) c.clear.ensures

@@ -5,28 +5,29 @@ use Rattle.host_serving.proofs.FrameLemmas.{front_more, takes_more}
 use Rattle.host_serving.proofs.reading.next_in.Goals as goal
 
 pub returns-in-Got : goal.returns-in-Got
-returns-in-Got g c = λ before takes.
+returns-in-Got g c = λ before seen takes.
     let frame = c.args.frame.now in
     let count = c.in-Ok.count in
     let part = c.fill.new.into in
     let room : length part ≡ length frame - 24 = search rules in
     let cut = length-take count part in
     let head = length-take 24 frame in
-    subst (ComesTo before (g.I.Source.view c.fill.new.input)) (sym c.next_of_frame.ensures)
+    subst (ComesTo before (g.I.Source.view c.fill.new.input) seen) (sym c.next_of_frame.ensures)
     (texts_came _ _ _ (take 24 frame) (take count part) _ _ (length frame - 24) (omega (arith, head, c.requires.long)) c.requires.front c.requires.room (omega (arith, cut, room, c.in-Ok.ensures.bound))
     (c.front_of.ensures ∙ front_more frame part 24 count c.requires.long c.in-Ok.ensures.bound)
     (takes_more _ _ _ (take 24 frame) (take count part) takes c.in-Ok.ensures.takes) c.in-Got.ensures.taken)
 
 pub returns-in-Bad : goal.returns-in-Bad
-returns-in-Bad g c = λ before takes.
+returns-in-Bad g c = λ before seen takes.
     let frame = c.args.frame.now in
     let count = c.in-Ok.count in
     let part = c.fill.new.into in
-    texts_broke _ _ (take 24 frame) (take count part) _ _ (c.front_of.ensures ∙ front_more frame part 24 count c.requires.long c.in-Ok.ensures.bound)
+    let head = length-take 24 frame in
+    texts_broke _ _ (take 24 frame) (take count part) _ _ (omega (arith, head, c.requires.long)) c.requires.front (c.front_of.ensures ∙ front_more frame part 24 count c.requires.long c.in-Ok.ensures.bound)
     (takes_more _ _ _ (take 24 frame) (take count part) takes c.in-Ok.ensures.takes) c.in-Bad.ensures.taken
 
 pub returns-in-NeedMore : goal.returns-in-NeedMore
-returns-in-NeedMore g c = λ before takes.
+returns-in-NeedMore g c = λ before seen takes.
     let frame = c.args.frame.now in
     let count = c.in-Ok.count in
     let part = c.fill.new.into in

@@ -67,7 +67,7 @@ retire_each-requires-in-Err-after_bounds g c κs within =
     let news = map view c.in-Err.field-0.peers.items in
     let peers = new_peers c.args.options.host.now c.args.folders.now c.args.system olds c.requires.started (length-map c.args.peers.items view ∙ c.requires.each) in
     let same : length c.in-Err.field-0.peers.items ≡ length c.args.peers.items =
-    sym (length-map c.in-Err.field-0.peers.items view) ∙ given_back c.args.system olds news c.in-Err.field-0.fault c.requires.runnable.sound peers c.lives_of_peers.ensures.unmade c.in-Err.ensures.err
+    sym (length-map c.in-Err.field-0.peers.items view) ∙ given_back c.args.system c.args.options.plan.link olds news c.in-Err.field-0.fault c.requires.runnable.sound peers c.lives_of_peers.ensures.unmade c.in-Err.ensures.err
     ∙ length-map c.args.peers.items view in
     let room = c.requires.fewer in
     omega (arith, same, room)
@@ -78,9 +78,9 @@ report_end-requires-in-Bad g c =
     let olds = map view c.args.peers.items in
     let news = map view c.in-Err.field-0.peers.items in
     let peers = new_peers c.args.options.host.now c.args.folders.now c.args.system olds c.requires.started (length-map c.args.peers.items view ∙ c.requires.each) in
-    let unmade : Unmade c.args.system olds c.in-Bad.bad news =
-    c.lives_of_peers.ensures.unmade c.args.system olds news c.in-Bad.bad c.requires.runnable.sound peers (subst (λ (f : PrepareFault). FailsToPrepare c.args.system olds f news) c.in-Bad.is c.in-Err.ensures.err) in
-    subst (λ (n : ℕ). c.in-Bad.bad.component.0 < n) (sym (ap length c.requires.names ∙ length-map c.args.system.components (λ (x : Component). x.name))) (unmade_names c.args.system olds news c.in-Bad.bad unmade)
+    let unmade : Unmade c.args.system c.args.options.plan.link olds c.in-Bad.bad news =
+    c.lives_of_peers.ensures.unmade c.args.system c.args.options.plan.link olds news c.in-Bad.bad c.requires.runnable.sound peers (subst (λ (f : PrepareFault). FailsToPrepare c.args.system c.args.options.plan.link olds f news) c.in-Bad.is c.in-Err.ensures.err) in
+    subst (λ (n : ℕ). c.in-Bad.bad.component.0 < n) (sym (ap length c.requires.names ∙ length-map c.args.system.components (λ (x : Component). x.name))) (unmade_names c.args.system c.args.options.plan.link olds news c.in-Bad.bad unmade)
 
 pub returns-in-Ok : goal.returns-in-Ok
 returns-in-Ok g c before known made told =
@@ -115,8 +115,8 @@ returns-in-Bad g c before known made told =
     let news = map view c.in-Err.field-0.peers.items in
     let task = task_with c.args.options c.args.bound c.args.folders.now in
     let peers = new_peers c.args.options.host.now c.args.folders.now c.args.system olds c.requires.started (length-map c.args.peers.items view ∙ c.requires.each) in
-    let unmade : Unmade c.args.system olds c.in-Bad.bad news =
-    c.lives_of_peers.ensures.unmade c.args.system olds news c.in-Bad.bad c.requires.runnable.sound peers (subst (λ (f : PrepareFault). FailsToPrepare c.args.system olds f news) c.in-Bad.is c.in-Err.ensures.err) in
+    let unmade : Unmade c.args.system c.args.options.plan.link olds c.in-Bad.bad news =
+    c.lives_of_peers.ensures.unmade c.args.system c.args.options.plan.link olds news c.in-Bad.bad c.requires.runnable.sound peers (subst (λ (f : PrepareFault). FailsToPrepare c.args.system c.args.options.plan.link olds f news) c.in-Bad.is c.in-Err.ensures.err) in
     let out = g.O.Sink.view c.args.out.now in
     let old = scene before out in
     let new = scene (g.S.Spawner.view c.retire_each-in-Err.new.spawner) out in

@@ -6,7 +6,7 @@ use Rattle.slot_calls.proofs.advancing.instantiate.Goals as goal
 
 pub returns-in-Ok : goal.returns-in-Ok
 returns-in-Ok g c = moves_good g.L.Peer.view _ _ _ _ c.in-Ok.ensures.ok.0 _ (c.requires.state, refl, refl) c.in-Ok.ensures.ok.1
-    (ends_none (g.L.Peer.view c.args.fmu.peer).fixed.shape (instantiate_of (g.L.Peer.view c.args.fmu.peer).fixed.shape) refl c.in-Ok.ensures.ok.0 c.in-Ok.ensures.ok.1.good)
+    (ends_none (g.L.Peer.view c.args.fmu.peer).fixed.shape (instantiate_of c.args.link (g.L.Peer.view c.args.fmu.peer).fixed.shape) refl c.in-Ok.ensures.ok.0 c.in-Ok.ensures.ok.1.good)
     (ap (λ (s : InstanceState). Some s) (sym (state_by_good _ _ _ c.in-Ok.ensures.ok.0 c.in-Ok.ensures.ok.1)))
 
 pub returns-in-Err : goal.returns-in-Err

@@ -9,4 +9,4 @@ use Rattle.step_master.proofs.taking.make.Goals as goal
 pub returns-clause-made : goal.returns-clause-made
 returns-clause-made g c =
     let stage = c.in_ok-each.ensures.stage in
-    stage_all (λ s. instance_in g.L.Peer.view s) instantiate_of IsFresh IsMade start_leads c.args.slots.now c.each.new.slots stage.log stage.told stage.says.0 c.requires.fresh
+    stage_all (λ s. instance_in g.L.Peer.view s) (instantiate_of c.args.link) IsFresh IsMade (start_leads c.args.link) c.args.slots.now c.each.new.slots stage.log stage.told stage.says.0 c.requires.fresh

@@ -58,7 +58,7 @@ returns-in-Ok-make-clause-ok g c =
     record {
       log = stage.log;
       told = subst (λ (is : List Instance). Told stage.log is (instances view c.make.new.self.slots.items)) same stage.told;
-      answered = subst (λ (ss : List Shape). IsAnswered ss (to_each instantiate_of ss) stage.log) fits stage.says.0;
+      answered = subst (λ (ss : List Shape). IsAnswered ss (to_each (instantiate_of c.args.plan.link) ss) stage.log) fits stage.says.0;
       system_is = refl;
       bound_is = refl;
       plan_is = refl;
@@ -78,6 +78,6 @@ returns-in-Err-make-clause-err g c =
       log = stage.log;
       mids = instances view c.make.new.self.slots.items;
       told = subst (λ (is : List Instance). Told stage.log is (instances view c.make.new.self.slots.items)) same stage.told;
-      stops = subst (λ (ss : List Shape). StopsAt ss (to_each instantiate_of ss) c.in-Err-make.bad stage.log) fits stage.says;
+      stops = subst (λ (ss : List Shape). StopsAt ss (to_each (instantiate_of c.args.plan.link) ss) c.in-Err-make.bad stage.log) fits stage.says;
       closes = c.close.ensures;
     }

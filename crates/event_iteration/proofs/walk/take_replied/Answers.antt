@@ -1,0 +1,26 @@
+use Rattle.std.proofs.Common.{Some, drop, get_or, map, ap, ◌∙◌, sym, refl}
+use Rattle.std.proofs.lemmas.List.{drop_all}
+use Rattle.fmi_calls.specs.declared.call.Reply.{Reply}
+use Rattle.event_iteration.specs.Waits.{turned}
+use Rattle.event_iteration.proofs.Turned.{replied_more, value_by}
+use Rattle.event_iteration.proofs.walk.take_replied.Goals as goal
+
+pub loop-i-init : goal.loop-i-init
+loop-i-init g c = refl
+
+pub value_of-requires-clause-port : goal.value_of-requires-clause-port
+value_of-requires-clause-port g c = c.requires.within c.loop-i.i 0 c.loop-i-test.true
+
+pub loop-i-preserved : goal.loop-i-preserved
+loop-i-preserved g c =
+    let system = c.args.system.now in
+    let rules = g.T.Turns.rules c.args.turns.now system in
+    let p = get_or c.args.ports.now c.loop-i.i 0 in
+    let v = value_by system rules c.loop-i.values p (Some _) c.value_of.result (c.requires.within c.loop-i.i 0 c.loop-i-test.true) c.value_of.ensures in
+    replied_more system rules c.args.ports.now c.args.replies.now c.loop-i.i c.loop-i.values _ c.value_of.result c.loop-i-test.true c.requires.places v ∙ c.loop-i.invariant
+
+pub returns : goal.returns
+returns g c =
+    let system = c.args.system.now in
+    let rules = g.T.Turns.rules c.args.turns.now system in
+    sym (ap (λ ps. turned system rules ps (map (λ (r : Reply). Some r) (drop c.loop-i.i c.args.replies.now)) c.loop-i.values) (drop_all c.loop-i.i c.args.ports.now c.loop-i-test.false)) ∙ c.loop-i.invariant

@@ -1,0 +1,607 @@
+//! A walk through ports in an order, in which calls that read outputs of one FMU, or set inputs of it, wait and are sent
+//! together.
+ghost use Rattle.std.specs.Prelude.{◌≡◌, ◌+◌, ◌<◌, ◌≤◌, ◌++◌, ◌∷◌, ◌==◌, [], ℕ, Some, OnOk, All, IsTrue, if◌then◌else◌, filter, length, map, get_or, true, List};
+ghost use Rattle.std.specs.List.{list_any, slice_get};
+ghost use Rattle.fmi_calls.specs.declared.call.Reply.{Reply};
+ghost use Rattle.sim_base.specs.declared.numbers.PortId.{PortId};
+ghost use Rattle.fmi_calls.specs.declared.call.Call.{Call};
+ghost use Rattle.system_model.specs.declared.system.Component.{Component};
+ghost use Rattle.system_model.specs.declared.system.Port.{Port};
+ghost use Rattle.system_model.specs.Ports.{numbers};
+ghost use Rattle.system_model.specs.Sound.{IsSound};
+ghost use Rattle.run_model.specs.Machines.{AreFitting};
+ghost use Rattle.slot_calls.specs.Slots.{LiveSlot, instances};
+ghost use Rattle.slot_calls.specs.Stage.{shapes, shapes_of};
+ghost use Rattle.event_iteration.specs.Turns.{MayTurn, TakesTurn};
+ghost use Rattle.event_iteration.specs.Waits.{AreTurns, Gathered, Goes, IsOpen, IsReady, IsSilent, IsWay, IsWayOfCall, MayWalk, Moves, ReadsOrSets, StandsBehindReads, call_in, is_fed, is_fed_by, place, turned, waits_in};
+
+use crate::turn::ask_if;
+use fmi_calls::{BadStatus, Call, Kind, Reply};
+use fmu_peer::{Peer, Slot};
+use sim_base::{CompId, PortId};
+use slot_calls::{BadAnswer, send_many};
+use system_model::{Port, Role, System};
+
+// The most calls that are sent together.
+const MOST: usize = 64;
+
+/// What the turn of each port is in a walk.
+pub(crate) trait Turns {
+    ghost use Rattle.event_iteration.specs.Turns.{Rules};
+    ghost use Rattle.system_model.specs.declared.system.System.{System};
+
+    /// The rules of the walk through a system.
+    ghost rules: { Self → System → Rules };
+
+    /// What the walk takes of the system for granted.
+    ghost holds: { Self → System → Type 0 };
+
+    /// The call that a port's turn sends.
+    fn call_of(&self, system: &System, p: usize, values: &[Option<i128>]) -> Option<Call>
+        requires sound { IsSound system.now }
+        requires holds { holds self.now system.now }
+        requires port { p < length system.now.ports }
+        requires values { length values.now ≡ length system.now.ports }
+        ensures { (port : Port) (c : Component) → slice_get system.now.ports p ≡ Some port →
+            slice_get system.now.components port.component.0 ≡ Some c →
+            result ≡ (rules self.now system.now).asks p port c values.now };
+
+    /// Whether the port sends nothing, whatever its source's value is.
+    fn is_silent(&self, system: &System, p: usize, values: &[Option<i128>]) -> bool
+        requires sound { IsSound system.now }
+        requires holds { holds self.now system.now }
+        requires port { p < length system.now.ports }
+        requires values { length values.now ≡ length system.now.ports }
+        ensures { result ≡ true → IsSilent system.now (rules self.now system.now) p values.now };
+
+    /// The value that a port takes with this reply; last is the one that it has.
+    fn value_of(
+        &self,
+        system: &System,
+        p: usize,
+        values: &[Option<i128>],
+        last: Option<i128>,
+        reply: &Option<Reply>,
+    ) -> Option<i128>
+        requires sound { IsSound system.now }
+        requires holds { holds self.now system.now }
+        requires port { p < length system.now.ports }
+        requires values { length values.now ≡ length system.now.ports }
+        ensures { (port : Port) → slice_get system.now.ports p ≡ Some port →
+            result ≡ (rules self.now system.now).takes p port values.now last reply.now };
+}
+
+// What comes next in a walk.
+#[derive(Clone, Copy, Debug)]
+pub(crate) enum Way {
+    // what waits is sent first
+    Send,
+    // the port sends nothing, but its source waits: it is taken with that
+    Skip,
+    // its call, of this kind, waits
+    Wait(Kind),
+    // it sends nothing, and is taken
+    Quiet,
+    // its call is sent, and it is taken
+    Ask(Call),
+}
+
+// The ports whose calls wait, in their order: all of one FMU, all to be read or all to be set.
+#[derive(Drop)]
+pub(crate) struct Waiting {
+    ports: [u32; MOST],
+    count: usize,
+    // the place in the order of the first of them
+    since: usize,
+    component: CompId,
+    kind: Kind,
+}
+
+impl Waiting {
+    fn none() -> Waiting
+        ensures none { result.count ≡ 0 }
+        ensures since { result.since ≡ 0 }
+        ensures kind { ReadsOrSets result.kind }
+    {
+        Waiting {
+            ports: [0; MOST],
+            count: 0,
+            since: 0,
+            component: CompId(0),
+            kind: Kind::Get,
+        }
+    }
+
+    // Whether a call of this kind to this FMU may wait with those that do.
+    fn is_open(&self, component: CompId, kind: Kind) -> bool
+        ensures open { IsTrue result → IsOpen self.now component kind }
+        ensures none { self.now.count ≡ 0 → IsTrue result }
+    {
+        self.count == 0 || (self.count < MOST && self.component == component && self.kind == kind)
+    }
+
+    // One more waits, at this place of the order.
+    fn push(&mut self, number: u32, k: usize, component: CompId, kind: Kind)
+        requires few { self.old.count < 64 }
+        ensures ports { waits_in self.new ≡ waits_in self.old ++ number ∷ [] }
+        ensures count { self.new.count ≡ self.old.count + 1 }
+        ensures since { self.new.since ≡ (if self.old.count == 0 then k else self.old.since) }
+        ensures component { self.new.component ≡ component }
+        ensures kind { self.new.kind ≡ kind }
+    {
+        if self.count == 0 {
+            self.since = k;
+        }
+        self.ports[self.count] = number;
+        self.count += 1;
+        self.component = component;
+        self.kind = kind;
+    }
+
+    fn as_slice(&self) -> &[u32]
+        requires { self.now.count ≤ 64 }
+        ensures { result.now ≡ waits_in self.now }
+    {
+        &self.ports[..self.count]
+    }
+
+    // How it goes on with a port.
+    fn way_of<T: Turns>(&self, system: &System, turns: &T, p: usize, values: &[Option<i128>]) -> Way
+        requires sound { IsSound system.now }
+        requires holds { T.holds turns.now system.now }
+        requires port { p < length system.now.ports }
+        requires values { length values.now ≡ length system.now.ports }
+        requires few { self.now.count ≤ 64 }
+        ensures { IsWay system.now (T.rules turns.now system.now) self.now p values.now result }
+    {
+        let port = &system.ports.as_slice()[p];
+        if is_fed(self.as_slice(), port) {
+            return if turns.is_silent(system, p, values) {
+                Way::Skip
+            } else {
+                Way::Send
+            };
+        }
+        match turns.call_of(system, p, values) {
+            None => Way::Quiet,
+            Some(call) => self.way_of_call(port.component, call),
+        }
+    }
+
+    // How it goes on with a call to this FMU.
+    fn way_of_call(&self, component: CompId, call: Call) -> Way
+        ensures { IsWayOfCall self.now component call result }
+    {
+        match call.kind() {
+            Kind::Get | Kind::Set => {
+                if self.is_open(component, call.kind()) {
+                    Way::Wait(call.kind())
+                } else {
+                    Way::Send
+                }
+            }
+            _ => {
+                if self.count == 0 {
+                    Way::Ask(call)
+                } else {
+                    Way::Send
+                }
+            }
+        }
+    }
+}
+
+// Whether one of these feeds an input.
+fn is_fed(ports: &[u32], port: &Port) -> bool
+    ensures { result ≡ is_fed_by ports.now port.now.role }
+{
+    match port.role {
+        Role::Input { feed: Some(feed) } => has(ports, feed.from.0),
+        Role::Input { feed: None }
+        | Role::Output
+        | Role::ClockInput { .. }
+        | Role::ClockOutput
+        | Role::TimeClock { .. } => false,
+    }
+}
+
+fn has(ports: &[u32], p: u32) -> bool
+    ensures { result ≡ list_any (λ (x : ℕ). x == p) ports.now }
+{
+    ports.iter().any(|x| *x == p)
+}
+
+// Takes a port in its turn, whose call doesn't wait.
+fn take<L: Peer, T: Turns>(
+    slots: &mut [Slot<L>],
+    system: &System,
+    turns: &T,
+    values: &mut [Option<i128>],
+    p: usize,
+    call: Option<Call>,
+) -> Result<(), BadAnswer>
+    requires sound { IsSound system.now }
+    requires holds { T.holds turns.now system.now }
+    requires port { p < length system.now.ports }
+    requires shapes { shapes (instances L.view slots.old) ≡ shapes_of system.now }
+    requires there { All (λ (port : Port). port.component.0 < length system.now.components)
+        system.now.ports }
+    requires values { length values.old ≡ length system.now.ports }
+    requires live { All (LiveSlot L.view) slots.old }
+    requires call { (port : Port) (c : Component) → slice_get system.now.ports p ≡ Some port →
+        slice_get system.now.components port.component.0 ≡ Some c →
+        call ≡ (T.rules turns.now system.now).asks p port c values.old }
+    requires may { MayTurn system.now (T.rules turns.now system.now) p values.old
+        (instances L.view slots.old) }
+    ensures live { OnOk result (All (LiveSlot L.view) slots.new) }
+    ensures turn { TakesTurn system.now (T.rules turns.now system.now) p values.old values.new
+        (instances L.view slots.old) (instances L.view slots.new) result }
+{
+    let port = &system.ports.as_slice()[p];
+    match ask_if(&mut slots[port.component.0 as usize], call) {
+        Ok(reply) => {
+            values[p] = turns.value_of(system, p, values, values[p], &reply);
+            Ok(())
+        }
+        Err(why) => Err(BadAnswer {
+            component: port.component,
+            why,
+        }),
+    }
+}
+
+// What stands at the places of a run that has fewer calls than there is room.
+const NO_CALL: Call = Call::FreeInstance;
+
+const NO_REPLY: Reply = Reply::Refused {
+    kind: Kind::FreeInstance,
+    status: BadStatus::Fatal,
+};
+
+// Makes the calls of ports that have one.
+fn make_calls<T: Turns>(
+    system: &System,
+    turns: &T,
+    values: &[Option<i128>],
+    ports: &[u32],
+    calls: &mut [Call],
+)
+    requires sound { IsSound system.now }
+    requires holds { T.holds turns.now system.now }
+    requires values { length values.now ≡ length system.now.ports }
+    requires within { All (λ (p : ℕ). p < length system.now.ports) ports.now }
+    requires places { length calls.old ≡ length ports.now }
+    ensures { (made : List Call) →
+        map (call_in system.now (T.rules turns.now system.now) values.now) ports.now ≡
+        map (λ (c : Call). Some c) made → calls.new ≡ made }
+{
+    for i in 0..ports.len() {
+        calls[i] = turns
+            .call_of(system, ports[i] as usize, values)
+            .unwrap_or(NO_CALL);
+    }
+}
+
+// Writes the values that ports take with these replies.
+fn take_replied<T: Turns>(
+    system: &System,
+    turns: &T,
+    values: &mut [Option<i128>],
+    ports: &[u32],
+    replies: &[Reply],
+)
+    requires sound { IsSound system.now }
+    requires holds { T.holds turns.now system.now }
+    requires values { length values.old ≡ length system.now.ports }
+    requires within { All (λ (p : ℕ). p < length system.now.ports) ports.now }
+    requires places { length replies.now ≡ length ports.now }
+    ensures { values.new ≡ turned system.now (T.rules turns.now system.now) ports.now
+        (map (λ (r : Reply). Some r) replies.now) values.old }
+{
+    for i in 0..ports.len() {
+        let p = ports[i] as usize;
+        values[p] = turns.value_of(system, p, values, values[p], &Some(replies[i]));
+    }
+}
+
+// Writes the values that inputs take which are fed by one of these ports.
+fn take_fed<T: Turns>(
+    system: &System,
+    turns: &T,
+    values: &mut [Option<i128>],
+    ports: &[u32],
+    passed: &[PortId],
+)
+    requires sound { IsSound system.now }
+    requires holds { T.holds turns.now system.now }
+    requires values { length values.old ≡ length system.now.ports }
+    requires within { All (λ (p : PortId). p.0 < length system.now.ports) passed.now }
+    ensures { values.new ≡ turned system.now (T.rules turns.now system.now)
+        (filter (is_fed system.now ports.now) (numbers passed.now)) [] values.old }
+{
+    for k in 0..passed.len() {
+        let p = passed[k].0 as usize;
+        if is_fed(ports, &system.ports.as_slice()[p]) {
+            values[p] = turns.value_of(system, p, values, values[p], &None);
+        }
+    }
+}
+
+// Sends the calls that wait, of which there are as many as places, and writes the values that their ports take, and those
+// of the inputs that were passed since and are fed by them.
+fn send_run<L: Peer, T: Turns>(
+    slots: &mut [Slot<L>],
+    system: &System,
+    turns: &T,
+    order: &[PortId],
+    values: &mut [Option<i128>],
+    k: usize,
+    waiting: &Waiting,
+    calls: &mut [Call],
+    replies: &mut [Reply],
+) -> Result<(), BadAnswer>
+    requires sound { IsSound system.now }
+    requires holds { T.holds turns.now system.now }
+    requires live { All (LiveSlot L.view) slots.old }
+    requires some { 0 < waiting.now.count }
+    requires calls { length calls.old ≡ waiting.now.count }
+    requires replies { length replies.old ≡ waiting.now.count }
+    requires gathered { Gathered system.now (T.rules turns.now system.now) (numbers order.now) k
+        waiting.now values.old (instances L.view slots.old) }
+    ensures live { OnOk result (All (LiveSlot L.view) slots.new) }
+    ensures moves { Moves system.now (T.rules turns.now system.now) (numbers order.now)
+        (place k waiting.now values.old (instances L.view slots.old))
+        (place k (record waiting.now { count = 0 }) values.new (instances L.view slots.new))
+        result }
+{
+    let ports = waiting.as_slice();
+    make_calls(system, turns, values, ports, calls);
+    match send_many(&mut slots[waiting.component.0 as usize], calls, replies) {
+        Ok(()) => {
+            take_replied(system, turns, values, ports, replies);
+            take_fed(system, turns, values, ports, &order[waiting.since..k]);
+            Ok(())
+        }
+        Err(why) => Err(BadAnswer {
+            component: waiting.component,
+            why,
+        }),
+    }
+}
+
+// Sends several that wait, with room for as many as may wait: on its own, so that one alone pays nothing for that.
+#[inline(never)]
+fn send_several<L: Peer, T: Turns>(
+    slots: &mut [Slot<L>],
+    system: &System,
+    turns: &T,
+    order: &[PortId],
+    values: &mut [Option<i128>],
+    k: usize,
+    waiting: &Waiting,
+) -> Result<(), BadAnswer>
+    requires sound { IsSound system.now }
+    requires holds { T.holds turns.now system.now }
+    requires live { All (LiveSlot L.view) slots.old }
+    requires some { 0 < waiting.now.count }
+    requires gathered { Gathered system.now (T.rules turns.now system.now) (numbers order.now) k
+        waiting.now values.old (instances L.view slots.old) }
+    ensures live { OnOk result (All (LiveSlot L.view) slots.new) }
+    ensures moves { Moves system.now (T.rules turns.now system.now) (numbers order.now)
+        (place k waiting.now values.old (instances L.view slots.old))
+        (place k (record waiting.now { count = 0 }) values.new (instances L.view slots.new))
+        result }
+{
+    let mut calls = [NO_CALL; MOST];
+    let mut replies = [NO_REPLY; MOST];
+    send_run(
+        slots,
+        system,
+        turns,
+        order,
+        values,
+        k,
+        waiting,
+        &mut calls[..waiting.count],
+        &mut replies[..waiting.count],
+    )
+}
+
+// Sends what waits: one call with room for one, several with room for as many as may wait.
+fn send_all<L: Peer, T: Turns>(
+    slots: &mut [Slot<L>],
+    system: &System,
+    turns: &T,
+    order: &[PortId],
+    values: &mut [Option<i128>],
+    k: usize,
+    waiting: &Waiting,
+) -> Result<(), BadAnswer>
+    requires sound { IsSound system.now }
+    requires holds { T.holds turns.now system.now }
+    requires live { All (LiveSlot L.view) slots.old }
+    requires some { 0 < waiting.now.count }
+    requires gathered { Gathered system.now (T.rules turns.now system.now) (numbers order.now) k
+        waiting.now values.old (instances L.view slots.old) }
+    ensures live { OnOk result (All (LiveSlot L.view) slots.new) }
+    ensures moves { Moves system.now (T.rules turns.now system.now) (numbers order.now)
+        (place k waiting.now values.old (instances L.view slots.old))
+        (place k (record waiting.now { count = 0 }) values.new (instances L.view slots.new))
+        result }
+{
+    if waiting.count == 1 {
+        let mut calls = [NO_CALL];
+        let mut replies = [NO_REPLY];
+        return send_run(
+            slots,
+            system,
+            turns,
+            order,
+            values,
+            k,
+            waiting,
+            &mut calls,
+            &mut replies,
+        );
+    }
+    send_several(slots, system, turns, order, values, k, waiting)
+}
+
+// Sends what waits, if anything does.
+fn send_waiting<L: Peer, T: Turns>(
+    slots: &mut [Slot<L>],
+    system: &System,
+    turns: &T,
+    order: &[PortId],
+    values: &mut [Option<i128>],
+    k: usize,
+    waiting: &mut Waiting,
+) -> Result<(), BadAnswer>
+    requires sound { IsSound system.now }
+    requires holds { T.holds turns.now system.now }
+    requires live { All (LiveSlot L.view) slots.old }
+    requires gathered { Gathered system.now (T.rules turns.now system.now) (numbers order.now) k
+        waiting.old values.old (instances L.view slots.old) }
+    ensures none { OnOk result (waiting.new.count ≡ 0) }
+    ensures live { OnOk result (All (LiveSlot L.view) slots.new) }
+    ensures moves { Moves system.now (T.rules turns.now system.now) (numbers order.now)
+        (place k waiting.old values.old (instances L.view slots.old))
+        (place k waiting.new values.new (instances L.view slots.new))
+        result }
+{
+    if waiting.count == 0 {
+        return Ok(());
+    }
+    match send_all(slots, system, turns, order, values, k, waiting) {
+        Ok(()) => {
+            waiting.count = 0;
+            return Ok(());
+        }
+        Err(bad) => return Err(bad),
+    }
+}
+
+// Goes on with the port at a place of the order, before which nothing has to be sent.
+fn advance<L: Peer, T: Turns>(
+    slots: &mut [Slot<L>],
+    system: &System,
+    turns: &T,
+    order: &[PortId],
+    values: &mut [Option<i128>],
+    k: usize,
+    waiting: &mut Waiting,
+    way: Way,
+) -> Result<(), BadAnswer>
+    requires sound { IsSound system.now }
+    requires holds { T.holds turns.now system.now }
+    requires live { All (LiveSlot L.view) slots.old }
+    requires within { k < length order.now }
+    requires gathered { Gathered system.now (T.rules turns.now system.now) (numbers order.now) k
+        waiting.old values.old (instances L.view slots.old) }
+    requires way { (d : PortId) → IsWay system.now (T.rules turns.now system.now) waiting.old
+        (get_or order.now k d).0 values.old way }
+    requires ready { IsReady way }
+    ensures live { OnOk result (All (LiveSlot L.view) slots.new) }
+    ensures moves { Moves system.now (T.rules turns.now system.now) (numbers order.now)
+        (place k waiting.old values.old (instances L.view slots.old))
+        (place (k + 1) waiting.new values.new (instances L.view slots.new))
+        result }
+{
+    let number = order[k].0;
+    let p = number as usize;
+    match way {
+        Way::Send => unreachable!(),
+        Way::Skip => return Ok(()),
+        Way::Wait(kind) => {
+            let component = system.ports.as_slice()[p].component;
+            waiting.push(number, k, component, kind);
+            return Ok(());
+        }
+        Way::Quiet => {
+            values[p] = turns.value_of(system, p, values, values[p], &None);
+            return Ok(());
+        }
+        Way::Ask(call) => return take(slots, system, turns, values, p, Some(call)),
+    }
+}
+
+// Goes on with the port at a place of the order.
+fn go_on<L: Peer, T: Turns>(
+    slots: &mut [Slot<L>],
+    system: &System,
+    turns: &T,
+    order: &[PortId],
+    values: &mut [Option<i128>],
+    k: usize,
+    waiting: &mut Waiting,
+) -> Result<(), BadAnswer>
+    requires sound { IsSound system.now }
+    requires holds { T.holds turns.now system.now }
+    requires live { All (LiveSlot L.view) slots.old }
+    requires within { k < length order.now }
+    requires gathered { Gathered system.now (T.rules turns.now system.now) (numbers order.now) k
+        waiting.old values.old (instances L.view slots.old) }
+    ensures live { OnOk result (All (LiveSlot L.view) slots.new) }
+    ensures moves { Moves system.now (T.rules turns.now system.now) (numbers order.now)
+        (place k waiting.old values.old (instances L.view slots.old))
+        (place (k + 1) waiting.new values.new (instances L.view slots.new))
+        result }
+{
+    let p = order[k].0 as usize;
+    let way = waiting.way_of(system, turns, p, values);
+    match way {
+        Way::Send => match send_waiting(slots, system, turns, order, values, k, waiting) {
+            Ok(()) => {
+                let next = waiting.way_of(system, turns, p, values);
+                return advance(slots, system, turns, order, values, k, waiting, next);
+            }
+            Err(bad) => return Err(bad),
+        },
+        _ => return advance(slots, system, turns, order, values, k, waiting, way),
+    }
+}
+
+/// Takes the ports in an order, up to the first answer that isn't good. Each maximal run of calls that read outputs of one
+/// FMU, or set inputs of it, with no other call between them, is sent together, 64 at a time.
+pub(crate) fn walk<L: Peer, T: Turns>(
+    slots: &mut [Slot<L>],
+    system: &System,
+    turns: &T,
+    order: &[PortId],
+    values: &mut [Option<i128>],
+) -> Result<(), BadAnswer>
+    requires sound { IsSound system.now }
+    requires holds { T.holds turns.now system.now }
+    requires shapes { shapes (instances L.view slots.old) ≡ shapes_of system.now }
+    requires live { All (LiveSlot L.view) slots.old }
+    requires values { length values.old ≡ length system.now.ports }
+    requires fitting { AreFitting system.now values.old }
+    requires local { AreTurns system.now (T.rules turns.now system.now) }
+    requires order { StandsBehindReads system.now (numbers order.now) }
+    requires may { MayWalk system.now (T.rules turns.now system.now) values.old
+        (numbers order.now) (instances L.view slots.old) }
+    ensures live { OnOk result (All (LiveSlot L.view) slots.new) }
+    ensures goes { Goes system.now (T.rules turns.now system.now) values.old (numbers order.now)
+        values.new (instances L.view slots.old) (instances L.view slots.new) result }
+    ensures fitting { AreFitting system.now values.new }
+{
+    let mut waiting = Waiting::none();
+    for k in 0..order.len() {
+        match go_on(slots, system, turns, order, values, k, &mut waiting) {
+            Ok(()) => {}
+            Err(bad) => return Err(bad),
+        }
+    }
+    match send_waiting(
+        slots,
+        system,
+        turns,
+        order,
+        values,
+        order.len(),
+        &mut waiting,
+    ) {
+        Ok(()) => return Ok(()),
+        Err(bad) => return Err(bad),
+    }
+}

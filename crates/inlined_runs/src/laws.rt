@@ -1,0 +1,37 @@
+ghost use Rattle.inlined_runs.specs.Orders.{BehaveAlike, FixedOnce, TraceAlike};
+ghost use Rattle.inlined_runs.specs.Twins.{AreFoundAlike, RunAlike, TellAlike, ToldUnknown};
+
+use inlined_answers::inlined_answers;
+use run_model::{one_next, one_solution, one_trace, situation_laws};
+
+/// Laws: runs that differ in the orders of their ports alone have the same trace, and behave well together.
+pub fn orders_are_free()
+    ensures trace { TraceAlike }
+    ensures behaved { BehaveAlike }
+{}
+
+/// A law: where a run of machines ends before a step whose size a component can't take, that is at one point, and the
+/// component and the end of that step are the same.
+pub fn one_fixed_end()
+    ensures { FixedOnce }
+{
+    one_next();
+    one_solution();
+    situation_laws();
+}
+
+/// Laws over two calls of the program with the same words, the one over documents that stand in one another, the other over
+/// one document that says what they say together. Both are to find the same (`found`). Where both do, FMUs that behave
+/// well as the same machines give the same status, the same bytes on `out` and the same line on `err`, where nothing fails
+/// (`runs`); a model identifier that isn't known is told alike (`unknown`), and so is the size of a system (`sizes`).
+pub fn inlined_runs()
+    ensures found { AreFoundAlike }
+    ensures runs { RunAlike }
+    ensures unknown { ToldUnknown }
+    ensures sizes { TellAlike }
+{
+    inlined_answers();
+    one_trace();
+    orders_are_free();
+    one_fixed_end();
+}

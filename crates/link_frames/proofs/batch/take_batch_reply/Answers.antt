@@ -1,0 +1,12 @@
+use Rattle.link_frames.specs.declared.batch.Side.TheVariants.{Replies}
+use Rattle.link_frames.specs.Batch.{BatchParts, IsReplyBatch}
+use Rattle.link_frames.proofs.BatchLemmas.{replies_same, replies_single}
+use Rattle.link_frames.proofs.MapLemmas.{same_takes}
+use Rattle.link_frames.proofs.TakingLemmas.{only_one}
+use Rattle.link_frames.proofs.batch.take_batch_reply.Goals as goal
+
+pub returns-clause-taken : goal.returns-clause-taken
+returns-clause-taken c = same_takes (BatchParts Replies) IsReplyBatch replies_same c.args.bytes.now c.take_parts.result c.take_parts.ensures
+
+pub returns-clause-only : goal.returns-clause-only
+returns-clause-only c = λ other h. only_one IsReplyBatch replies_single c.args.bytes.now c.take_parts.result other (returns-clause-taken c) h
