@@ -7,9 +7,9 @@ use Rattle.fmi_calls.specs.declared.call.Reply.{Reply}
 use Rattle.fmu_peer.proofs.ManyLemmas.{a_reply}
 use Rattle.link_frames.specs.Batch.{IsBatch, IsReplyBatch, kind_of_first, kind_of_first_reply}
 use Rattle.link_frames.specs.Reply.{IsReplyFrame}
-use Rattle.link_frames.specs.Taking.{Gets, Takes}
-use Rattle.link_frames.specs.declared.taken.Taken.{Taken}
-use Rattle.link_frames.specs.declared.taken.Taken.TheVariants.{Bad, Got, NeedMore}
+use Rattle.exact_parts.specs.Taking.{Gets, Takes}
+use Rattle.exact_parts.specs.declared.taken.Taken.{Taken}
+use Rattle.exact_parts.specs.declared.taken.Taken.TheVariants.{Bad, Got, NeedMore}
 use Rattle.link_frames.proofs.CallerLemmas.{one_reply_batch, reply_batch_long, reply_items_stand, reply_single}
 use Rattle.fmu_link.proofs.FrameLemmas.{no_reply, reply_length, whole_reply}
 use Rattle.fmu_link.specs.Batches.{FallsShort, IsItem, IsNoAnswer, MayAnswer, TellsFirst}

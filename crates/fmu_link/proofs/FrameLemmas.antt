@@ -4,9 +4,9 @@ use Rattle.std.proofs.lemmas.Grind.{common_steps}
 use Rattle.std.proofs.lemmas.List.{take_all}
 use Rattle.fmi_calls.specs.declared.call.Reply.{Reply}
 use Rattle.link_frames.specs.Reply.{IsReplyFrame, head_of_reply}
-use Rattle.link_frames.specs.Taking.{Gets, Takes}
-use Rattle.link_frames.specs.declared.taken.Taken.{Taken}
-use Rattle.link_frames.specs.declared.taken.Taken.TheVariants.{Got, NeedMore, Bad}
+use Rattle.exact_parts.specs.Taking.{Gets, Takes}
+use Rattle.exact_parts.specs.declared.taken.Taken.{Taken}
+use Rattle.exact_parts.specs.declared.taken.Taken.TheVariants.{Got, NeedMore, Bad}
 use Rattle.link_frames.proofs.CallerLemmas.{head_length}
 use Rattle.fmu_link.specs.Exchange.{IsNoReply}
 

@@ -12,9 +12,10 @@ ghost use Rattle.fmu_link.specs.Piped.{line_of, view_of};
 ghost use Rattle.fmu_link.specs.Wire.{WireView};
 
 use crate::{Instance, Wire, WireFault};
+use exact_parts::Taken;
 use fmi_calls::{Call, Grade, Reply, grade, next_phase};
 use fmu_peer::PeerFault;
-use link_frames::{Taken, batch_count, batch_len, put_batch, take_batch_reply, take_reply};
+use link_frames::{batch_count, batch_len, put_batch, take_batch_reply, take_reply};
 
 // The bytes of the longest batch.
 const MOST_BYTES: usize = 24 * 65;

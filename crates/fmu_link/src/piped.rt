@@ -7,9 +7,10 @@ ghost use Rattle.fmu_link.specs.Exchange.{Arrives, Breaks, NotesCall, Says};
 
 use crate::batches::call_batch;
 use crate::{Instance, Wire, WireFault};
+use exact_parts::Taken;
 use fmi_calls::{Call, Content, Grade, Phase, Reply, grade, next_phase};
 use fmu_peer::{Peer, PeerFault};
-use link_frames::{Taken, put_call, take_reply};
+use link_frames::{put_call, take_reply};
 use std::alloc::Global;
 use thiserror::Error;
 use value_types::Shape;

@@ -10,7 +10,7 @@ use Rattle.link_frames.specs.declared.call.CallFrame.{CallFrame}
 use Rattle.link_frames.specs.Batch.{IsCallBatch, IsHeadOf, batch_head}
 use Rattle.link_frames.specs.Call.{IsCallFrame}
 use Rattle.link_frames.specs.Head.{spelling}
-use Rattle.link_frames.specs.Taking.{Breaks, Gets, IsFront}
+use Rattle.exact_parts.specs.Taking.{Breaks, Gets, IsFront}
 use Rattle.link_frames.proofs.CallerLemmas.{call_batch_long, call_begins, call_single, head_length, head_tells}
 use Rattle.host_serving.specs.Frames.{IsLinkFrame, IsNoFrame, IsRoom, Takes, TakesBatch, TakesCall}
 use Rattle.host_serving.proofs.FrameLemmas.{takes_more, written_behind}

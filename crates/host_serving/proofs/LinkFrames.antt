@@ -6,9 +6,9 @@ use Rattle.link_frames.specs.declared.call.CallFrame.{CallFrame}
 use Rattle.fmi_calls.specs.declared.call.Call.{Call}
 use Rattle.link_frames.specs.Batch.{IsCallBatch, batch_head}
 use Rattle.link_frames.specs.Call.{IsCallFrame}
-use Rattle.link_frames.specs.declared.taken.Taken.{Taken}
-use Rattle.link_frames.specs.declared.taken.Taken.TheVariants.{Got, NeedMore, Bad}
-use Rattle.link_frames.specs.Taking.{AreSingle, Breaks, Gets, IsFront}
+use Rattle.exact_parts.specs.declared.taken.Taken.{Taken}
+use Rattle.exact_parts.specs.declared.taken.Taken.TheVariants.{Got, NeedMore, Bad}
+use Rattle.exact_parts.specs.Taking.{AreSingle, Breaks, Gets, IsFront}
 use Rattle.link_frames.specs.Head.{spelling}
 use Rattle.link_frames.proofs.CallerLemmas.{batch_begins, call_batches_apart, call_begins, call_single, calls_single, head_length, one_call_batch}
 use Rattle.host_serving.specs.Frames.{IsBatchOfCalls, IsLinkFrame}

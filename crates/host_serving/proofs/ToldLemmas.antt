@@ -11,11 +11,11 @@ use Rattle.fmi_calls.specs.declared.call.Call.{Call}
 use Rattle.fmi_calls.specs.declared.call.Call.TheVariants as C
 use Rattle.fmi_calls.specs.declared.call.Reply.{Reply}
 use Rattle.fmi_calls.specs.declared.phase.Phase.{Phase}
-use Rattle.link_frames.specs.Taking.{Begins, Breaks, Gets, IsFront}
+use Rattle.exact_parts.specs.Taking.{Begins, Breaks, Gets, IsFront}
 use Rattle.link_frames.specs.declared.call.CallFrame.{CallFrame}
-use Rattle.link_frames.specs.declared.taken.Taken.{Taken}
-use Rattle.link_frames.specs.declared.taken.Taken.TheVariants.{Got, NeedMore, Bad}
-use Rattle.link_frames.proofs.CallerLemmas.{only_one}
+use Rattle.exact_parts.specs.declared.taken.Taken.{Taken}
+use Rattle.exact_parts.specs.declared.taken.Taken.TheVariants.{Got, NeedMore, Bad}
+use Rattle.exact_parts.proofs.CallerLemmas.{only_one}
 use Rattle.link_frames.specs.Reply.{frame_of}
 use Rattle.fmu_peer.specs.Machine.{Machine, MachineState, after}
 use Rattle.fmu_peer.specs.Many.{exchanges}

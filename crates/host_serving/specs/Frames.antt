@@ -9,7 +9,7 @@ use Rattle.fmi_calls.specs.declared.call.Call.{Call}
 use Rattle.link_frames.specs.declared.call.CallFrame.{CallFrame}
 use Rattle.link_frames.specs.Batch.{IsBatch, IsCallBatch}
 use Rattle.link_frames.specs.Call.{IsCallFrame}
-use Rattle.link_frames.specs.Taking.{Breaks, IsFront}
+use Rattle.exact_parts.specs.Taking.{Breaks, IsFront}
 use Rattle.host_serving.specs.declared.reading.NextFrame.{NextFrame}
 use Rattle.host_serving.specs.declared.reading.NextFrame.TheVariants.{Came, Batch, AtEnd, Bad, Failed, Memory}
 

@@ -10,7 +10,7 @@ use Rattle.fmi_calls.specs.declared.call.Reply.{Reply}
 use Rattle.fmi_calls.specs.declared.phase.Phase.{Phase}
 use Rattle.link_frames.specs.Call.{IsCallFrame}
 use Rattle.link_frames.specs.Reply.{frame_of}
-use Rattle.link_frames.specs.Taking.{Breaks, IsFront}
+use Rattle.exact_parts.specs.Taking.{Breaks, IsFront}
 use Rattle.link_frames.specs.declared.call.CallFrame.{CallFrame}
 use Rattle.fmu_peer.specs.Machine.{Machine, MachineState, after}
 use Rattle.host_serving.specs.declared.serving.ServeEnd.{ServeEnd}

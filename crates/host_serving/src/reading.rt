@@ -6,12 +6,13 @@ ghost use Rattle.sim_base.specs.Causes.{Rose};
 ghost use Rattle.sim_base.specs.Source.{SourceView};
 ghost use Rattle.link_frames.specs.Batch.{IsHeadOf};
 ghost use Rattle.link_frames.specs.Call.{IsCallFrame};
-ghost use Rattle.link_frames.specs.Taking.{IsFront};
+ghost use Rattle.exact_parts.specs.Taking.{IsFront};
 ghost use Rattle.link_frames.specs.declared.call.CallFrame.{CallFrame as FrameSpec};
 ghost use Rattle.host_serving.specs.Frames.{ComesTo, IsItem, IsRoom, Takes, eight_at};
 
+use exact_parts::Taken;
 use fmi_calls::Call;
-use link_frames::{CallFrame, Taken, batch_count, batch_len, take_batch, take_call};
+use link_frames::{CallFrame, batch_count, batch_len, take_batch, take_call};
 use sim_base::{Source, SourceFault};
 use std::alloc::{AllocError, Global};
 

@@ -4,17 +4,17 @@ use Rattle.std.specs.Prelude.{slice_index}
 use Rattle.std.proofs.lemmas.Grind.{common_steps}
 use Rattle.std.proofs.lemmas.List.{length-take-le, take-take, take_all, take_at}
 use Rattle.link_frames.specs.declared.layout.Form.TheVariants.{OfBatch}
-use Rattle.link_frames.specs.declared.taken.Taken.{Taken}
-use Rattle.link_frames.specs.declared.taken.Taken.TheVariants.{Got, NeedMore, Bad}
+use Rattle.exact_parts.specs.declared.taken.Taken.{Taken}
+use Rattle.exact_parts.specs.declared.taken.Taken.TheVariants.{Got, NeedMore, Bad}
 use Rattle.link_frames.specs.Batch.{IsHeadOf, IsReplyBatch, batch_head}
 use Rattle.link_frames.specs.Head.{numbers_of, spelling}
 use Rattle.link_frames.specs.Numbers.{Reads}
-use Rattle.link_frames.specs.Taking.{Gets, Takes}
+use Rattle.exact_parts.specs.Taking.{Gets, Takes}
 use Rattle.link_frames.proofs.BatchLaws.{reply_batch_long}
 use Rattle.link_frames.proofs.BatchLemmas.{batch_reads, headed}
 use Rattle.link_frames.proofs.HeadLemmas.{head_length}
 use Rattle.link_frames.proofs.NumbersLemmas.{reads_single}
-use Rattle.link_frames.proofs.TakingLemmas.{only_one}
+use Rattle.exact_parts.proofs.CallerLemmas.{only_one}
 
 -- numbers of a head that are read from them are all of them
 pub head_taken : (bytes ns : List ℕ) (n : ℕ) → length bytes ≡ 24 → Gets (Reads OfBatch 7 []) bytes ns n → IsHeadOf (slice_index ns 4) bytes

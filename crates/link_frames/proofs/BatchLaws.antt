@@ -17,7 +17,7 @@ use Rattle.link_frames.specs.Batch.{AreApart, AreFrames, IsBatch, IsBatchOf, IsC
 use Rattle.link_frames.specs.Call.{IsCallFrame, bytes_at, head_of_call, sent}
 use Rattle.link_frames.specs.Head.{spelling}
 use Rattle.link_frames.specs.Reply.{IsReplyFrame, head_of_reply}
-use Rattle.link_frames.specs.Taking.{AreSingle}
+use Rattle.exact_parts.specs.Taking.{AreSingle}
 use Rattle.link_frames.proofs.BatchLemmas.{calls_single, replies_single}
 use Rattle.link_frames.proofs.CallLemmas.{call_single, frame_length}
 use Rattle.link_frames.proofs.HeadLemmas.{head_length, number_in}

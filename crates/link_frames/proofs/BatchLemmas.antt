@@ -12,7 +12,7 @@ use Rattle.fmi_calls.specs.declared.call.Reply.{Reply}
 use Rattle.link_frames.specs.declared.batch.Side.{Side}
 use Rattle.link_frames.specs.declared.batch.Side.TheVariants.{Calls, Replies}
 use Rattle.link_frames.specs.declared.call.CallFrame.{CallFrame}
-use Rattle.link_frames.specs.declared.field.Spans.{Spans}
+use Rattle.exact_parts.specs.declared.field.Spans.{Spans}
 use Rattle.link_frames.specs.declared.head.Head.{Head}
 use Rattle.link_frames.specs.declared.layout.Form.{Form}
 use Rattle.link_frames.specs.declared.layout.Form.TheVariants.{OfCall, OfReply, OfBatch, CallItem, ReplyItem}
@@ -20,16 +20,15 @@ use Rattle.link_frames.specs.declared.layout.Items.{Items}
 use Rattle.link_frames.specs.declared.layout.Items.TheVariants.{Either, Gets, Sets}
 use Rattle.link_frames.specs.Batch.{AreFrames, BatchParts, CountOf, FirstOf, IsBatch, IsBatchOf, IsCallBatch, IsReplyBatch, ItemsOf, batch_head, item_form, items_at}
 use Rattle.link_frames.specs.Call.{IsCallFrame, TextsOf, call_at, call_by, frame_at, name_len, text_len, token_len}
-use Rattle.link_frames.specs.Field.{Field, InSpans}
+use Rattle.exact_parts.specs.Field.{Field, InSpans}
 use Rattle.link_frames.specs.Head.{head, numbers_of, spelling}
 use Rattle.link_frames.specs.Layout.{between, kind_at, kinds_of, kinds_of_items}
 use Rattle.link_frames.specs.Numbers.{Reads}
 use Rattle.link_frames.specs.Reply.{IsReplyFrame, content_at, reply_at, reply_by, bad_status_at}
-use Rattle.link_frames.specs.Taking.{AreSingle}
-use Rattle.link_frames.proofs.BehindLemmas.{Followed, behind_single}
+use Rattle.exact_parts.specs.Taking.{AreSingle}
+use Rattle.exact_parts.proofs.CallerLemmas.{Followed, Same, behind_single, made_single}
 use Rattle.link_frames.proofs.CallLemmas.{call_same}
 use Rattle.link_frames.proofs.HeadLemmas.{IsKindNumber, in_between, in_zero, is_between, is_zero, head_reads, kind_again, kinds_in, read_head}
-use Rattle.link_frames.proofs.MapLemmas.{Same, made_single}
 use Rattle.link_frames.proofs.NumbersLemmas.{filled_7, reads_single}
 use Rattle.link_frames.proofs.ReplyLemmas.{reply_same}
 

@@ -16,16 +16,15 @@ use Rattle.link_frames.specs.declared.call.CallFrame.{CallFrame}
 use Rattle.link_frames.specs.declared.head.Head.{Head}
 use Rattle.link_frames.specs.declared.layout.Form.TheVariants.{OfCall}
 use Rattle.link_frames.specs.Call.{CanBeSent, IsFrameOf, bytes_at, IsCallFrame, IsCallNumbers, PartsOf, TextsOf, TokenOf, call_at, call_by, detail_of, first_of, frame_at, frame_with, head_of_call, last_of, name_len, range, reference_of, sent, text_len, token_len, value_at}
-use Rattle.link_frames.specs.Field.{InSpans}
+use Rattle.exact_parts.specs.Field.{InSpans}
 use Rattle.link_frames.specs.Head.{InRange, flag, head, numbers_of, spelling}
 use Rattle.link_frames.specs.Layout.{any_reference, between, kind_at, text_max, type_at, words}
 use Rattle.link_frames.specs.Numbers.{Reads}
-use Rattle.link_frames.specs.Taking.{AreSingle}
+use Rattle.exact_parts.specs.Taking.{AreSingle}
 use Rattle.link_frames.specs.Text.{IsText}
-use Rattle.link_frames.proofs.BehindLemmas.{Followed, behind_single}
+use Rattle.exact_parts.proofs.CallerLemmas.{Followed, Same, behind_single, made_single}
 use Rattle.link_frames.proofs.HeadLemmas.{Allowed, IsHead, head_length, head_reads, head_same, in_any, in_between, in_kinds, in_zero, is_between, is_zero, kind_again, kind_small, kinds_in, number_in, read_head}
 use Rattle.link_frames.proofs.HeadLemmas as heads
-use Rattle.link_frames.proofs.MapLemmas.{Same, made_single}
 use Rattle.link_frames.proofs.NumbersLemmas.{reads_single}
 use Rattle.link_frames.proofs.TextLemmas.{fill_is_text, text_single}
 use Rattle.link_frames.proofs.WordLemmas as types

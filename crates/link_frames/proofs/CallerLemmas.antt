@@ -5,4 +5,3 @@ pub use Rattle.link_frames.proofs.BatchLemmas.{calls_single, replies_single}
 pub use Rattle.link_frames.proofs.CallLemmas.{call_single}
 pub use Rattle.link_frames.proofs.HeadLemmas.{head_length}
 pub use Rattle.link_frames.proofs.ReplyLemmas.{reply_single}
-pub use Rattle.link_frames.proofs.TakingLemmas.{only_one}

@@ -1,15 +1,14 @@
 -- The numbers that a frame begins with, read one behind another.
 use Rattle.std.proofs.Common.{◌≡◌, ℕ, zero, suc, ◌+◌, ◌-◌, ◌<◌, List, [], ◌∷◌, ◌++◌, length, take, drop, set, refl, sym, ap, subst, ◌∙◌, arith}
 use Rattle.std.proofs.lemmas.List.{length-append, length-take, take_more_set}
-use Rattle.link_frames.specs.declared.field.Spans.{Spans}
+use Rattle.exact_parts.specs.declared.field.Spans.{Spans}
 use Rattle.link_frames.specs.declared.layout.Form.{Form}
-use Rattle.link_frames.specs.declared.taken.Taken.{Taken}
-use Rattle.link_frames.specs.Field.{Field, IsSane}
+use Rattle.exact_parts.specs.declared.taken.Taken.{Taken}
+use Rattle.exact_parts.specs.Field.{Field, IsSane}
 use Rattle.link_frames.specs.Layout.{size_at, spans_at}
 use Rattle.link_frames.specs.Numbers.{Reads}
-use Rattle.link_frames.specs.Taking.{AreSingle, Behind, Breaks, Gets, IsFront, Takes, moved}
-use Rattle.link_frames.proofs.FieldLemmas.{field_single, field_filled}
-use Rattle.link_frames.proofs.BehindLemmas.{Followed, behind_single, first_bad, first_more, next_takes}
+use Rattle.exact_parts.specs.Taking.{AreSingle, Behind, Breaks, Gets, IsFront, Takes, moved}
+use Rattle.exact_parts.proofs.CallerLemmas.{Followed, behind_single, field_filled, field_single, first_bad, first_more, next_takes}
 use Rattle.link_frames.proofs.RowLemmas.{spans_sane}
 
 none_single : (before : List ℕ) → AreSingle (λ (all bytes : List ℕ). (all ≡ before) × (bytes ≡ []))

@@ -13,14 +13,14 @@ use Rattle.fmi_calls.specs.declared.call.Reply.{Reply}
 use Rattle.fmi_calls.specs.declared.call.Reply.TheVariants.{Done, Refused}
 use Rattle.link_frames.specs.declared.head.Head.{Head}
 use Rattle.link_frames.specs.declared.layout.Form.TheVariants.{OfReply}
-use Rattle.link_frames.specs.Field.{InSpans}
+use Rattle.exact_parts.specs.Field.{InSpans}
 use Rattle.link_frames.specs.Head.{InRange, flag, head, numbers_of, spelling}
 use Rattle.link_frames.specs.Layout.{between, done_row, kind_at}
 use Rattle.link_frames.specs.Numbers.{Reads}
 use Rattle.link_frames.specs.Reply.{IsReplyFrame, bad_number, content_at, first_of, flags_of, head_of_content, head_of_reply, last_of, qualifier_of, reply_at, reply_by}
-use Rattle.link_frames.specs.Taking.{AreSingle}
+use Rattle.exact_parts.specs.Taking.{AreSingle}
 use Rattle.link_frames.proofs.HeadLemmas.{Allowed, IsHead, head_reads, head_same, in_any, in_between, in_kinds, in_zero, is_between, is_zero, kind_again, kind_small, kinds_in, number_again, number_in, read_head}
-use Rattle.link_frames.proofs.MapLemmas.{Same, made_single}
+use Rattle.exact_parts.proofs.CallerLemmas.{Same, made_single}
 use Rattle.link_frames.proofs.NumbersLemmas.{reads_single}
 
 -- ---- a reply is that of its numbers

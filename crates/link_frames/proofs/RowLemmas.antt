@@ -5,13 +5,13 @@ use Rattle.fmi_calls.specs.declared.call.Kind.{Kind}
 use Rattle.fmi_calls.specs.declared.call.Kind.TheVariants as K
 use Rattle.value_types.specs.declared.values.PortType.{PortType}
 use Rattle.value_types.specs.declared.values.PortType.TheVariants.{Int8, UInt8, Int16, UInt16, Int32, UInt32, Int64, UInt64, Boolean, Enumeration, Clock}
-use Rattle.link_frames.specs.declared.field.Spans.{Spans}
+use Rattle.exact_parts.specs.declared.field.Spans.{Spans}
 use Rattle.link_frames.specs.declared.layout.Form.{Form}
 use Rattle.link_frames.specs.declared.layout.Form.TheVariants.{OfCall, OfReply, OfBatch, CallItem, ReplyItem}
 use Rattle.link_frames.specs.declared.layout.Items.{Items}
 use Rattle.link_frames.specs.declared.layout.Items.TheVariants.{Either, Gets, Sets}
 use Rattle.link_frames.specs.declared.layout.Row.{Row}
-use Rattle.link_frames.specs.Field.{IsSane}
+use Rattle.exact_parts.specs.Field.{IsSane}
 use Rattle.link_frames.specs.Layout.{any, between, call_row, done_row, kind_at, kinds_of, kinds_of_items, of_clock, plain_call, plain_reply, row, row_by, row_of, size_at, spans_at, status_span, text_max, type_at, words, zero_only}
 
 record IsSaneRow (row : Row) : Type 0 where

@@ -9,9 +9,9 @@ use Rattle.std.proofs.lemmas.List.{length-replicate, length-take, length-drop, t
 use Rattle.std.proofs.lemmas.Bool.{ne_eqb}
 use Rattle.std.proofs.lemmas.Option.{same_Some}
 use Rattle.std.proofs.lemmas.Bool.Decides.{nat_tests, leb_tells}
-use Rattle.link_frames.specs.Taking.{AreSingle, Begins, Breaks, IsFront}
+use Rattle.exact_parts.specs.Taking.{AreSingle, Begins, Breaks, IsFront}
 use Rattle.link_frames.specs.Text.{IsText, has_room}
-use Rattle.link_frames.proofs.ListLemmas.{cut}
+use Rattle.exact_parts.proofs.CallerLemmas.{cut}
 use Rattle.link_frames.proofs.CharLemmas.{ltb_false, second_ok, later_ok, one_byte, two_bytes, three_bytes, four_bytes, char_front}
 
 -- ---- text that fills

@@ -4,7 +4,7 @@ use Rattle.std.specs.Int.{w64, cast_signed}
 use Rattle.std.specs.Prelude.{FitsSigned, int_le, ◌≤ℤ◌}
 use Rattle.std.proofs.lemmas.Bool.{cases_lt}
 use Rattle.std.proofs.lemmas.Int.{ints, to_z-of_z}
-use Rattle.link_frames.specs.Field.{InSpans}
+use Rattle.exact_parts.specs.Field.{InSpans}
 use Rattle.link_frames.specs.Layout.{type_at, type_number, words}
 use Rattle.link_frames.specs.Call.{value_at}
 use Rattle.link_frames.proofs.HeadLemmas.{is_between, IsBetween}

@@ -17,7 +17,7 @@ use Rattle.link_frames.specs.Call.{CanBeSent, IsCallFrame, frame_with}
 use Rattle.link_frames.specs.Head.{head, spelling}
 use Rattle.link_frames.specs.Numbers.{Reads}
 use Rattle.link_frames.specs.Reply.{IsReplyFrame}
-use Rattle.link_frames.specs.Taking.{Behind}
+use Rattle.exact_parts.specs.Taking.{Behind}
 
 -- the head of a batch of so many: kind 19, and the number where a call has its reference and a reply its qualifier
 abbrev pub batch_head : ℕ → Head

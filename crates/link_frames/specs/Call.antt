@@ -17,7 +17,7 @@ use Rattle.link_frames.specs.declared.layout.Form.TheVariants.{OfCall}
 use Rattle.link_frames.specs.Head.{InRange, flag, head, spelling}
 use Rattle.link_frames.specs.Layout.{kind_at, text_max, type_at, type_number}
 use Rattle.link_frames.specs.Numbers.{Reads}
-use Rattle.link_frames.specs.Taking.{Behind}
+use Rattle.exact_parts.specs.Taking.{Behind}
 use Rattle.link_frames.specs.Text.{IsText}
 
 -- ---- from a call to its numbers

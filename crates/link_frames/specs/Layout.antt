@@ -6,7 +6,7 @@ use Rattle.fmi_calls.specs.declared.call.Kind.{Kind}
 use Rattle.fmi_calls.specs.declared.call.Kind.TheVariants as K
 use Rattle.value_types.specs.declared.values.PortType.{PortType}
 use Rattle.value_types.specs.declared.values.PortType.TheVariants.{Int8, UInt8, Int16, UInt16, Int32, UInt32, Int64, UInt64, Boolean, Enumeration, Clock}
-use Rattle.link_frames.specs.declared.field.Spans.{Spans}
+use Rattle.exact_parts.specs.declared.field.Spans.{Spans}
 use Rattle.link_frames.specs.declared.layout.Form.{Form}
 use Rattle.link_frames.specs.declared.layout.Form.TheVariants.{OfCall, OfReply, OfBatch, CallItem, ReplyItem}
 use Rattle.link_frames.specs.declared.layout.Items.{Items}

@@ -1,5 +1,3 @@
-pub mod Taking
-pub mod Field
 pub mod Layout
 pub mod Numbers
 pub mod Head

@@ -4,18 +4,17 @@ ghost use Rattle.fmi_calls.specs.declared.call.Kind.TheVariants as K;
 ghost use Rattle.link_frames.specs.Call.{CanBeSent, IsCallFrame, IsFrameOf};
 ghost use Rattle.link_frames.specs.declared.call.CallFrame.{CallFrame as CallFrameSpec};
 ghost use Rattle.link_frames.specs.Batch.{BatchParts, CanAnswer, CanBeBatched, CountOf, IsHeadOf, batch_head, IsBatch, frames_of, FirstOf, IsCallBatch, IsReplyBatch, ItemsOf, item_form, items_at};
-ghost use Rattle.link_frames.specs.Taking.{Takes};
+ghost use Rattle.exact_parts.specs.Taking.{Takes};
 ghost use Rattle.link_frames.specs.Head.{spelling};
 ghost use Rattle.link_frames.specs.Reply.{IsReplyFrame};
-ghost use Rattle.link_frames.specs.declared.taken.Taken.{Taken as TakenSpec};
+ghost use Rattle.exact_parts.specs.declared.taken.Taken.{Taken as TakenSpec};
 
-use crate::Taken;
 use crate::call::{put_at, put_call};
 use crate::head::{Head, spell};
 use crate::layout::{Form, Items};
 use crate::numbers::{Numbers, take_numbers};
 use crate::reply::put_reply;
-use crate::taken::behind;
+use exact_parts::{Taken, behind};
 use fmi_calls::{Call, Reply};
 
 /// Whether a batch is one of calls or one of replies.

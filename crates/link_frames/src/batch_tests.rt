@@ -1,7 +1,7 @@
 use crate::{
-    Taken, batch_count, put_batch, put_batch_reply, take_batch, take_batch_reply, take_call,
-    take_reply,
+    batch_count, put_batch, put_batch_reply, take_batch, take_batch_reply, take_call, take_reply,
 };
+use exact_parts::Taken;
 use fmi_calls::{BadStatus, Call, Content, Kind, Reply};
 use std::process::Abort;
 use value_types::PortType;

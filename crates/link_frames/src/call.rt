@@ -1,14 +1,13 @@
 ghost use Rattle.std.specs.Prelude.{◌≡◌, ◌≤◌, ◌<◌, ◌+◌, ◌^◌, ◌++◌, ℕ, take, drop, length, slice_index, IsTrue, ◌↔◌};
 ghost use Rattle.link_frames.specs.Call.{CanBeSent, IsCallFrame, IsCallNumbers, IsFrameOf, TextsOf, TokenOf, call_at, frame_at, head_of_call, name_len, sent, text_len, token_len, value_at};
-ghost use Rattle.link_frames.specs.Taking.{Takes};
-ghost use Rattle.link_frames.specs.declared.taken.Taken.{Taken as TakenSpec};
+ghost use Rattle.exact_parts.specs.Taking.{Takes};
+ghost use Rattle.exact_parts.specs.declared.taken.Taken.{Taken as TakenSpec};
 
-use crate::Taken;
 use crate::head::{Head, spell};
 use crate::layout::{Form, kind_at, type_at, type_number};
 use crate::numbers::{Numbers, take_numbers};
-use crate::taken::behind;
 use crate::text::take_text;
+use exact_parts::{Taken, behind};
 use fmi_calls::{Call, Kind};
 use std::ops::Range;
 use value_types::{PortType, fits, from_word, to_word};

@@ -6,7 +6,7 @@ ghost use Rattle.link_frames.specs.Batch.{AreApart, IsCallBatch, IsReplyBatch, I
 ghost use Rattle.link_frames.specs.declared.call.CallFrame.{CallFrame};
 ghost use Rattle.link_frames.specs.Call.{IsCallFrame, IsFrameOf, frame_with, sent};
 ghost use Rattle.link_frames.specs.Reply.{IsReplyFrame};
-ghost use Rattle.link_frames.specs.Taking.{AreSingle};
+ghost use Rattle.exact_parts.specs.Taking.{AreSingle};
 
 /// Laws of frames: no frame is a proper front of another and each is of one value, each value has one frame, these are
 /// their lengths, and what is put for a call is what is taken.

@@ -1,7 +1,7 @@
 ghost use Rattle.std.specs.Prelude.{◌≡◌, ◌<◌, slice_index};
 ghost use Rattle.link_frames.specs.Layout.{any, any_reference, around_zero, batch_row, between, call_row, done_row, interval_row, kind_at, kinds_of, kinds_of_items, of_clock, plain_call, plain_reply, reply_row, row_of, size_at, spans_at, text_max, type_at, type_number, words, zero_only};
 
-use crate::field::{Span, Spans};
+use exact_parts::{Span, Spans};
 use fmi_calls::Kind;
 use value_types::PortType;
 
@@ -112,7 +112,8 @@ fn between(low: u64, high: u64) -> Spans
     }
 }
 
-fn zero_only() -> Spans
+/// 0 alone.
+pub(crate) fn zero_only() -> Spans
     ensures { result ≡ zero_only }
 {
     between(0, 0)
@@ -313,8 +314,8 @@ fn kinds_of_items(items: Items) -> Spans
     }
 }
 
-// The numbers of the kinds that a frame of the form may have.
-fn kinds_of(form: Form) -> Spans
+/// The numbers of the kinds that a frame of the form may have.
+pub(crate) fn kinds_of(form: Form) -> Spans
     ensures { result ≡ kinds_of form }
 {
     match form {
@@ -330,7 +331,8 @@ fn number_at(before: &[u64], place: usize) -> u64
     before.get(place).copied().unwrap_or(0)
 }
 
-fn row_of(form: Form, before: &[u64]) -> Row
+/// The row for these numbers, of which the first is the kind.
+pub(crate) fn row_of(form: Form, before: &[u64]) -> Row
     ensures { result ≡ row_of form before.now }
 {
     let kind = kind_at(number_at(before, 0));

@@ -5,13 +5,11 @@ mod batch;
 #[cfg(test)]
 mod batch_tests;
 mod call;
-mod field;
 mod head;
 mod laws;
 mod layout;
 mod numbers;
 mod reply;
-mod taken;
 mod text;
 
 pub use batch::{
@@ -20,4 +18,3 @@ pub use batch::{
 pub use call::{CallFrame, can_be_sent, frame_len, put_call, take_call};
 pub use laws::{batch_laws, frame_laws};
 pub use reply::{put_reply, take_reply};
-pub use taken::Taken;

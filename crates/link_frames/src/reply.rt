@@ -1,14 +1,14 @@
 ghost use Rattle.std.specs.Prelude.{◌≡◌};
 ghost use Rattle.link_frames.specs.Head.{spelling};
 ghost use Rattle.link_frames.specs.Reply.{IsReplyFrame, bad_number, bad_status_at, content_at, fraction_at, head_of_content, head_of_reply, interval_at, reply_at, with_interval};
-ghost use Rattle.link_frames.specs.Taking.{Takes};
-ghost use Rattle.link_frames.specs.declared.taken.Taken.{Taken as TakenSpec};
+ghost use Rattle.exact_parts.specs.Taking.{Takes};
+ghost use Rattle.exact_parts.specs.declared.taken.Taken.{Taken as TakenSpec};
 
-use crate::Taken;
 use crate::head::{Head, spell};
 use crate::layout::{Form, kind_at};
 use crate::numbers::{Numbers, take_numbers};
 use clock_fraction::Fraction;
+use exact_parts::Taken;
 use fmi_calls::{BadStatus, Content, Interval, Kind, Reply};
 
 fn bad_number(status: BadStatus) -> u8

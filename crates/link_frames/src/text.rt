@@ -1,8 +1,8 @@
 ghost use Rattle.std.specs.Prelude.{◌≡◌};
-ghost use Rattle.link_frames.specs.Taking.{Takes};
+ghost use Rattle.exact_parts.specs.Taking.{Takes};
 ghost use Rattle.link_frames.specs.Text.{IsText, has_room};
 
-use crate::Taken;
+use exact_parts::Taken;
 use std::str::from_utf8;
 
 // Whether this is the first byte of a character of more than one byte, and so many bytes hold the character.

@@ -1,8 +1,8 @@
 use clock_fraction::Fraction;
+use exact_parts::Taken;
 use fmi_calls::{BadStatus, Call, Content, Interval, Kind, Reply};
 use link_frames::{
-    CallFrame, Taken, can_be_sent, frame_laws, frame_len, put_call, put_reply, take_call,
-    take_reply,
+    CallFrame, can_be_sent, frame_laws, frame_len, put_call, put_reply, take_call, take_reply,
 };
 use value_types::PortType;
 

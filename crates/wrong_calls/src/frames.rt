@@ -3,11 +3,12 @@ ghost use Rattle.std.specs.Prelude.{◌≡◌, ◌≤◌, ◌+◌, take, drop, l
 ghost use Rattle.fmi_calls.specs.declared.call.Reply.{Reply};
 ghost use Rattle.link_frames.specs.Call.{CanBeSent, IsFrameOf, sent};
 ghost use Rattle.link_frames.specs.Reply.{IsReplyFrame};
-ghost use Rattle.link_frames.specs.Taking.{Takes};
-ghost use Rattle.link_frames.specs.declared.taken.Taken.{Taken as TakenSpec};
+ghost use Rattle.exact_parts.specs.Taking.{Takes};
+ghost use Rattle.exact_parts.specs.declared.taken.Taken.{Taken as TakenSpec};
 
+use exact_parts::Taken;
 use fmi_calls::{Call, Reply};
-use link_frames::{Taken, put_call, take_reply};
+use link_frames::{put_call, take_reply};
 
 /// Puts the frame of a call, for Instantiate with the instance's name and its token.
 pub fn put_frame(call: &Call, name: &str, token: &str, out: &mut [u8]) -> usize

@@ -1,6 +1,6 @@
 use Rattle.std.proofs.Common.{◌∙◌, ap}
 use Rattle.link_frames.specs.declared.call.CallFrame.{CallFrame}
-use Rattle.link_frames.specs.declared.taken.Taken.TheVariants.{Got}
+use Rattle.exact_parts.specs.declared.taken.Taken.TheVariants.{Got}
 use Rattle.host_serving.proofs.LinkFrames.{got_item, not_got, same_got}
 use Rattle.host_serving.proofs.reading.item.Goals as goal
 

@@ -7,7 +7,7 @@ use Rattle.link_frames.specs.declared.call.CallFrame.{CallFrame}
 use Rattle.link_frames.specs.Batch.{AreFrames, batch_head, frames_of, kind_of_first}
 use Rattle.link_frames.specs.Call.{IsCallFrame}
 use Rattle.link_frames.specs.Head.{spelling}
-use Rattle.link_frames.proofs.ListLemmas.{drop_later}
+use Rattle.exact_parts.proofs.CallerLemmas.{drop_later}
 use Rattle.link_frames.proofs.PutLemmas.{batch_put, one_more}
 use Rattle.link_frames.proofs.batch.put_batch.Goals as goal
 

@@ -7,7 +7,7 @@ use Rattle.fmi_calls.specs.declared.call.Reply.TheVariants.{Done}
 use Rattle.link_frames.specs.Batch.{AreFrames, batch_head, kind_of_first_reply}
 use Rattle.link_frames.specs.Head.{spelling}
 use Rattle.link_frames.specs.Reply.{IsReplyFrame}
-use Rattle.link_frames.proofs.ListLemmas.{drop_later}
+use Rattle.exact_parts.proofs.CallerLemmas.{drop_later}
 use Rattle.link_frames.proofs.PutLemmas.{one_more_of, replies_put}
 use Rattle.link_frames.proofs.batch.put_batch_reply.Goals as goal
 

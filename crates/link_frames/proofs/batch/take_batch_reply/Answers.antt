@@ -1,8 +1,7 @@
 use Rattle.link_frames.specs.declared.batch.Side.TheVariants.{Replies}
 use Rattle.link_frames.specs.Batch.{BatchParts, IsReplyBatch}
 use Rattle.link_frames.proofs.BatchLemmas.{replies_same, replies_single}
-use Rattle.link_frames.proofs.MapLemmas.{same_takes}
-use Rattle.link_frames.proofs.TakingLemmas.{only_one}
+use Rattle.exact_parts.proofs.CallerLemmas.{only_one, same_takes}
 use Rattle.link_frames.proofs.batch.take_batch_reply.Goals as goal
 
 pub returns-clause-taken : goal.returns-clause-taken

@@ -4,11 +4,11 @@ use Rattle.std.proofs.lemmas.List.{length-drop, take_all}
 use Rattle.link_frames.specs.declared.layout.Form.{Form}
 use Rattle.link_frames.specs.declared.layout.Items.{Items}
 use Rattle.link_frames.specs.declared.layout.Items.TheVariants.{Either}
-use Rattle.link_frames.specs.declared.taken.Taken.{Taken}
+use Rattle.exact_parts.specs.declared.taken.Taken.{Taken}
 use Rattle.link_frames.specs.Batch.{FirstOf, ItemsOf, item_form, items_at}
 use Rattle.link_frames.specs.Numbers.{Reads}
-use Rattle.link_frames.specs.Taking.{Breaks, Gets, IsFront, Takes}
-use Rattle.link_frames.proofs.BehindLemmas.{next_takes, first_more, first_bad}
+use Rattle.exact_parts.specs.Taking.{Breaks, Gets, IsFront, Takes}
+use Rattle.exact_parts.proofs.CallerLemmas.{first_bad, first_more, next_takes}
 use Rattle.link_frames.proofs.BatchLemmas.{first_followed}
 use Rattle.link_frames.proofs.NumbersLemmas.{reads_single}
 use Rattle.link_frames.proofs.batch.take_first.Goals as goal

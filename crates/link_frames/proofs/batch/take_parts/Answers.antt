@@ -1,11 +1,11 @@
 use Rattle.std.proofs.Common.{◌≡◌, ℕ, ◌-◌, [], List, length, take, drop, sym, subst, arith}
 use Rattle.std.proofs.lemmas.List.{length-drop, take_all}
 use Rattle.link_frames.specs.declared.layout.Form.TheVariants.{OfBatch}
-use Rattle.link_frames.specs.declared.taken.Taken.{Taken}
+use Rattle.exact_parts.specs.declared.taken.Taken.{Taken}
 use Rattle.link_frames.specs.Batch.{BatchParts, CountOf}
 use Rattle.link_frames.specs.Numbers.{Reads}
-use Rattle.link_frames.specs.Taking.{Takes}
-use Rattle.link_frames.proofs.BehindLemmas.{next_takes, first_more, first_bad}
+use Rattle.exact_parts.specs.Taking.{Takes}
+use Rattle.exact_parts.proofs.CallerLemmas.{first_bad, first_more, next_takes}
 use Rattle.link_frames.proofs.BatchLemmas.{count_followed, count_in}
 use Rattle.link_frames.proofs.NumbersLemmas.{reads_single}
 use Rattle.link_frames.proofs.batch.take_parts.Goals as goal

@@ -1,5 +1,5 @@
 use Rattle.std.proofs.Common.{◌≡◌, ◌+◌, ℕ, drop, length, subst, ◌∙◌, arith}
-use Rattle.link_frames.proofs.ListLemmas.{drop_later}
+use Rattle.exact_parts.proofs.CallerLemmas.{drop_later}
 use Rattle.link_frames.proofs.call.put_call.Goals as goal
 
 pub returns-clause-rest : goal.returns-clause-rest

@@ -2,16 +2,14 @@ use Rattle.std.proofs.Common.{◌≡◌, ◌-◌, ℕ, List, [], length, take, d
 use Rattle.std.proofs.lemmas.List.{length-drop, take_all}
 use Rattle.link_frames.specs.declared.call.CallFrame.{CallFrame}
 use Rattle.link_frames.specs.declared.layout.Form.TheVariants.{OfCall}
-use Rattle.link_frames.specs.declared.taken.Taken.{Taken}
-use Rattle.link_frames.specs.declared.taken.Taken.TheVariants.{NeedMore, Bad}
+use Rattle.exact_parts.specs.declared.taken.Taken.{Taken}
+use Rattle.exact_parts.specs.declared.taken.Taken.TheVariants.{NeedMore, Bad}
 use Rattle.link_frames.specs.Call.{IsCallFrame, PartsOf, TextsOf}
 use Rattle.link_frames.specs.Numbers.{Reads}
-use Rattle.link_frames.specs.Taking.{Takes, moved}
-use Rattle.link_frames.proofs.BehindLemmas.{next_takes, first_more, first_bad}
+use Rattle.exact_parts.specs.Taking.{Takes, moved}
+use Rattle.exact_parts.proofs.CallerLemmas.{first_bad, first_more, made_breaks, made_front, next_takes, only_one, same_takes}
 use Rattle.link_frames.proofs.CallLemmas.{call_numbers, call_same, call_single, texts_followed, the_frame}
-use Rattle.link_frames.proofs.MapLemmas.{made_breaks, made_front, same_takes}
 use Rattle.link_frames.proofs.NumbersLemmas.{reads_single}
-use Rattle.link_frames.proofs.TakingLemmas.{only_one}
 use Rattle.link_frames.proofs.call.take_call.Goals as goal
 
 pub take_texts-requires : goal.take_texts-requires

@@ -1,11 +1,11 @@
 use Rattle.std.proofs.Common.{◌≡◌, ◌-◌, ℕ, List, length, take, drop, sym, subst, arith}
 use Rattle.std.proofs.lemmas.List.{length-drop, take_all}
 use Rattle.link_frames.specs.declared.call.CallFrame.{CallFrame}
-use Rattle.link_frames.specs.declared.taken.Taken.{Taken}
+use Rattle.exact_parts.specs.declared.taken.Taken.{Taken}
 use Rattle.link_frames.specs.Call.{TextsOf, TokenOf, name_len}
-use Rattle.link_frames.specs.Taking.{Breaks, Gets, IsFront, Takes}
+use Rattle.exact_parts.specs.Taking.{Breaks, Gets, IsFront, Takes}
 use Rattle.link_frames.specs.Text.{IsText}
-use Rattle.link_frames.proofs.BehindLemmas.{next_takes, first_more, first_bad}
+use Rattle.exact_parts.proofs.CallerLemmas.{first_bad, first_more, next_takes}
 use Rattle.link_frames.proofs.CallLemmas.{token_followed}
 use Rattle.link_frames.proofs.TextLemmas.{text_single}
 use Rattle.link_frames.proofs.call.take_texts.Goals as goal

@@ -1,13 +1,12 @@
 use Rattle.std.proofs.Common.{[], sym, subst}
 use Rattle.fmi_calls.specs.declared.call.Reply.{Reply}
 use Rattle.link_frames.specs.declared.layout.Form.TheVariants.{OfReply}
-use Rattle.link_frames.specs.declared.taken.Taken.TheVariants.{Got, NeedMore, Bad}
+use Rattle.exact_parts.specs.declared.taken.Taken.TheVariants.{Got, NeedMore, Bad}
 use Rattle.link_frames.specs.Numbers.{Reads}
 use Rattle.link_frames.specs.Reply.{IsReplyFrame, reply_at}
-use Rattle.link_frames.specs.Taking.{Gets}
-use Rattle.link_frames.proofs.MapLemmas.{made_got, made_front, made_breaks}
+use Rattle.exact_parts.specs.Taking.{Gets}
+use Rattle.exact_parts.proofs.CallerLemmas.{made_breaks, made_front, made_got, only_one}
 use Rattle.link_frames.proofs.ReplyLemmas.{reply_same, reply_single}
-use Rattle.link_frames.proofs.TakingLemmas.{only_one}
 use Rattle.link_frames.proofs.reply.take_reply.Goals as goal
 
 pub returns-in-Got-clause-taken : goal.returns-in-Got-clause-taken

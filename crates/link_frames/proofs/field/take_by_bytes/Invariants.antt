@@ -1,9 +1,0 @@
-use Rattle.std.proofs.Common.{◌≡◌, ◌-◌, take}
-use Rattle.link_frames.specs.Field.{Stands, number, worth}
-use Rattle.link_frames.proofs.field.take_by_bytes.Given as goal
-
-abbrev pub invariant-loop-place : goal.invariant-loop-place
-invariant-loop-place l = record {
-  front : l.front ≡ number 0 (take l.place l.bytes);
-  stands : Stands (worth (l.size - l.place)) l.spans l.front;
-}

@@ -1,0 +1,6 @@
+mod PartLemmas
+mod ListLemmas
+mod FirstLemmas
+mod WholeLemmas
+mod SpellingLemmas
+mod PutLemmas

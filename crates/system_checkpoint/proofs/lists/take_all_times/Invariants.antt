@@ -1,0 +1,6 @@
+use Rattle.system_checkpoint.specs.Whole.{TimesOf}
+use Rattle.system_checkpoint.proofs.ListLemmas.{Walks}
+use Rattle.system_checkpoint.proofs.lists.take_all_times.Given as goal
+
+abbrev pub invariant-loop-port : goal.invariant-loop-port
+invariant-loop-port l = Walks TimesOf l.ports l.bytes l.values.items l.port-index l.done

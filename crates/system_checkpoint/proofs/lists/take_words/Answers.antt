@@ -1,0 +1,21 @@
+use Rattle.std.proofs.Common.{arith, subst, sym}
+use Rattle.exact_parts.specs.declared.taken.Taken.TheVariants.{Got}
+use Rattle.exact_parts.specs.Each.{Each}
+use Rattle.exact_parts.specs.Taking.{Takes}
+use Rattle.system_checkpoint.specs.Whole.{WordOf}
+use Rattle.system_checkpoint.proofs.ListLemmas.{each_bad, each_done, each_more, each_on, walk_begins, word_of_single, word_of_some}
+use Rattle.system_checkpoint.proofs.lists.take_words.Goals as goal
+
+pub returns-in-NeedMore : goal.returns-in-NeedMore
+returns-in-NeedMore c = each_more WordOf word_of_single word_of_some c.args.ports.now c.args.bytes.now c.loop-port.values.items c.loop-port.port-index c.loop-port.done c.port-item.result c.port-item.is c.loop-port-test.true c.loop-port.invariant c.in-NeedMore.ensures
+
+pub returns-in-Bad : goal.returns-in-Bad
+returns-in-Bad c = each_bad WordOf word_of_single word_of_some c.args.ports.now c.args.bytes.now c.loop-port.values.items c.loop-port.port-index c.loop-port.done c.port-item.result c.port-item.is c.loop-port-test.true c.loop-port.invariant c.in-Bad.at c.in-Bad.ensures
+
+pub loop-port-preserved : goal.loop-port-preserved
+loop-port-preserved c = each_on WordOf word_of_single word_of_some c.args.ports.now c.args.bytes.now c.loop-port.values.items c.loop-port.port-index c.loop-port.done c.port-item.result c.port-item.is c.loop-port-test.true c.loop-port.invariant c.in-Got.value c.in-Got.length c.push.new.self.items c.in_ok-push-in-Got.ensures.items c.in-Got.ensures
+
+pub returns : goal.returns
+returns c =
+    subst (λ vs. Takes (Each WordOf c.args.ports.now) c.args.bytes.now (Got vs c.loop-port.done)) (sym c.from_vec.ensures)
+    (each_done WordOf c.args.ports.now c.args.bytes.now c.loop-port.values.items c.loop-port.port-index c.loop-port.done (omega (arith, c.loop-port-test.false)) c.loop-port.invariant)

@@ -1,0 +1,9 @@
+use Rattle.std.proofs.Common.{length, sym, subst}
+use Rattle.system_checkpoint.specs.Whole.{Answers}
+use Rattle.system_checkpoint.proofs.WholeLemmas.{answer_of}
+use Rattle.system_checkpoint.proofs.whole.read_checkpoint.Goals as goal
+
+pub returns-in-Ok : goal.returns-in-Ok
+returns-in-Ok c =
+    subst (λ r. Answers c.args.system.now c.args.header.now c.args.bytes.now r) (sym c.told.ensures)
+    (answer_of c.args.system.now c.args.header.now c.args.bytes.now c.in-Ok.taken c.in-Ok.ensures)

@@ -1,0 +1,4 @@
+pub mod Parts
+pub mod First
+pub mod Whole
+pub mod Spelling
