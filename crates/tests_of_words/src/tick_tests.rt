@@ -71,3 +71,20 @@ fn two_events<R: Abort>(rt: &R, alloc: Global) -> Result<(), AllocError> {
 fn the_least_event_time_comes_first(rt: HostRuntime) -> Result<(), AllocError> {
     two_events(&rt, rt.alloc())
 }
+
+// Behind half a million thirds of a second the Clock goes on with the tick that comes next, and the event time is told.
+fn resumed_thirds<R: Abort>(rt: &R, alloc: Global) -> Result<(), AllocError> {
+    let clocks = [periodic_clock(333, 5)];
+    let mut schedule = Schedule::resume(alloc, &clocks, 1, 0, FAR, 166_500_005)?;
+    assert_eq!(rt; schedule.timing(0), Some((333, 5)));
+    assert_eq!(rt; plain::point(&schedule, 0), Some(166_500_338));
+    assert_eq!(rt; plain::event_point(&schedule, 0), None);
+    plain::event_at(&mut schedule, 0, Some(166_500_010));
+    assert_eq!(rt; plain::event_point(&schedule, 0), Some(166_500_010));
+    Ok(())
+}
+
+#[test]
+fn a_resumed_clock_ticks_behind_the_point(rt: HostRuntime) -> Result<(), AllocError> {
+    resumed_thirds(&rt, rt.alloc())
+}

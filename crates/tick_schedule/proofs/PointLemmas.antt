@@ -1,5 +1,10 @@
 -- The next point of a Clock is the least tick that it still has to make.
-use Rattle.std.proofs.Common.{◌≡◌, ℕ, ◌+◌, ◌*◌, ◌^◌, ◌<◌, ◌≤◌, Option, Some, None, IfSome, ap, sym, arith, mul-le-mul_left}
+use Rattle.std.proofs.Common.{◌≡◌, ◌↔◌, ℕ, ◌+◌, ◌-◌, ◌*◌, ◌/◌, ◌%◌, ◌^◌, ◌<◌, ◌≤◌, inl, inr, Option, Some, None, IfSome, ap, sym, arith, mul-le-mul_left}
+use Rattle.std.specs.Prelude.{if◌then◌else◌}
+use Rattle.std.proofs.lemmas.Bool.{cases_lt, le-ltb, lt-ltb}
+use Rattle.std.proofs.lemmas.Nat.{div-add-mod', mod_below}
+use Rattle.std.proofs.Math.Nat.{mul-le-mul_right}
+use Rattle.clock_fraction.specs.Ticks.{IsTick}
 use Rattle.std.proofs.lemmas.Option.{same_Some}
 use Rattle.std.proofs.lemmas.Bool.Decides.{nat_tests}
 use Rattle.value_types.specs.declared.shape.IntervalVariability.{IntervalVariability}
@@ -7,7 +12,7 @@ use Rattle.value_types.specs.declared.shape.IntervalVariability.TheVariants.{Con
 use Rattle.tick_schedule.specs.declared.clock.ClockState.{ClockState}
 use Rattle.tick_schedule.specs.declared.clock.ClockState.TheVariants.{Unasked, Periodic, Countdown}
 use Rattle.tick_schedule.specs.Points.{HasCount, IsNear, IsSoundState, point_of, up_to}
-use Rattle.tick_schedule.specs.Timetable.{IsToTick, after_tick, first_by, known_state}
+use Rattle.tick_schedule.specs.Timetable.{IsToTick, after_tick, first_by, known_state, ticks_up_to}
 
 -- a point up to the stop is that itself
 pub up_to_within : (stop point : ℕ) → point ≤ stop → up_to stop point ≡ point
@@ -71,3 +76,52 @@ sound_first Tunable interval shift i s = sound_known interval shift i s
 sound_first Changing interval shift i s = (tt, tt)
 sound_first IsCountdownClock interval shift i s = (tt, tt)
 sound_first Triggered interval shift i s = sound_known interval shift i s
+
+-- ---- behind a point
+
+module _ (start shift interval t u : ℕ) (moves : 0 < interval) where
+  abbrev first : ℕ
+  first = start + shift
+
+  abbrev count : ℕ
+  count = ticks_up_to start shift interval t
+
+  -- the tick that comes next is above the point
+  next_above : t < first + count * interval
+  next_above = (elim (cases_lt t first) as (λ c. t < first + count * interval) [
+    | inl early ↦
+        let none : count ≡ 0 = ap (λ b. if b then 0 else (t - first) / interval + 1) (lt-ltb t first early) in
+        omega (arith, early, none)
+    | inr late ↦
+        let q = (t - first) / interval in
+        let some : count ≡ q + 1 = ap (λ b. if b then 0 else (t - first) / interval + 1) (le-ltb t first late) in
+        let parts : q * interval + (t - first) % interval ≡ t - first = div-add-mod' (t - first) interval in
+        let left : (t - first) % interval < interval = mod_below (t - first) interval moves in
+        let more : (q + 1) * interval ≡ q * interval + interval = grind arith in
+        let is : count * interval ≡ (q + 1) * interval = ap (λ n. n * interval) some in
+        omega (arith, late, parts, left, more, is)
+  ])
+
+  -- a tick above the point isn't among those before
+  none_between : (k : ℕ) → u ≡ first + k * interval → t < u → first + count * interval ≤ u
+  none_between k is above = (elim (cases_lt t first) as (λ c. first + count * interval ≤ u) [
+    | inl early ↦
+        let none : count ≡ 0 = ap (λ b. if b then 0 else (t - first) / interval + 1) (lt-ltb t first early) in
+        let zero_is : count * interval ≡ 0 * interval = ap (λ n. n * interval) none in
+        omega (arith, is, zero_is)
+    | inr late ↦
+        let q = (t - first) / interval in
+        let some : count ≡ q + 1 = ap (λ b. if b then 0 else (t - first) / interval + 1) (le-ltb t first late) in
+        let parts : q * interval + (t - first) % interval ≡ t - first = div-add-mod' (t - first) interval in
+        let is_count : count * interval ≡ (q + 1) * interval = ap (λ n. n * interval) some in
+        (elim (cases_lt q k) as (λ c. first + count * interval ≤ u) [
+          | inl more ↦ let le : (q + 1) * interval ≤ k * interval = mul-le-mul_right interval (let l : q + 1 ≤ k = omega (arith, more) in l) in omega (arith, is, is_count, le)
+          | inr fewer ↦ let le : k * interval ≤ q * interval = mul-le-mul_right interval fewer in absurd (omega (arith, is, above, late, parts, le))
+        ])
+  ])
+
+  pub resumes_above : IsToTick start (Periodic interval shift count) u ↔ (IsTick start shift interval u × (t < u))
+  resumes_above = (
+    (λ h. (h.0, let next = next_above in omega (arith, next, h.1))),
+    (λ h. (h.0, none_between h.0.0 h.0.1 h.1)),
+  )

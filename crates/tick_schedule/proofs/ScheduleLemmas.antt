@@ -1,18 +1,20 @@
 -- The points that a schedule keeps.
-use Rattle.std.proofs.Common.{◌≡◌, ◌↔◌, ◌⊎◌, inl, inr, zero, suc, ◌∷◌, ◌++◌, ◌-◌, ℕ, ◌+◌, ◌^◌, ◌<◌, ◌≤◌, List, [], map, replicate, length, set, get_or, Option, Some, None, IsSomeAnd, IsTrue, Bool, SomeIndex, All, ap, sym, subst, ◌∙◌, refl, arith}
+use Rattle.std.proofs.Common.{◌≡◌, ◌↔◌, ◌⊎◌, inl, inr, zero, suc, ◌∷◌, ◌++◌, ◌-◌, ◌*◌, ◌/◌, ◌%◌, ℕ, ◌+◌, ◌^◌, ◌<◌, ◌≤◌, List, [], map, replicate, length, set, get_or, Option, Some, None, IsSomeAnd, IsTrue, Bool, SomeIndex, All, ap, sym, subst, ◌∙◌, refl, arith}
 use Rattle.std.specs.List.{slice_get}
 use Rattle.std.proofs.lemmas.List.{ext_get_or, get_or-append_right, get_or_append_left, get_or-replicate, length-append, length-map, length-replicate, map-append, map-set, get_or-map, set-append_left}
-use Rattle.std.proofs.lemmas.Bool.{cases_lt}
+use Rattle.std.proofs.lemmas.Bool.{cases_lt, le-ltb, leb-false, leb-true, lt-ltb}
+use Rattle.std.proofs.lemmas.Nat.{div-add-mod'}
+use Rattle.std.specs.Prelude.{IfSome, IfNone, nat_le, if◌then◌else◌, true, false}
 use Rattle.std.specs.Option.{option_map}
 use Rattle.std.proofs.lemmas.List.Elements.{All-append, All-set, All-get_or}
 use Rattle.std.proofs.lemmas.Option.{slice_get-map, slice_get_within, slice_get-get_or, get_or_from_slice_get, slice_get_read}
 use Rattle.value_types.specs.declared.shape.IntervalVariability.TheVariants.{Triggered}
 use Rattle.tick_schedule.specs.declared.clock.TimeClock.{TimeClock}
 use Rattle.tick_schedule.specs.declared.clock.ClockState.{ClockState}
-use Rattle.tick_schedule.specs.declared.clock.ClockState.TheVariants.{Unasked}
+use Rattle.tick_schedule.specs.declared.clock.ClockState.TheVariants.{Unasked, Periodic, Countdown}
 use Rattle.tick_schedule.specs.Cost.{IsLogarithmic, TakesTurns}
 use Rattle.tick_schedule.specs.Points.{HasCount, IsKept, IsNear, IsSoundState, entries, event_state, past, point_of}
-use Rattle.tick_schedule.specs.Timetable.{EventAt, HasNext, IsSoundClock, IsToTick, TicksAt, Timetable, after_tick, first_state}
+use Rattle.tick_schedule.specs.Timetable.{EventAt, HasNext, IsSoundClock, IsToTick, TicksAt, Timetable, after_tick, first_state, resumed_in, resumed_state, ticks_up_to}
 use Rattle.tick_schedule.proofs.PointLemmas.{can_count, is_near_after, is_sound_after, point_below_tick, sound_first, ticks_at_point}
 
 -- such places alone
@@ -295,3 +297,100 @@ kept_at_first start stop components count states slice events old points run nea
     let all = first_entered start stop slice components points (omega (arith, len, size, sum)) entered (λ k le lt. rest k le (omega (arith, lt, len))) in
     let kept = entries_kept start stop slice components points run near (subst (All IsSoundState) (sym same) sound) all in
     subst (λ xs. IsKept start stop (entries xs events) points) same (subst (λ es. IsKept start stop (entries slice es) points) (sym none) kept)
+
+-- behind a point
+near_up_to : (start shift interval t : ℕ) → 0 < interval → interval ≤ 2 ^ 126 → t ≤ 2 ^ 62 → ticks_up_to start shift interval t * interval ≤ 2 ^ 126 + 2 ^ 62
+near_up_to start shift interval t moves small near = (elim (cases_lt t (start + shift)) as (λ c. ticks_up_to start shift interval t * interval ≤ 2 ^ 126 + 2 ^ 62) [
+  | inl early ↦
+      let none : ticks_up_to start shift interval t ≡ 0 = ap (λ b. if b then 0 else (t - (start + shift)) / interval + 1) (lt-ltb t (start + shift) early) in
+      let is : ticks_up_to start shift interval t * interval ≡ 0 * interval = ap (λ n. n * interval) none in
+      omega (arith, is)
+  | inr late ↦
+      let q = (t - (start + shift)) / interval in
+      let some : ticks_up_to start shift interval t ≡ q + 1 = ap (λ b. if b then 0 else (t - (start + shift)) / interval + 1) (le-ltb t (start + shift) late) in
+      let parts : q * interval + (t - (start + shift)) % interval ≡ t - (start + shift) = div-add-mod' (t - (start + shift)) interval in
+      let more : (q + 1) * interval ≡ q * interval + interval = grind arith in
+      let is : ticks_up_to start shift interval t * interval ≡ (q + 1) * interval = ap (λ n. n * interval) some in
+      omega (arith, parts, more, is, near, small)
+])
+
+sound_resumed : (start t : ℕ) (state : ClockState) → t ≤ 2 ^ 62 → IsSoundState state → IsSoundState (resumed_in start t state) × IsNear (resumed_in start t state)
+sound_resumed start t Unasked near sound = (tt, tt)
+sound_resumed start t (Periodic interval shift ticks) near sound = (sound, (sound.2, near_up_to start shift interval t sound.0 sound.1 near))
+sound_resumed start t (Countdown armed) near sound = (tt, tt)
+
+resumed_both : (start t : ℕ) (clocks : List TimeClock) → t ≤ 2 ^ 62 → All IsSoundClock clocks → All (λ s. IsSoundState s × IsNear s) (map (resumed_state start t) clocks)
+resumed_both start t clocks near sound k d within =
+    let inside : k < length clocks = (let len = length-map clocks (resumed_state start t) in omega arith) in
+    let clock : TimeClock = get_or clocks k nowhere in
+    let s : IsSoundClock clock = sound k nowhere inside in
+    let P : ClockState → Type 0 = λ s. IsSoundState s × IsNear s in
+    subst P (sym (get_or-map (resumed_state start t) clocks k nowhere d inside)) (sound_resumed start t (first_state clock) near (sound_first clock.variability clock.interval clock.shift s.interval s.shift).0)
+
+pub resumed_sound : (start t : ℕ) (clocks : List TimeClock) (states : List ClockState) → t ≤ 2 ^ 62 → All IsSoundClock clocks → states ≡ map (resumed_state start t) clocks → All IsSoundState states
+resumed_sound start t clocks states near sound is = let P : List ClockState → Type 0 = All IsSoundState in subst P (sym is) (λ k d within. (resumed_both start t clocks near sound k d within).0)
+
+pub resumed_near : (start t : ℕ) (clocks : List TimeClock) (states : List ClockState) → t ≤ 2 ^ 62 → All IsSoundClock clocks → states ≡ map (resumed_state start t) clocks → All IsNear states
+resumed_near start t clocks states near sound is = let P : List ClockState → Type 0 = All IsNear in subst P (sym is) (λ k d within. (resumed_both start t clocks near sound k d within).1)
+
+pub first_state_sound : (clock : TimeClock) → IsSoundClock clock → IsSoundState (first_state clock)
+first_state_sound clock s = (sound_first clock.variability clock.interval clock.shift s.interval s.shift).0
+
+-- the event time of a component by its next point
+pub event_told : (start stop : ℕ) (clocks : List ClockState) (events : List (Option ℕ)) (points : List ℕ) (component p : ℕ) → IsKept start stop (entries clocks events) points → component < length events → p ≡ get_or points (length clocks + component) 0 →
+    IfSome (if nat_le p stop then Some p else None) (EventAt (record { start = start; stop = stop; clocks = clocks; events = events }) component)
+event_told start stop clocks events points component p kept within is = at (nat_le p stop) refl
+  where
+    at : (b : Bool) → nat_le p stop ≡ b → IfSome (if b then Some p else None) (EventAt (record { start = start; stop = stop; clocks = clocks; events = events }) component)
+    at false e = tt
+    at true e =
+        let len = entries_len start stop clocks events in
+        let before : p ≤ stop = leb-true p stop e in
+        event_out start stop clocks events component p (kept_ticks start stop (entries clocks events) points (length clocks + component) p kept (omega (arith, within, len)) (sym is) before)
+
+pub no_event_told : (start stop : ℕ) (clocks : List ClockState) (events : List (Option ℕ)) (points : List ℕ) (component p : ℕ) → IsKept start stop (entries clocks events) points → p ≡ get_or points (length clocks + component) 0 →
+    IfNone (if nat_le p stop then Some p else None) ((point : ℕ) → EventAt (record { start = start; stop = stop; clocks = clocks; events = events }) component point → ⊥)
+no_event_told start stop clocks events points component p kept is = at (nat_le p stop) refl
+  where
+    at : (b : Bool) → nat_le p stop ≡ b → IfNone (if b then Some p else None) ((point : ℕ) → EventAt (record { start = start; stop = stop; clocks = clocks; events = events }) component point → ⊥)
+    at true e = tt
+    at false e = λ point event.
+        let least = (kept_least start stop (entries clocks events) points (length clocks + component) point kept (event_in start stop clocks events component point event)).1 in
+        let past : stop < p = leb-false p stop e in
+        let before : point ≤ stop = event.0 in
+        omega (arith, least, past, before, is)
+
+-- the next point of a Clock by what is kept of it
+pub tick_told : (start stop : ℕ) (clocks : List ClockState) (events : List (Option ℕ)) (points : List ℕ) (clock p : ℕ) → IsKept start stop (entries clocks events) points → clock < length clocks → p ≡ get_or points clock 0 →
+    IfSome (if nat_le p stop then Some p else None) (TicksAt (record { start = start; stop = stop; clocks = clocks; events = events }) clock)
+tick_told start stop clocks events points clock p kept within is = at (nat_le p stop) refl
+  where
+    at : (b : Bool) → nat_le p stop ≡ b → IfSome (if b then Some p else None) (TicksAt (record { start = start; stop = stop; clocks = clocks; events = events }) clock)
+    at false e = tt
+    at true e =
+        let len = entries_len start stop clocks events in
+        let before : p ≤ stop = leb-true p stop e in
+        ticks_out start stop clocks events clock p within (kept_ticks start stop (entries clocks events) points clock p kept (omega (arith, within, len)) (sym is) before)
+
+-- no tick is below it
+pub least_told : (start stop : ℕ) (clocks : List ClockState) (events : List (Option ℕ)) (points : List ℕ) (clock p : ℕ) → IsKept start stop (entries clocks events) points → clock < length clocks → p ≡ get_or points clock 0 →
+    IfSome (if nat_le p stop then Some p else None) (λ point. (other : ℕ) → TicksAt (record { start = start; stop = stop; clocks = clocks; events = events }) clock other → point ≤ other)
+least_told start stop clocks events points clock p kept within is = at (nat_le p stop) refl
+  where
+    at : (b : Bool) → nat_le p stop ≡ b → IfSome (if b then Some p else None) (λ point. (other : ℕ) → TicksAt (record { start = start; stop = stop; clocks = clocks; events = events }) clock other → point ≤ other)
+    at false e = tt
+    at true e = λ other ticks.
+        let least = (kept_least start stop (entries clocks events) points clock other kept (ticks_in start stop clocks events clock other within ticks)).1 in
+        omega (arith, least, is)
+
+pub no_tick_told : (start stop : ℕ) (clocks : List ClockState) (events : List (Option ℕ)) (points : List ℕ) (clock p : ℕ) → IsKept start stop (entries clocks events) points → clock < length clocks → p ≡ get_or points clock 0 →
+    IfNone (if nat_le p stop then Some p else None) ((point : ℕ) → TicksAt (record { start = start; stop = stop; clocks = clocks; events = events }) clock point → ⊥)
+no_tick_told start stop clocks events points clock p kept within is = at (nat_le p stop) refl
+  where
+    at : (b : Bool) → nat_le p stop ≡ b → IfNone (if b then Some p else None) ((point : ℕ) → TicksAt (record { start = start; stop = stop; clocks = clocks; events = events }) clock point → ⊥)
+    at true e = tt
+    at false e = λ point ticks.
+        let least = (kept_least start stop (entries clocks events) points clock point kept (ticks_in start stop clocks events clock point within ticks)).1 in
+        let past : stop < p = leb-false p stop e in
+        let before : point ≤ stop = ticks.0 in
+        omega (arith, least, past, before, is)

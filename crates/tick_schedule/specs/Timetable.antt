@@ -1,6 +1,6 @@
 -- The time-based Clocks of a run, and when they tick (FMI 3.0, 2.2.8 and 2.2.9: constant, fixed, changing and countdown
 -- Clocks and their intervals). All is in counts.
-use Rattle.std.specs.Prelude.{◌≡◌, ℕ, ◌+◌, ◌*◌, ◌^◌, ◌<◌, ◌≤◌, List, length, slice_set, Option, Some, None, IfSome, IsSomeAnd}
+use Rattle.std.specs.Prelude.{◌≡◌, ◌↔◌, ℕ, ◌+◌, ◌-◌, ◌*◌, ◌/◌, ◌^◌, ◌<◌, ◌≤◌, nat_lt, if◌then◌else◌, List, length, slice_set, Option, Some, None, IfSome, IsSomeAnd}
 use Rattle.std.specs.List.{slice_get}
 use Rattle.clock_fraction.specs.Ticks.{IsTick}
 use Rattle.value_types.specs.declared.shape.IntervalVariability.{IntervalVariability}
@@ -94,3 +94,32 @@ first_by Triggered interval shift = known_state interval shift
 
 abbrev pub first_state : TimeClock → ClockState
 first_state clock = first_by clock.variability clock.interval clock.shift
+
+-- ---- a run that is resumed behind a point
+
+-- how many ticks a periodic Clock has made up to the point
+abbrev pub ticks_up_to : (start shift interval t : ℕ) → ℕ
+ticks_up_to start shift interval t =
+    if nat_lt t (start + shift) then 0 else (t - (start + shift)) / interval + 1
+
+-- where a Clock stands behind the point
+abbrev pub resumed_in : ℕ → ℕ → ClockState → ClockState
+resumed_in start t Unasked = Unasked
+resumed_in start t (Periodic interval shift ticks) =
+    Periodic interval shift (ticks_up_to start shift interval t)
+resumed_in start t (Countdown armed) = Countdown armed
+
+abbrev pub resumed_state : ℕ → ℕ → TimeClock → ClockState
+resumed_state start t clock = resumed_in start t (first_state clock)
+
+-- behind the point a Clock stands before its least tick above it
+abbrev pub ResumesAbove : Type 0
+ResumesAbove = (start shift interval t u : ℕ) → 0 < interval →
+    (IsToTick start (Periodic interval shift (ticks_up_to start shift interval t)) u
+    ↔ (IsTick start shift interval u × (t < u)))
+
+-- the interval and the shift of a periodic Clock
+abbrev pub timing_in : ClockState → Option (ℕ × ℕ)
+timing_in Unasked = None
+timing_in (Periodic interval shift ticks) = Some (interval, shift)
+timing_in (Countdown armed) = None

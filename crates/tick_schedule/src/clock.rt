@@ -1,6 +1,6 @@
-ghost use Rattle.std.specs.Prelude.{◌≡◌, ◌≤◌, ◌^◌};
-ghost use Rattle.tick_schedule.specs.Points.{HasCount, IsNear, point_of, up_to};
-ghost use Rattle.tick_schedule.specs.Timetable.{after_tick, first_state};
+ghost use Rattle.std.specs.Prelude.{◌≡◌, ◌≤◌, ◌<◌, ◌^◌};
+ghost use Rattle.tick_schedule.specs.Points.{HasCount, IsNear, IsSoundState, point_of, up_to};
+ghost use Rattle.tick_schedule.specs.Timetable.{after_tick, first_state, resumed_in, ticks_up_to, timing_in};
 
 use value_types::IntervalVariability;
 
@@ -51,7 +51,59 @@ impl TimeClock {
     }
 }
 
+/// How many ticks a periodic Clock has made up to the point.
+fn ticks_up_to(start: u64, shift: u128, interval: u128, t: u64) -> u64
+    requires start { start ≤ 2 ^ 62 }
+    requires t { t ≤ 2 ^ 62 }
+    requires shift { shift ≤ 2 ^ 126 }
+    requires moves { 0 < interval }
+    ensures { result ≡ ticks_up_to start shift interval t }
+{
+    let first = u128::from(start) + shift;
+    if u128::from(t) < first {
+        0
+    } else {
+        ((u128::from(t) - first) / interval) as u64 + 1
+    }
+}
+
 impl ClockState {
+    /// The interval and the shift of a periodic Clock.
+    pub(crate) fn timing(&self) -> Option<(u128, u128)>
+        ensures { result ≡ timing_in self.now }
+    {
+        match *self {
+            ClockState::Periodic {
+                interval,
+                shift,
+                ..
+            } => Some((interval, shift)),
+            ClockState::Unasked | ClockState::Countdown { .. } => None,
+        }
+    }
+
+    /// Where the Clock stands behind a point.
+    pub(crate) fn resumed(self, start: u64, t: u64) -> ClockState
+        requires start { start ≤ 2 ^ 62 }
+        requires t { t ≤ 2 ^ 62 }
+        requires sound { IsSoundState self }
+        ensures { result ≡ resumed_in start t self }
+    {
+        match self {
+            ClockState::Unasked => ClockState::Unasked,
+            ClockState::Periodic {
+                interval,
+                shift,
+                ..
+            } => ClockState::Periodic {
+                interval,
+                shift,
+                ticks: ticks_up_to(start, shift, interval, t),
+            },
+            ClockState::Countdown { armed } => ClockState::Countdown { armed },
+        }
+    }
+
     /// Where the Clock stands once it has ticked.
     pub(crate) fn after_tick(&self) -> ClockState
         requires { HasCount self.now }

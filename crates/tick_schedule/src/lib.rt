@@ -3,6 +3,7 @@
 
 mod clock;
 mod heap;
+mod laws;
 pub mod plain;
 mod points;
 mod schedule;
@@ -10,5 +11,6 @@ mod sift;
 mod steps;
 
 pub use clock::{ClockState, TimeClock};
+pub use laws::resumed_ticks;
 pub use schedule::Schedule;
 pub use steps::Steps;

@@ -105,6 +105,50 @@ fn next_by<L: Ledger>(schedule: &Schedule, t: u64, blank: Blank) -> Option<u64>
     schedule.next_after(t, &mut Steps::<L>::new(blank))
 }
 
+/// The next point of a Clock, up to the stop.
+pub fn point(schedule: &Schedule, clock: usize) -> Option<u64>
+    requires { clock < length schedule.now.clocks }
+    ensures found { IfSome result (TicksAt schedule.now clock) }
+    ensures least { IfSome result (λ point. (other : ℕ) → TicksAt schedule.now clock other →
+        point ≤ other) }
+    ensures none { IfNone result ((point : ℕ) → TicksAt schedule.now clock point → ⊥) }
+{
+    point_by::<Brand>(schedule, clock, Blank::new(1))
+}
+
+fn point_by<L: Ledger>(schedule: &Schedule, clock: usize, blank: Blank) -> Option<u64>
+    requires name { blank.name ≡ L.name }
+    requires parts { blank.parts ≡ L.parts }
+    requires some { 0 < blank.parts }
+    requires clock { clock < length schedule.now.clocks }
+    ensures found { IfSome result (TicksAt schedule.now clock) }
+    ensures least { IfSome result (λ point. (other : ℕ) → TicksAt schedule.now clock other →
+        point ≤ other) }
+    ensures none { IfNone result ((point : ℕ) → TicksAt schedule.now clock point → ⊥) }
+{
+    schedule.point(clock, &mut Steps::<L>::new(blank))
+}
+
+/// The event time of a component, up to the stop.
+pub fn event_point(schedule: &Schedule, component: usize) -> Option<u64>
+    requires { component < length schedule.now.events }
+    ensures found { IfSome result (EventAt schedule.now component) }
+    ensures none { IfNone result ((point : ℕ) → EventAt schedule.now component point → ⊥) }
+{
+    event_point_by::<Brand>(schedule, component, Blank::new(1))
+}
+
+fn event_point_by<L: Ledger>(schedule: &Schedule, component: usize, blank: Blank) -> Option<u64>
+    requires name { blank.name ≡ L.name }
+    requires parts { blank.parts ≡ L.parts }
+    requires some { 0 < blank.parts }
+    requires component { component < length schedule.now.events }
+    ensures found { IfSome result (EventAt schedule.now component) }
+    ensures none { IfNone result ((point : ℕ) → EventAt schedule.now component point → ⊥) }
+{
+    schedule.event_point(component, &mut Steps::<L>::new(blank))
+}
+
 /// Arms a countdown or changing Clock for a point, in place of an earlier arming. Past the stop it is never due.
 pub fn arm(schedule: &mut Schedule, clock: usize, point: u128)
     requires { IsCountdown schedule.old clock }

@@ -1,8 +1,8 @@
-ghost use Rattle.std.specs.Prelude.{◌≡◌, ◌↔◌, ◌⊎◌, ℕ, ◌<◌, ◌≤◌, ◌+◌, ◌^◌, All, IfNone, IfOk, IfSome, IsTrue, Some, None, length, map, min, replicate, slice_index};
+ghost use Rattle.std.specs.Prelude.{◌≡◌, ◌↔◌, ◌⊎◌, ℕ, ◌<◌, ◌≤◌, ◌+◌, ◌^◌, All, IfNone, IfOk, IfSome, IsTrue, Some, None, if◌then◌else◌, length, map, min, nat_le, replicate, slice_index};
 ghost use Rattle.std.specs.List.{slice_get};
 ghost use Rattle.tick_schedule.specs.Cost.{IsLogarithmic};
 ghost use Rattle.tick_schedule.specs.Points.{IsNear, IsSoundState, event_state, past, point_of};
-ghost use Rattle.tick_schedule.specs.Timetable.{EventAt, HasNext, IsCountdown, IsSoundClock, IsUnasked, TicksAt, after_tick, first_state, size_of, with_clock, with_event};
+ghost use Rattle.tick_schedule.specs.Timetable.{EventAt, HasNext, IsCountdown, IsSoundClock, IsUnasked, TicksAt, after_tick, first_state, resumed_state, size_of, timing_in, with_clock, with_event};
 ghost use Rattle.tick_schedule.specs.declared.clock.ClockState.{ClockState};
 ghost use Rattle.tick_schedule.specs.declared.clock.ClockState.TheVariants.{Countdown, Periodic};
 
@@ -65,6 +65,54 @@ impl Schedule {
             }) }
     {
         let states = first_states(alloc, clocks)?;
+        Schedule::of(alloc, states, components, start, stop)
+    }
+
+    /// As `new`, but each Clock stands before its least tick above `t`.
+    pub fn resume(
+        alloc: Global,
+        clocks: &[TimeClock],
+        components: usize,
+        start: u64,
+        stop: u64,
+        t: u64,
+    ) -> Result<Schedule, AllocError>
+        requires run { start ≤ stop }
+        requires stop { stop ≤ 2 ^ 62 }
+        requires point { t ≤ stop }
+        requires clocks { All IsSoundClock clocks.now }
+        ensures { IfOk result (λ schedule.
+            schedule ≡ record {
+              start = start;
+              stop = stop;
+              clocks = map (resumed_state start t) clocks.now;
+              events = replicate components None;
+            }) }
+    {
+        let states = resumed_states(alloc, clocks, start, t)?;
+        Schedule::of(alloc, states, components, start, stop)
+    }
+
+    /// Clocks that stand so, and components without an event time.
+    fn of(
+        alloc: Global,
+        states: Vec<ClockState>,
+        components: usize,
+        start: u64,
+        stop: u64,
+    ) -> Result<Schedule, AllocError>
+        requires run { start ≤ stop }
+        requires stop { stop ≤ 2 ^ 62 }
+        requires sound { All IsSoundState states.items }
+        requires near { All IsNear states.items }
+        ensures { IfOk result (λ schedule.
+            schedule ≡ record {
+              start = start;
+              stop = stop;
+              clocks = states.items;
+              events = replicate components None;
+            }) }
+    {
         let events = vec![in alloc; None; components]?;
         let count = sum(states.len(), components)?;
         let mut points = Heap::none(alloc, count)?;
@@ -76,6 +124,40 @@ impl Schedule {
             events,
             points,
         })
+    }
+
+    /// The interval and the shift that it keeps of a periodic Clock.
+    pub fn timing(&self, clock: usize) -> Option<(u128, u128)>
+        requires { clock < length self.now.clocks }
+        ensures { (state : ClockState) → slice_get self.now.clocks clock ≡ Some state →
+            result ≡ timing_in state }
+    {
+        self.clocks[clock].timing()
+    }
+
+    /// The next point of a Clock, up to the stop.
+    pub fn point<L: Ledger>(&self, clock: usize, steps: &mut Steps<L>) -> Option<u64>
+        requires { clock < length self.now.clocks }
+        ensures found { IfSome result (TicksAt self.now clock) }
+        ensures least { IfSome result (λ point. (other : ℕ) → TicksAt self.now clock other →
+            point ≤ other) }
+        ensures none { IfNone result ((point : ℕ) → TicksAt self.now clock point → ⊥) }
+        ensures cost { steps.new ≤ steps.old + 1 }
+    {
+        within(self.points.point(clock, steps), self.stop)
+    }
+
+    /// The event time of a component, up to the stop.
+    pub fn event_point<L: Ledger>(&self, component: usize, steps: &mut Steps<L>) -> Option<u64>
+        requires { component < length self.now.events }
+        ensures found { IfSome result (EventAt self.now component) }
+        ensures none { IfNone result ((point : ℕ) → EventAt self.now component point → ⊥) }
+        ensures cost { steps.new ≤ steps.old + 1 }
+    {
+        within(
+            self.points.point(self.clocks.len() + component, steps),
+            self.stop,
+        )
     }
 
     /// Gives a fixed Clock the interval and the shift, in counts, that it was asked for.
@@ -218,6 +300,32 @@ fn is_at(point: u64, t: u64, stop: u64) -> bool
     ensures { IsTrue result ↔ ((point ≡ t) × (t ≤ stop)) }
 {
     point == t && t <= stop
+}
+
+/// A next point, where it isn't past the stop.
+fn within(point: u64, stop: u64) -> Option<u64>
+    ensures { result ≡ (if nat_le point stop then Some point else None) }
+{
+    if point <= stop { Some(point) } else { None }
+}
+
+/// Where each Clock stands behind a point.
+fn resumed_states(
+    alloc: Global,
+    clocks: &[TimeClock],
+    start: u64,
+    t: u64,
+) -> Result<Vec<ClockState>, AllocError>
+    requires start { start ≤ 2 ^ 62 }
+    requires t { t ≤ 2 ^ 62 }
+    requires clocks { All IsSoundClock clocks.now }
+    ensures { IfOk result (λ states. states.items ≡ map (resumed_state start t) clocks.now) }
+{
+    let mut states = Vec::with_capacity(alloc, clocks.len())?;
+    for clock in clocks {
+        states.push(clock.first_state().resumed(start, t))?;
+    }
+    Ok(states)
 }
 
 /// How many places there are, where there is memory for so many.
