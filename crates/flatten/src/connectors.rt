@@ -30,10 +30,19 @@ pub(crate) struct FlatTree<'a> {
     pub(crate) connections: Vec<Connection>,
 }
 
+// How many variables there are.
+fn variable_count(shapes: &[Shape]) -> usize {
+    let mut count: usize = 0;
+    for shape in shapes {
+        count = count.saturating_add(shape.variables.len());
+    }
+    count
+}
+
 fn make_variables(alloc: Global, shapes: &[Shape]) -> Result<Variables<'_>, AllocError>
     ensures { IfOk result (AreVariables shapes.now) }
 {
-    let mut all = Vec::new(alloc);
+    let mut all = Vec::with_capacity(alloc, variable_count(shapes))?;
     let mut begins = Vec::with_capacity(alloc, shapes.len())?;
     for shape in shapes {
         begins.push(all.len())?;

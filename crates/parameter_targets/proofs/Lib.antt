@@ -5,4 +5,5 @@ mod NameLemmas
 mod PathLemmas
 mod RowLemmas
 mod LevelLemmas
+mod SharedLemmas
 mod TargetLemmas

@@ -5,7 +5,7 @@ use Rattle.std.specs.Option.{is_some, option_map, unwrap_or}
 use Rattle.std.proofs.lemmas.Bool.{cases_lt}
 use Rattle.std.proofs.lemmas.List.{length-map, take_more, take_all}
 use Rattle.std.proofs.lemmas.List.Elements.{Contains-append_left, Contains-push, Contains-push_cases}
-use Rattle.std.proofs.lemmas.Option.{same_Some, slice_get-map, slice_get_within}
+use Rattle.std.proofs.lemmas.Option.{get_or_from_slice_get, same_Some, slice_get-map, slice_get_within}
 use Rattle.value_types.specs.Shape.{is_parameter}
 use Rattle.value_types.specs.declared.shape.Variable.{Variable}
 use Rattle.parameter_targets.specs.Chains.{FindsFrom, text_at}
@@ -49,6 +49,10 @@ puts_more start old e place Named More at_place each was name at = (λ c. there 
         by : Named name ⊎ (e.0.now ≡ name) → Contains (map entry_of old) (name, at) ⊎ (entry_of e ≡ (name, at))
         by (inl n) = inl ((was name at).1 (inr (h.0, n)))
         by (inr s) = inr (ap (λ z. (z, e.1)) s ∙ ap (λ z. (name, z)) (at_place ∙ sym h.0))
+
+-- the entries up to a place, and the one that stands there
+pub one_more : (entries : Entries) (k : ℕ) (e : Bor (List ℕ) × ℕ) → slice_get entries k ≡ Some e → take (k + 1) entries ≡ take k entries ++ e ∷ []
+one_more entries k e is = take_more entries k e (slice_get_within entries k e is) ∙ ap (λ (z : Bor (List ℕ) × ℕ). take k entries ++ z ∷ []) (get_or_from_slice_get entries k e e is)
 
 pub puts_none : (start : Entries) (place : ℕ) (Named : List ℕ → Type 0) → ((name : List ℕ) → Named name → ⊥) → PutsNames start start place Named
 puts_none start place Named none name at = (λ c. inl c, by)

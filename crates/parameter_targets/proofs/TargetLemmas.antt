@@ -10,34 +10,16 @@ use Rattle.value_types.specs.declared.shape.Shape.{Shape}
 use Rattle.value_types.specs.declared.shape.Variable.{Variable}
 use Rattle.ssd_tree.specs.declared.tree.Owner.TheVariants.{System, Component}
 use Rattle.ssd_tree.specs.declared.tree.SystemTree.{SystemTree}
-use Rattle.parameter_targets.specs.declared.names.ParameterNames.{ParameterNames}
 use Rattle.parameter_targets.specs.declared.paths.Path.{Path}
 use Rattle.parameter_targets.specs.declared.paths.Paths.{Paths}
 use Rattle.parameter_targets.specs.declared.target.Target.{Target}
 use Rattle.parameter_targets.specs.declared.targets.Targets.{Targets}
 use Rattle.ssd_tree.specs.Named.{IsNamedTree}
 use Rattle.parameter_targets.specs.Scopes.{IsTarget, Sees}
-use Rattle.parameter_targets.specs.Tables.{AreAllFronts, AreAllNames, AreNames, AreNear, AreTargets, IsNamed, IsNamedAt, IsNamedIn, IsSeenBelow, row_texts, path_text}
+use Rattle.parameter_targets.specs.Tables.{AreAllFronts, AreNear, AreTargets, IsNamed, IsNamedAt, IsNamedIn, IsSeenBelow, row_texts, path_text}
 use Rattle.parameter_targets.proofs.ListLemmas.{contains_at, element_at, place_of, push_cases, read_at}
 use Rattle.parameter_targets.proofs.PathLemmas.{scope_once}
 use Rattle.parameter_targets.proofs.RowLemmas.{begins_around}
-
--- ---- names of all components
-
-pub all_names_none : AreAllNames [] []
-all_names_none = record { names_len = refl; each = λ i s n is there. absurd (let w = slice_get_within [] i s is in omega (arith, w)) }
-
-pub all_names_more : (shapes : List Shape) (names : List ParameterNames) (s : Shape) (n : ParameterNames) → AreNames s.variables n → AreAllNames shapes names → AreAllNames (shapes ++ s ∷ []) (names ++ n ∷ [])
-all_names_more shapes names s n are was = record {
-  names_len = length_push names n ∙ ap (λ k. k + 1) was.names_len ∙ sym (length_push shapes s);
-  each = λ i x y is there. each i x y (push_cases shapes s i x is) (push_cases names n i y there);
-}
-  where
-    each : (i : ℕ) (x : Shape) (y : ParameterNames) → (slice_get shapes i ≡ Some x) ⊎ ((i ≡ length shapes) × (s ≡ x)) → (slice_get names i ≡ Some y) ⊎ ((i ≡ length names) × (n ≡ y)) → AreNames x.variables y
-    each i x y (inl a) (inl b) = was.each i x y a b
-    each i x y (inl a) (inr b) = let l = slice_get_within shapes i x a in let e = b.0 in let len = was.names_len in absurd (omega (arith, l, e, len))
-    each i x y (inr a) (inl b) = let l = slice_get_within names i y b in let e = a.0 in let len = was.names_len in absurd (omega (arith, l, e, len))
-    each i x y (inr a) (inr b) = subst (λ (z : Shape). AreNames z.variables y) a.1 (subst (AreNames s.variables) b.1 are)
 
 -- ---- parameters of a component, one more after another
 

@@ -54,11 +54,20 @@ pub record AreWalked (entries : List (Bor (List ℕ) × ℕ)) (name : List ℕ) 
       e.0.now ≡ name → Contains places e.1
   pub only : (p : ℕ) → Contains places p → Contains (map entry_of entries) (name, p)
 
--- for each component the names of its parameters
-pub record AreAllNames (shapes : List Shape) (names : List ParameterNames) : Type 0 where
-  pub names_len : length names ≡ length shapes
-  pub each : (i : ℕ) (s : Shape) (n : ParameterNames) → slice_get shapes i ≡ Some s →
-      slice_get names i ≡ Some n → AreNames s.variables n
+-- the names of the component's parameters stand in a table
+pub record HasNames (tables : List ParameterNames) (of : List ℕ) (component : ℕ)
+    (variables : List Variable) : Type 0 where
+  pub at : ℕ
+  pub place : slice_get of component ≡ Some at
+  pub table : ParameterNames
+  pub is : slice_get tables at ≡ Some table
+  pub are : AreNames variables table
+
+-- for each component the place of its names among the tables
+pub record AreAllNames (shapes : List Shape) (tables : List ParameterNames)
+    (of : List ℕ) : Type 0 where
+  pub of_len : length of ≡ length shapes
+  pub each : (i : ℕ) (s : Shape) → slice_get shapes i ≡ Some s → HasNames tables of i s.variables
 
 -- the parameter at the place of the component's description has the name
 pub record IsNamedIn (shapes : List Shape) (component : ℕ) (name : List ℕ)
@@ -136,7 +145,7 @@ pub record AreNear (paths : Paths) (s : ℕ) (name : List ℕ) (ats : List ℕ) 
 
 -- for each component the names of its parameters, and the paths of all
 pub record AreTargets (targets : Targets) : Type 0 where
-  pub names : AreAllNames targets.shapes.now targets.names.items
+  pub names : AreAllNames targets.shapes.now targets.names.tables.items targets.names.of.items
   pub tree : IsNamedTree targets.tree.now
   pub shapes : length targets.shapes.now ≡ length targets.tree.now.components
   pub paths : ArePaths targets.tree.now targets.paths

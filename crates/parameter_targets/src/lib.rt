@@ -5,6 +5,7 @@ mod chains;
 mod levels;
 mod names;
 mod paths;
+mod shared;
 mod target;
 mod targets;
 

@@ -1,5 +1,6 @@
 //! The parameters of a component by their names.
-ghost use Rattle.std.specs.Prelude.{◌≡◌, ◌⊎◌, ◌↔◌, ℕ, List, ◌++◌, IfOk, OnOk, Contains, map};
+ghost use Rattle.std.specs.Prelude.{◌≡◌, ◌⊎◌, ◌↔◌, ◌≤◌, ℕ, List, ◌++◌, Some, IfOk, IfSome, OnOk, IsTrue, Contains, length, map, slice_get, take};
+ghost use Rattle.std.specs.Borrow.{Bor};
 ghost use Rattle.value_types.specs.declared.shape.Variable.{Variable};
 ghost use Rattle.parameter_targets.specs.Chains.{AreChains};
 ghost use Rattle.parameter_targets.specs.Tables.{AreEntries, AreNames, IsNamed, entry_of, text_of};
@@ -47,7 +48,76 @@ fn entries_of<'a>(
     Ok(entries)
 }
 
+// Whether this name stands at a place, with the place of its variable.
+fn is_entry(entries: &[(&str, usize)], at: usize, name: &str, place: usize) -> bool
+    ensures { IsTrue result → (e : Bor (List ℕ) × ℕ) × (slice_get entries.now at ≡ Some e) × (e.0.now ≡ name.now) × (e.1 ≡ place) }
+{
+    match entries.get(at) {
+        Some(entry) => {
+            if entry.1 != place {
+                return false;
+            }
+            is_same(entry.0, name)
+        }
+        None => false,
+    }
+}
+
+fn is_same(name: &str, other: &str) -> bool
+    ensures { IsTrue result → name.now ≡ other.now }
+{
+    name == other
+}
+
+// Where the names of a variable end that stand from a place on; none where others stand there.
+fn end_of_names(
+    entries: &[(&str, usize)],
+    next: usize,
+    place: usize,
+    variable: &Variable,
+) -> Option<usize>
+    requires { next ≤ length entries.now }
+    ensures within { IfSome result (λ end. end ≤ length entries.now) }
+    ensures names { IfSome result (λ end. (name : List ℕ) (at : ℕ) → Contains (map entry_of (take end entries.now)) (name, at) ↔ (Contains (map entry_of (take next entries.now)) (name, at) ⊎ ((at ≡ place) × IsNamed variable.now name))) }
+{
+    if !variable.is_parameter() {
+        return Some(next);
+    }
+    if !variable.kind.is_some() {
+        return Some(next);
+    }
+    if !is_entry(entries, next, variable.name.as_str(), place) {
+        return None;
+    }
+    let mut end = next + 1;
+    for alias in variable.aliases.as_slice() {
+        if !is_entry(entries, end, alias.as_str(), place) {
+            return None;
+        }
+        end += 1;
+    }
+    Some(end)
+}
+
 impl<'a> ParameterNames<'a> {
+    /// Whether these are the names of the parameters among these variables, too.
+    pub(crate) fn are_of(&self, variables: &[Variable]) -> bool
+        ensures { IsTrue result → AreEntries variables.now self.now.entries.items }
+    {
+        let entries = self.entries.as_slice();
+        let mut next = 0;
+        for place in 0..variables.len() {
+            match end_of_names(entries, next, place, &variables[place]) {
+                Some(end) => next = end,
+                None => return false,
+            }
+        }
+        if next < entries.len() {
+            return false;
+        }
+        true
+    }
+
     /// The names of the parameters among these variables.
     pub(crate) fn of(
         alloc: Global,

@@ -4,11 +4,11 @@ ghost use Rattle.value_types.specs.declared.shape.Shape.{Shape};
 ghost use Rattle.parameter_targets.specs.declared.target.Target.{Target};
 ghost use Rattle.ssd_tree.specs.Named.{IsNamedTree, IsOwner};
 ghost use Rattle.parameter_targets.specs.Scopes.{Sees};
-ghost use Rattle.parameter_targets.specs.Tables.{AreAllFronts, AreAllNames, AreNear, AreRows, AreTargets, IsNamedIn, IsSeenBelow, row_texts};
+ghost use Rattle.parameter_targets.specs.Tables.{AreAllFronts, AreNear, AreRows, AreTargets, IsNamedIn, IsSeenBelow, row_texts};
 
 use crate::Target;
-use crate::names::ParameterNames;
 use crate::paths::{Paths, behind};
+use crate::shared::SharedNames;
 use name_fronts::Fronts;
 use ssd_tree::{Owner, SystemTree};
 use std::alloc::{AllocError, Global};
@@ -19,8 +19,7 @@ use value_types::Shape;
 pub struct Targets<'a> {
     tree: &'a SystemTree,
     shapes: &'a [Shape],
-    /// of each component
-    names: Vec<ParameterNames<'a>>,
+    names: SharedNames<'a>,
     paths: Paths<'a>,
     /// for each System its paths, ready for the question which of them begin a name
     fronts: Vec<Fronts<'a>>,
@@ -50,16 +49,6 @@ fn all_fronts<'a>(alloc: Global, paths: &Paths<'a>) -> Result<Vec<Fronts<'a>>, A
     Ok(fronts)
 }
 
-fn names_of<'a>(alloc: Global, shapes: &'a [Shape]) -> Result<Vec<ParameterNames<'a>>, AllocError>
-    ensures { IfOk result (λ names. AreAllNames shapes.now names.items) }
-{
-    let mut names = Vec::new(alloc);
-    for shape in shapes {
-        names.push(ParameterNames::of(alloc, shape.variables.as_slice())?)?;
-    }
-    Ok(names)
-}
-
 impl<'a> Targets<'a> {
     /// The parameters of all components, where each shape is a component's.
     pub fn new(
@@ -78,7 +67,7 @@ impl<'a> Targets<'a> {
         Ok(Targets {
             tree,
             shapes,
-            names: names_of(alloc, shapes)?,
+            names: SharedNames::new(alloc, tree.components.as_slice(), shapes)?,
             paths,
             fronts,
         })
@@ -99,7 +88,8 @@ impl<'a> Targets<'a> {
             ((target.component ≡ component) × IsNamedIn self.now.shapes.now component name.now
             target.variable))) }
     {
-        let places = self.names[component].places_of(alloc, name)?;
+        let names = &self.names.tables[self.names.of[component]];
+        let places = names.places_of(alloc, name)?;
         for variable in &places {
             seen.push(Target {
                 component,

@@ -1,10 +1,10 @@
 -- Tables that grow by one port after another.
-use Rattle.std.proofs.Common.{◌≡◌, ◌⊎◌, ℕ, zero, suc, ◌+◌, ◌<◌, ◌≤◌, Bool, true, false, List, [], ◌∷◌, ◌++◌, length, map, replicate, get_or, set, Option, Some, None, inl, inr, refl, sym, ap, ◌∙◌, subst, arith}
+use Rattle.std.proofs.Common.{◌≡◌, ◌⊎◌, ℕ, zero, suc, ◌+◌, ◌-◌, ◌<◌, ◌≤◌, Bool, true, false, List, [], ◌∷◌, ◌++◌, length, map, replicate, get_or, set, Option, Some, None, inl, inr, refl, sym, ap, ◌∙◌, subst, arith}
 use Rattle.std.specs.Prelude.{◌&&◌, ◌==◌, if◌then◌else◌}
-use Rattle.std.specs.List.{slice_get}
+use Rattle.std.specs.List.{Contains, slice_get}
 use Rattle.std.specs.Option.{option_and_then}
 use Rattle.std.proofs.lemmas.Bool.{cases_eq, cases_lt, false≢true}
-use Rattle.std.proofs.lemmas.List.{get_or-set_same, get_or-set_other, length-set, length-map, length-replicate}
+use Rattle.std.proofs.lemmas.List.{get_or-set_same, get_or-set_other, length-append, length-set, length-map, length-replicate}
 use Rattle.std.proofs.lemmas.List.Elements.{Contains-push}
 use Rattle.std.proofs.lemmas.Option.{same_Some, none-some as none_some}
 use Rattle.dependency_order.specs.Graph.{Needs}
@@ -58,7 +58,7 @@ module _ (components : List Component) (ports : List Port) (taken : List Bool) (
   -- ---- tables
 
   pub tables_pass : (tables : List (List (List ℕ))) → ((c k : ℕ) → IsPortAt components ports taken c k number → ⊥) → AreTables components ports taken number tables → AreTables components ports taken (number + 1) tables
-  tables_pass tables none are = record { len = are.len; places = are.places; stands = λ c k q. (λ h. let w = (are.stands c k q).0 h in let l = w.0 in (omega (arith, l), w.1), λ h. by c k q h.1 (cases_lt q number) h.0) }
+  tables_pass tables none are = record { len = are.len; stands = λ c k q. (λ h. let w = (are.stands c k q).0 h in let l = w.0 in (omega (arith, l), w.1), λ h. by c k q h.1 (cases_lt q number) h.0) }
     where
       by : (c k q : ℕ) → IsPortAt components ports taken c k q → (q < number) ⊎ (number ≤ q) → q < number + 1 → Needs (get_or tables c []) k q
       by c k q i (inl l) m = (are.stands c k q).1 (l, i)
@@ -78,10 +78,6 @@ module _ (components : List Component) (ports : List Port) (taken : List Bool) (
 
     there : (c : ℕ) → (c ≡ port.component.0 → ⊥) → get_or more c [] ≡ get_or tables c []
     there c ne = ap (λ z. get_or z c []) is ∙ get_or-set_other tables port.component.0 c (set (get_or tables port.component.0 []) place (get_or (get_or tables port.component.0 []) place [] ++ number ∷ [])) [] ne
-
-    size : (c : ℕ) → (c ≡ port.component.0) ⊎ (c ≡ port.component.0 → ⊥) → length (get_or more c []) ≡ length (get_or tables c [])
-    size c (inl e) = subst (λ z. length (get_or more z []) ≡ length (get_or tables z [])) (sym e) (ap length here ∙ length-set (get_or tables port.component.0 []) place (get_or (get_or tables port.component.0 []) place [] ++ number ∷ []))
-    size c (inr ne) = ap length (there c ne)
 
     old_on : (c k q : ℕ) → Needs (get_or tables c []) k q → (q < number + 1) × IsPortAt components ports taken c k q
     old_on c k q h = let w = (are.stands c k q).0 h in let l = w.0 in (omega (arith, l), w.1)
@@ -119,7 +115,6 @@ module _ (components : List Component) (ports : List Port) (taken : List Bool) (
     pub tables_next : AreTables components ports taken (number + 1) more
     tables_next = record {
       len = ap length is ∙ length-set tables port.component.0 (set (get_or tables port.component.0 []) place (get_or (get_or tables port.component.0 []) place [] ++ number ∷ [])) ∙ are.len;
-      places = λ c component of. size c (cases_eq c port.component.0) ∙ are.places c component of;
       stands = λ c k q. (λ h. on c k q h (cases_eq c port.component.0), λ h. back c k q h.1 (cases_lt q number) h.0);
     }
 
@@ -167,42 +162,45 @@ tables_left components ports taken number tables port found at is nothing are = 
         ap (λ b. if b then place_in components port port.reference else None) i.marked ∙ ap (λ (z : Port). place_in components z z.reference) (sym same) ∙ i.stands in
         none_some k (sym nothing ∙ is ∙ e)
 
--- a place that is found is one of the table's
-pub place_inside : (components : List Component) (ports : List Port) (taken : List Bool) (number : ℕ) (tables : List (List (List ℕ))) (port : Port) (part : Bool) (place : ℕ) (found : Option ℕ)
-    → found ≡ (if part then place_in components port port.reference else None) → found ≡ Some place → AreTables components ports taken number tables → place < length (get_or tables port.component.0 [])
-place_inside components ports taken number tables port part place found is some are = by (slice_get components port.component.0) refl (if_parts part (place_in components port port.reference) place (sym is ∙ some)).1
+-- ---- a table that reaches further
+
+empty_row : (n k : ℕ) → get_or {A = List ℕ} (replicate n []) k [] ≡ []
+empty_row zero k = refl
+empty_row (suc n) zero = refl
+empty_row (suc n) (suc k) = empty_row n k
+
+same_rows : (table : List (List ℕ)) (n k : ℕ) → get_or (table ++ replicate n []) k [] ≡ get_or table k []
+same_rows [] n k = empty_row n k
+same_rows (x ∷ xs) n zero = refl
+same_rows (x ∷ xs) n (suc k) = same_rows xs n k
+
+pub tables_reach : (components : List Component) (ports : List Port) (taken : List Bool) (number : ℕ) (tables : List (List (List ℕ))) (at n : ℕ) → at < length tables → AreTables components ports taken number tables
+    → AreTables components ports taken number (set tables at (get_or tables at [] ++ replicate n []))
+tables_reach components ports taken number tables at n within are = record {
+  len = length-set tables at (get_or tables at [] ++ replicate n []) ∙ are.len;
+  stands = λ c k q. (λ h. (are.stands c k q).0 (subst (λ z. Contains z q) (row c k (cases_eq c at)) h), λ h. subst (λ z. Contains z q) (sym (row c k (cases_eq c at))) ((are.stands c k q).1 h));
+}
   where
-    by : (o : Option Component) → slice_get components port.component.0 ≡ o → place_in components port port.reference ≡ Some place → place < length (get_or tables port.component.0 [])
-    by None of e = absurd (none_some place (sym (ap (option_and_then (λ (c : Component). place_of c.shape.variables port.reference)) of) ∙ e))
-    by (Some component) of e =
-        let here : place_of component.shape.variables port.reference ≡ Some place = sym (ap (option_and_then (λ (c : Component). place_of c.shape.variables port.reference)) of) ∙ e in
-        let w = placed_within (λ (v : Variable). v.reference == port.reference) component.shape.variables place here in
-        let n = are.places port.component.0 component of in
-        omega (arith, w, n)
+    row : (c k : ℕ) → (c ≡ at) ⊎ (c ≡ at → ⊥) → get_or (get_or (set tables at (get_or tables at [] ++ replicate n [])) c []) k [] ≡ get_or (get_or tables c []) k []
+    row c k (inl e) =
+        subst (λ z. get_or (get_or (set tables at (get_or tables at [] ++ replicate n [])) z []) k [] ≡ get_or (get_or tables z []) k []) (sym e)
+        (ap (λ z. get_or z k []) (get_or-set_same tables at (get_or tables at [] ++ replicate n []) [] within) ∙ same_rows (get_or tables at []) n k)
+    row c k (inr ne) = ap (λ z. get_or z k []) (get_or-set_other tables at c (get_or tables at [] ++ replicate n []) [] ne)
+
+-- one empty list more
+pub one_empty : (n : ℕ) → replicate n [] ++ ([] ∷ []) ≡ replicate {A = List ℕ} (suc n) []
+one_empty zero = refl
+one_empty (suc n) = ap (λ (z : List (List ℕ)). [] ∷ z) (one_empty n)
 
 -- ---- the beginning
 
-abbrev pub empty_table : ℕ → List (List ℕ)
-empty_table count = replicate count []
-
-no_needs : (count k q : ℕ) → Needs (replicate count []) k q → ⊥
-no_needs zero k q h = contains_none q h
-no_needs (suc count) zero q h = contains_none q h
-no_needs (suc count) (suc k) q h = no_needs count k q h
-
-no_tables : (components : List Component) (c k q : ℕ) → Needs (get_or (map (λ (z : Component). empty_table (length z.shape.variables)) components) c []) k q → ⊥
+no_tables : (components : List Component) (c k q : ℕ) → Needs (get_or (map (λ (z : Component). []) components) c []) k q → ⊥
 no_tables [] c k q h = contains_none q h
-no_tables (x ∷ xs) zero k q h = no_needs (length x.shape.variables) k q h
+no_tables (x ∷ xs) zero k q h = contains_none q h
 no_tables (x ∷ xs) (suc c) k q h = no_tables xs c k q h
 
-table_sizes : (components : List Component) (c : ℕ) (component : Component) → slice_get components c ≡ Some component → length {A = List ℕ} (get_or (map (λ (z : Component). empty_table (length z.shape.variables)) components) c []) ≡ length component.shape.variables
-table_sizes [] c component of = absurd (none_some component of)
-table_sizes (x ∷ xs) zero component of = length-replicate (length x.shape.variables) [] ∙ ap (λ (z : Component). length z.shape.variables) (same_Some x component of)
-table_sizes (x ∷ xs) (suc c) component of = table_sizes xs c component of
-
-pub tables_begin : (components : List Component) (ports : List Port) (taken : List Bool) (tables : List (List (List ℕ))) → tables ≡ map (λ (z : Component). empty_table (length z.shape.variables)) components → AreTables components ports taken 0 tables
+pub tables_begin : (components : List Component) (ports : List Port) (taken : List Bool) (tables : List (List (List ℕ))) → tables ≡ map (λ (z : Component). []) components → AreTables components ports taken 0 tables
 tables_begin components ports taken tables is = subst (AreTables components ports taken 0) (sym is) (record {
-  len = length-map components (λ (z : Component). empty_table (length z.shape.variables));
-  places = table_sizes components;
+  len = length-map {A = Component} components (λ (z : Component). []);
   stands = λ c k q. (λ h. absurd (no_tables components c k q h), λ h. let l = h.0 in absurd (omega (arith, l)));
 })

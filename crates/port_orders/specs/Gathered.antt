@@ -83,8 +83,6 @@ pub record IsInputOf (components : List Component) (ports : List Port) (taken : 
 pub record AreTables (components : List Component) (ports : List Port) (taken : List Bool)
     (count : ℕ) (tables : List (List (List ℕ))) : Type 0 where
   pub len : length tables ≡ length components
-  pub places : (c : ℕ) (component : Component) → slice_get components c ≡ Some component →
-      length (slice_index_or tables c []) ≡ length component.shape.variables
   pub stands : (c k q : ℕ) → Contains (slice_index_or (slice_index_or tables c []) k []) q ↔
       ((q < count) × IsPortAt components ports taken c k q)
 

@@ -1,5 +1,5 @@
 //! The ports of each component by the places of their variables in its description, and the inputs of each component.
-ghost use Rattle.std.specs.Prelude.{◌≡◌, ◌<◌, ◌++◌, ◌∷◌, [], IfOk, OnOk, None, ◌&&◌, if◌then◌else◌, length, map, replicate, slice_index_or, slice_set};
+ghost use Rattle.std.specs.Prelude.{◌≡◌, ◌<◌, ◌++◌, ◌∷◌, [], ℕ, IfOk, OnOk, None, ◌&&◌, if◌then◌else◌, length, map, replicate, slice_index_or, slice_set};
 ghost use Rattle.system_model.specs.declared.system.Component.{Component};
 ghost use Rattle.port_orders.specs.Gathered.{AreInputs, AreTables, is_input_in, place_in};
 ghost use Rattle.port_orders.specs.Placed.{ArePlaced};
@@ -11,13 +11,30 @@ use system_model::{Component, Port};
 
 fn empty_tables(alloc: Global, components: &[Component]) -> Result<Vec<Lists>, AllocError>
     ensures { IfOk result (λ tables. tables.items ≡ map
-        (λ (c : Component). replicate (length c.shape.variables) []) components.now) }
+        (λ (c : Component). []) components.now) }
 {
     let mut tables = Vec::new(alloc);
-    for component in components {
-        tables.push(Lists::new(alloc, component.shape.variables.len())?)?;
+    for _component in components {
+        tables.push(Lists::new(alloc, 0)?)?;
     }
     Ok(tables)
+}
+
+// Puts empty lists behind those of a table, until there is one at the place.
+fn reach(alloc: Global, tables: &mut Vec<Lists>, at: usize, place: usize) -> Result<(), AllocError>
+    requires { at < length tables.old.items }
+    ensures grown { OnOk result ((more : ℕ) × (tables.new.items ≡ slice_set tables.old.items at
+        (slice_index_or tables.old.items at [] ++ replicate more []))) }
+    ensures reached { OnOk result (place < length (slice_index_or tables.new.items at [])) }
+{
+    let len = tables[at].len();
+    if place < len {
+        return Ok(());
+    }
+    let mut more = Lists::new(alloc, place - len)?;
+    more.append(Lists::new(alloc, 1)?)?;
+    tables[at].append(more)?;
+    Ok(())
 }
 
 // The place of the variable of a port that has part.
@@ -49,7 +66,7 @@ fn note(tables: &mut Vec<Lists>, at: usize, place: usize, number: usize) -> Resu
     tables[at].push(place, number)
 }
 
-/// For each component and each place of its description the ports there that have part.
+/// For each component and each place of its description the ports there that have part, as far as there are ports.
 pub(crate) fn tables_of(
     alloc: Global,
     components: &[Component],
@@ -65,6 +82,7 @@ pub(crate) fn tables_of(
     for number in 0..ports.len() {
         let port = &ports[number];
         if let Some(place) = place_if(taken[number], components, port) {
+            reach(alloc, &mut tables, port.component.0 as usize, place)?;
             note(&mut tables, port.component.0 as usize, place, number)?;
         }
     }

@@ -3,8 +3,8 @@ use Rattle.std.specs.List.{slice_get}
 use Rattle.dependency_order.specs.declared.lists.Lists.{Lists}
 use Rattle.std.proofs.lemmas.Option.{slice_get-get_or}
 use Rattle.port_orders.specs.Gathered.{AreTables}
-use Rattle.port_orders.proofs.TableLemmas.{tables_taken, tables_left, tables_begin, place_inside, component_within}
-use Rattle.port_orders.proofs.index.tables_of.Goals.{in-Some+in_ok-note, in_default}
+use Rattle.port_orders.proofs.TableLemmas.{tables_taken, tables_left, tables_begin, tables_reach, component_within}
+use Rattle.port_orders.proofs.index.tables_of.Goals.{in-Some+in_ok-reach+in_ok-note, in_default}
 use Rattle.port_orders.proofs.index.tables_of.Goals as goal
 
 pub loop-number-init : goal.loop-number-init
@@ -23,11 +23,14 @@ loop-number-preserved c =
     let n = i.len in
     let within = component_within components ports number port c.requires.placed at in
     elim c.match-place_if.branch [
-      | in-Some+in_ok-note w ↦
+      | in-Some+in_ok-reach+in_ok-note w ↦
           let place = w.in-Some.place in
-          let inside = place_inside components ports taken number tables port (get_or taken number false) place c.place_if.result c.place_if.ensures w.in-Some.is i in
+          let reached = w.reach.new.tables.items in
+          let grown = w.in_ok-reach.ensures.grown in
+          let there = subst (AreTables components ports taken number) (sym grown.1) (tables_reach components ports taken number tables port.component.0 grown.0 (omega (arith, n, within)) i) in
+          let there_len = there.len in
           subst (AreTables components ports taken (number + 1)) (sym (ap (λ (z : Vec Lists Global). z.items) w.tables-is))
-          (tables_taken components ports taken number tables w.note.new.tables.items port place c.place_if.result at c.place_if.ensures w.in-Some.is (omega (arith, n, within)) inside w.in_ok-note.ensures i)
+          (tables_taken components ports taken number reached w.note.new.tables.items port place c.place_if.result at c.place_if.ensures w.in-Some.is (omega (arith, there_len, within)) w.in_ok-reach.ensures.reached w.in_ok-note.ensures there)
       | in_default w ↦
           subst (AreTables components ports taken (number + 1)) (sym (ap (λ (z : Vec Lists Global). z.items) w.tables-is)) (tables_left components ports taken number tables port c.place_if.result at c.place_if.ensures w.in_default.is i)
     ]

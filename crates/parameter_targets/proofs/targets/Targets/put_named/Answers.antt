@@ -1,19 +1,29 @@
 use Rattle.std.proofs.Common.{◌≡◌, take, sym, ◌∙◌, subst, refl, arith}
 use Rattle.std.specs.List.{Contains}
 use Rattle.std.proofs.lemmas.List.{take_all}
-use Rattle.parameter_targets.specs.Tables.{IsNamedIn}
+use Rattle.parameter_targets.specs.Tables.{AreNames, IsNamedIn}
 use Rattle.parameter_targets.proofs.ListLemmas.{element_at, read_at}
+use Rattle.parameter_targets.proofs.SharedLemmas.{named_at, place_there}
 use Rattle.parameter_targets.proofs.TargetLemmas.{named_in, puts_as, puts_place}
 use Rattle.parameter_targets.proofs.targets.Targets.put_named.Goals as goal
+
+pub index-names-requires : goal.index-names-requires
+index-names-requires c =
+    let self = c.args.self.now in
+    let shape = element_at self.shapes.now c.args.component c.requires.within in
+    let all = c.requires.targets.names in
+    let of_len = all.of_len in
+    let within = c.requires.within in
+    let at = c.index.result.now in
+    let place = read_at self.names.of.items self.names.of.items c.args.component at refl (omega (arith, of_len, within)) c.index.ensures in
+    let less = place_there self.shapes.now self.names.tables.items self.names.of.items c.args.component at shape.0 all shape.1 place in
+    omega (arith, less, self.names.tables.ok.0)
 
 pub places_of-requires : goal.places_of-requires
 places_of-requires c =
     let self = c.args.self.now in
     let shape = element_at self.shapes.now c.args.component c.requires.within in
-    let names_len = c.requires.targets.names.names_len in
-    let within = c.requires.within in
-    let there = read_at self.names.items self.names.items c.args.component c.index.result.now refl (omega (arith, names_len, within)) c.index.ensures in
-    (c.requires.targets.names.each c.args.component shape.0 c.index.result.now shape.1 there).chains
+    (named_at self c.args.component c.index.result.now c.index-names.result.now shape.0 c.requires.targets shape.1 c.index.ensures c.index-names.ensures).chains
 
 pub loop-variable-preserved : goal.loop-variable-preserved
 loop-variable-preserved c =
@@ -23,10 +33,7 @@ pub returns : goal.returns
 returns c =
     let self = c.args.self.now in
     let shape = element_at self.shapes.now c.args.component c.requires.within in
-    let names_len = c.requires.targets.names.names_len in
-    let within = c.requires.within in
-    let there = read_at self.names.items self.names.items c.args.component c.index.result.now refl (omega (arith, names_len, within)) c.index.ensures in
-    let are = c.requires.targets.names.each c.args.component shape.0 c.index.result.now shape.1 there in
+    let are : AreNames shape.0.variables c.index-names.result.now = named_at self c.args.component c.index.result.now c.index-names.result.now shape.0 c.requires.targets shape.1 c.index.ensures c.index-names.ensures in
     let places = c.deref-variable-items.result.now in
     let i = c.loop-variable.variable-index in
     let whole : take i places ≡ c.in_ok-places.places.items = take_all i places (omega arith) ∙ c.deref-variable-items.ensures.value in
