@@ -4,4 +4,5 @@ pub mod SourceLemmas
 pub mod InstantLemmas
 pub mod TraceLemmas
 pub mod TickLemmas
+pub mod InputLemmas
 pub mod LawLemmas

@@ -4,7 +4,8 @@ use Rattle.std.specs.Prelude.{slice_get, nat_eq, IfSome}
 use Rattle.std.specs.List.{AllByRecursion, flat_map}
 use Rattle.std.specs.Option.{option_map}
 use Rattle.std.proofs.lemmas.Bool.{cases_lt, eq-eqb, eqb-true}
-use Rattle.std.proofs.lemmas.List.{length-map}
+use Rattle.std.proofs.Math.ListN.{replicate}
+use Rattle.std.proofs.lemmas.List.{length-map, length-replicate}
 use Rattle.std.proofs.lemmas.List.Concat.{flat_map-append}
 use Rattle.std.proofs.lemmas.Option.{none-some as none_some}
 use Rattle.std.proofs.lemmas.Slice.Zip.{AllZip-long}
@@ -18,7 +19,7 @@ use Rattle.trace_reading.specs.declared.trace.TraceLine.{TraceLine}
 use Rattle.trace_reading.specs.declared.trace.TraceLine.TheVariants.{At}
 use Rattle.trace_reading.specs.declared.trace.TracePort.{TracePort}
 use Rattle.trace_reading.specs.Form.{IsInstant, IsTrace, MayHave, instant_lines, kinds_of, told_values_from}
-use Rattle.trace_reading.specs.Written.{ports_told}
+use Rattle.trace_reading.specs.Written.{port_told, ports_told}
 use Rattle.trace_reading.proofs.CallerLemmas.{heads, tails, unsome}
 use Rattle.trace_check.specs.Instants.{AreInstantsOf, ReachesPoint, end_line_number, last_time, line_behind}
 use Rattle.trace_check.specs.Rules.{Breaks, BreaksIn, IsFirst, KeepsRules}
@@ -294,6 +295,15 @@ at_last system t instants rest last is_reached along no_more =
 abbrev pub TellsPorts : System → Trace → Type 0
 TellsPorts system t = (k : ℕ) → slice_get t.ports k ≡ slice_get (ports_told system) k
 
+same_length : {X : Type 0} (xs ys : List X) → ((k : ℕ) → slice_get xs k ≡ slice_get ys k) → length xs ≡ length ys
+same_length [] [] same = refl
+same_length [] (y ∷ ys) same = absurd (none_some y (same 0))
+same_length (x ∷ xs) [] same = absurd (none_some x (sym (same 0)))
+same_length (x ∷ xs) (y ∷ ys) same = ap suc (same_length xs ys (λ k. same (suc k)))
+
+pub ports_length : (system : System) (t : Trace) → TellsPorts system t → length t.ports ≡ length system.ports
+ports_length system t ports = same_length t.ports (ports_told system) ports ∙ length-map system.ports (port_told system.components)
+
 keeps_each : (system : System) (t : Trace) (rest : List TraceLine) (is_reached : Bool) → TellsPorts system t → ((instants : List Instant) → AreInstantsOf t instants → AtLast system t instants rest is_reached) →
     (t.kind ≡ Stop → (t.point ≡ t.stop) × IsTrue is_reached) → (line rule : ℕ) → Breaks system t line rule → ⊥
 keeps_each system t rest is_reached ports all right line rule (AtPort k at rule_is differs) = differs (ports k)
@@ -446,12 +456,17 @@ point_low system t rest last is_reached i form all =
 
 -- ---- one round of the checking
 
-pub told_from : (t : Trace) (rows behind : List TraceLine) (values seen : List (Option ℤ)) (ports : ℕ) → ports ≡ length t.ports → seen ≡ values →
-    ((told : List (Option ℤ)) (rest : List TraceLine) → BeginsWithValues rows ports told rest → values ≡ told) →
-    ((told : List (Option ℤ)) (rest : List TraceLine) → BeginsWithValues rows ports told rest → behind ≡ rest) → Told t rows behind seen
-told_from t rows behind values seen ports size same values_are rest_is = record {
-  values_are = λ told rest begins. same ∙ values_are told rest (record { size = begins.size ∙ sym size; parts = begins.parts; ends = begins.ends });
-  rest_is = λ told rest begins. rest_is told rest (record { size = begins.size ∙ sym size; parts = begins.parts; ends = begins.ends });
+-- a place for each port
+pub room : (t : Trace) (values : List (Option ℤ)) → values ≡ replicate (length t.ports) None → length values ≡ length t.ports
+room t values none = ap length none ∙ length-replicate (length t.ports) None
+
+pub told_from : (t : Trace) (rows lines behind : List TraceLine) (old values seen : List (Option ℤ)) → length old ≡ length t.ports → seen ≡ values →
+    ((ports : ℕ) (told : List (Option ℤ)) (rest : List TraceLine) → BeginsWithValues rows ports told rest → lines ≡ told_values_from 0 told) →
+    ((ports : ℕ) (told : List (Option ℤ)) (rest : List TraceLine) → BeginsWithValues rows ports told rest → behind ≡ rest) →
+    ((all : List (Option ℤ)) → length all ≡ length old → lines ≡ told_values_from 0 all → values ≡ all) → Told t rows behind seen
+told_from t rows lines behind old values seen size same lines_are rest_is put = record {
+  values_are = λ told rest begins. same ∙ put told (begins.size ∙ sym size) (lines_are (length t.ports) told rest begins);
+  rest_is = λ told rest begins. rest_is (length t.ports) told rest begins;
 }
 
 -- so many lines are left at most
@@ -471,6 +486,18 @@ module _ (system : System) (t : Trace) (rest rows behind : List TraceLine) (time
     (all : (instants : List Instant) → AreInstantsOf t instants → Along system t instants rest last was) (next : rest ≡ At time n ∷ rows) (read : Told t rows behind seen) where
   at_each : (instants : List Instant) → AreInstantsOf t instants → HereThen system t instants rest behind last was (instant_at time n seen)
   at_each instants told = here system t instants rest rows behind time n last was seen told (all instants told) next read
+
+  -- the lines that were read tell its values
+  pub lines_tell : (lines : List TraceLine) → ((ports : ℕ) (told : List (Option ℤ)) (later : List TraceLine) → BeginsWithValues rows ports told later → lines ≡ told_values_from 0 told) →
+      lines ≡ told_values_from 0 seen
+  lines_tell lines lines_are =
+      let told : AreInstantsOf t form.instants = record { each = form.each; lines = form.lines } in
+      let along = all form.instants told in
+      let coming_next = coming system t form.instants rest rows time n last was along next in
+      let parts : form.instants ≡ along.before ++ (coming_next.instant ∷ coming_next.later) = along.parts ∙ ap (λ (xs : List Instant). along.before ++ xs) coming_next.behind in
+      let begins = coming_values t along.before coming_next.later form.instants coming_next.instant rows told parts coming_next.rows_are in
+      lines_are (length t.ports) coming_next.instant.values (flat_map instant_lines coming_next.later) begins
+      ∙ ap (told_values_from 0) (sym (read.values_are coming_next.instant.values (flat_map instant_lines coming_next.later) begins))
 
   pub time_low : time ≤ 2 ^ 62
   time_low = point_low system t rest last was (instant_at time n seen) form (λ instants told. (at_each instants told).here)

@@ -1,85 +1,93 @@
--- The values of an instant, read from its lines one after another.
-use Rattle.std.proofs.Common.{arith, ◌≡◌, refl, sym, ap, ◌∙◌, subst, ℕ, ◌+◌, ◌-◌, ◌≤◌, suc, ℤ, List, [], ◌∷◌, ◌++◌, Option, Some, None, length, take, append_assoc, length-append}
+-- The lines of an instant that tell its values, and the values that are put and taken away by them.
+use Rattle.std.proofs.Common.{arith, ◌≡◌, refl, sym, ap, ◌∙◌, subst, ℕ, ◌+◌, ◌≤◌, ◌<◌, suc, zero, ℤ, List, [], ◌∷◌, ◌++◌, Option, Some, None, length, take, drop, set, length-set}
+use Rattle.std.specs.Prelude.{slice_get}
+use Rattle.std.specs.List.{AllByRecursion}
 use Rattle.std.proofs.Math.ListN.{replicate}
-use Rattle.std.proofs.lemmas.List.{take_all, length-replicate}
+use Rattle.std.proofs.lemmas.List.{at_drop_all, drop_all}
+use Rattle.std.proofs.lemmas.Option.{none-some as none_some}
 use Rattle.trace_reading.specs.declared.trace.TraceLine.{TraceLine}
-use Rattle.trace_reading.specs.declared.trace.TraceLine.TheVariants.{Value}
+use Rattle.trace_reading.specs.declared.trace.TraceLine.TheVariants.{At, Value}
 use Rattle.trace_reading.specs.Form.{told_values_from}
-use Rattle.trace_reading.proofs.CallerLemmas.{heads, tails}
 use Rattle.trace_check.specs.Steps.{BeginsNoValue}
 
--- of all values some are read, and the lines left are those of the others and of what stands behind
-pub record Left (all done : List (Option ℤ)) (rest behind : List TraceLine) : Type 0 where
-  pub more : List (Option ℤ)
-  pub whole : all ≡ done ++ more
-  pub lines : rest ≡ told_values_from (length done) more ++ behind
+-- ---- where they end
 
-pub none_read : (all : List (Option ℤ)) (lines behind : List TraceLine) → lines ≡ told_values_from 0 all ++ behind → Left all [] lines behind
-none_read all lines behind e = record { more = all; whole = refl; lines = e }
+abbrev IsValue : TraceLine → Type 0
+IsValue (At t n) = ⊥
+IsValue (Value p v) = Unit {0}
 
--- the next value line is that of the first port with a value
-record Next (k : ℕ) (more : List (Option ℤ)) (p : ℕ) (v : ℤ) (rest behind : List TraceLine) : Type 0 where
-  gap : ℕ
-  next : List (Option ℤ)
-  at : p ≡ k + gap
-  parts : more ≡ replicate gap None ++ (Some v ∷ next)
-  lines : rest ≡ told_values_from (p + 1) next ++ behind
+all_values : (k : ℕ) (values : List (Option ℤ)) → AllByRecursion IsValue (told_values_from k values)
+all_values k [] = tt
+all_values k (None ∷ values) = all_values (k + 1) values
+all_values k (Some v ∷ values) = (tt, all_values (k + 1) values)
 
-next_of : (k : ℕ) (more : List (Option ℤ)) (behind rest : List TraceLine) (p : ℕ) (v : ℤ) → BeginsNoValue behind →
-    told_values_from k more ++ behind ≡ Value p v ∷ rest → Next k more p v rest behind
-next_of k [] behind rest p v ends e = absurd (subst BeginsNoValue e ends)
-next_of k (None ∷ more) behind rest p v ends e =
-    let n = next_of (k + 1) more behind rest p v ends e in
-    let place : p ≡ k + 1 + n.gap = n.at in
-    record { gap = suc n.gap; next = n.next; at = omega (arith, place); parts = ap (λ (xs : List (Option ℤ)). None ∷ xs) n.parts; lines = n.lines }
-next_of k (Some w ∷ more) behind rest p v ends e =
-    let line : Value k w ≡ Value p v = heads _ _ _ _ e in
-    let left : told_values_from (k + 1) more ++ behind ≡ rest = tails _ _ _ _ e in
-    let place : k ≡ p = cc line in
-    let same : w ≡ v = cc line in
-    record {
-      gap = 0;
-      next = more;
-      at = omega (arith, place);
-      parts = ap (λ (x : ℤ). Some x ∷ more) same;
-      lines = sym left ∙ ap (λ (q : ℕ). told_values_from (q + 1) more ++ behind) place;
-    }
+-- lines that tell values end where the first line stands that doesn't
+cut_here : (told behind : List TraceLine) (k : ℕ) → AllByRecursion IsValue told → BeginsNoValue behind → ((j t n : ℕ) → j < k → slice_get (told ++ behind) j ≡ Some (At t n) → ⊥) →
+    BeginsNoValue (drop k (told ++ behind)) → (take k (told ++ behind) ≡ told) × (drop k (told ++ behind) ≡ behind)
+cut_here [] [] zero all ends before here = (refl, refl)
+cut_here [] [] (suc k) all ends before here = (refl, refl)
+cut_here [] (At t n ∷ behind) zero all ends before here = (refl, refl)
+cut_here [] (At t n ∷ behind) (suc k) all ends before here = absurd (before 0 t n (omega arith) refl)
+cut_here [] (Value p v ∷ behind) k all ends before here = absurd ends
+cut_here (At t n ∷ told) behind k all ends before here = absurd all.0
+cut_here (Value p v ∷ told) behind zero all ends before here = absurd here
+cut_here (Value p v ∷ told) behind (suc k) all ends before here =
+    let more = cut_here told behind k all.1 ends (λ j t n low is. before (suc j) t n (omega (arith, low)) is) here in
+    (ap (λ (xs : List TraceLine). Value p v ∷ xs) more.0, more.1)
 
-filled : (done : List (Option ℤ)) (p gap : ℕ) → p ≡ length done + gap → take p done ++ replicate (p - length done) None ≡ done ++ replicate gap None
-filled done p gap at =
-    let past : length done ≤ p = omega (arith, at) in
-    let room : p - length done ≡ gap = omega (arith, at) in
-    ap (λ (xs : List (Option ℤ)). xs ++ replicate (p - length done) None) (take_all p done past) ∙ ap (λ (n : ℕ). done ++ replicate n None) room
+pub cut_told : (lines : List TraceLine) (values : List (Option ℤ)) (behind : List TraceLine) (k : ℕ) → lines ≡ told_values_from 0 values ++ behind → BeginsNoValue behind →
+    ((j t n : ℕ) → j < k → slice_get lines j ≡ Some (At t n) → ⊥) → BeginsNoValue (drop k lines) → (take k lines ≡ told_values_from 0 values) × (drop k lines ≡ behind)
+cut_told lines values behind k parts ends before here =
+    let P : List TraceLine → Type 0 = λ xs. ((j t n : ℕ) → j < k → slice_get xs j ≡ Some (At t n) → ⊥) → BeginsNoValue (drop k xs) → (take k xs ≡ told_values_from 0 values) × (drop k xs ≡ behind) in
+    subst P (sym parts) (cut_here (told_values_from 0 values) behind k (all_values 0 values) ends) before here
 
-pub next_read : (all done now : List (Option ℤ)) (lines rest behind : List TraceLine) (p : ℕ) (v : ℤ) → Left all done lines behind → BeginsNoValue behind →
-    lines ≡ Value p v ∷ rest → now ≡ (take p done ++ replicate (p - length done) None) ++ (Some v ∷ []) → Left all now rest behind
-next_read all done now lines rest behind p v left ends line pushed =
-    let n = next_of (length done) left.more behind rest p v ends (sym left.lines ∙ line) in
-    let is : now ≡ (done ++ replicate n.gap None) ++ (Some v ∷ []) = pushed ∙ ap (λ (xs : List (Option ℤ)). xs ++ (Some v ∷ [])) (filled done p n.gap n.at) in
-    let joined : now ++ n.next ≡ done ++ (replicate n.gap None ++ (Some v ∷ n.next)) =
-    ap (λ (xs : List (Option ℤ)). xs ++ n.next) is ∙ (append_assoc (done ++ replicate n.gap None) (Some v ∷ []) n.next ∙ append_assoc done (replicate n.gap None) (Some v ∷ n.next)) in
-    let sum : length ((done ++ replicate n.gap None) ++ (Some v ∷ [])) ≡ length done + n.gap + 1 =
-    length-append (done ++ replicate n.gap None) (Some v ∷ []) ∙ ap (λ (m : ℕ). m + 1) (length-append done (replicate n.gap None) ∙ ap (λ (m : ℕ). length done + m) (length-replicate n.gap None)) in
-    let size : p + 1 ≡ length now = omega (arith, ap length is, sum, n.at) in
-    record {
-      more = n.next;
-      whole = left.whole ∙ (ap (λ (xs : List (Option ℤ)). done ++ xs) n.parts ∙ sym joined);
-      lines = n.lines ∙ ap (λ (m : ℕ). told_values_from m n.next ++ behind) size;
-    }
+pub starts_at : (lines : List TraceLine) (k t n : ℕ) → slice_get lines k ≡ Some (At t n) → BeginsNoValue (drop k lines)
+starts_at [] k t n is = absurd (none_some _ is)
+starts_at (At u m ∷ lines) zero t n is = tt
+starts_at (Value p v ∷ lines) zero t n is = absurd (cc is)
+starts_at (x ∷ lines) (suc k) t n is = starts_at lines k t n is
 
--- no value line is left: the other ports have no value
-none_left : (k : ℕ) (more : List (Option ℤ)) (behind : List TraceLine) → ((p : ℕ) (v : ℤ) (rest : List TraceLine) → told_values_from k more ++ behind ≡ Value p v ∷ rest → ⊥) →
-    (more ≡ replicate (length more) None) × (told_values_from k more ≡ [])
-none_left k [] behind no_value = (refl, refl)
-none_left k (None ∷ more) behind no_value = let rec = none_left (k + 1) more behind no_value in (ap (λ (xs : List (Option ℤ)). None ∷ xs) rec.0, rec.1)
-none_left k (Some w ∷ more) behind no_value = absurd (no_value k w (told_values_from (k + 1) more ++ behind) refl)
+pub starts_past : (lines : List TraceLine) (k : ℕ) → length lines ≤ k → BeginsNoValue (drop k lines)
+starts_past lines k past = subst BeginsNoValue (sym (drop_all k lines past)) tt
 
-pub all_read : (all done now : List (Option ℤ)) (ports : ℕ) (rest behind : List TraceLine) → length all ≡ ports → Left all done rest behind →
-    ((p : ℕ) (v : ℤ) (lines : List TraceLine) → rest ≡ Value p v ∷ lines → ⊥) → now ≡ take ports done ++ replicate (ports - length done) None → (now ≡ all) × (rest ≡ behind)
-all_read all done now ports rest behind size left no_value resized =
-    let ends = none_left (length done) left.more behind (λ p v lines e. no_value p v lines (left.lines ∙ e)) in
-    let sum : length all ≡ length done + length left.more = ap length left.whole ∙ length-append done left.more in
-    let at : ports ≡ length done + length left.more = sym size ∙ sum in (
-      resized ∙ (filled done ports (length left.more) at ∙ (ap (λ (xs : List (Option ℤ)). done ++ xs) (sym ends.0) ∙ sym left.whole)),
-      left.lines ∙ ap (λ (xs : List TraceLine). xs ++ behind) ends.1,
-    )
+-- ---- what they put
+
+-- for each value that is told, what is made of it
+abbrev pub put_line : (ℤ → Option ℤ) → TraceLine → List (Option ℤ) → List (Option ℤ)
+put_line f (At t n) values = values
+put_line f (Value p v) values = set values p (f v)
+
+abbrev pub put_lines : (ℤ → Option ℤ) → List TraceLine → List (Option ℤ) → List (Option ℤ)
+put_lines f [] values = values
+put_lines f (line ∷ lines) values = put_lines f lines (put_line f line values)
+
+put_behind : (f : ℤ → Option ℤ) (x : Option ℤ) (k : ℕ) (all values : List (Option ℤ)) → put_lines f (told_values_from (suc k) all) (x ∷ values) ≡ x ∷ put_lines f (told_values_from k all) values
+put_behind f x k [] values = refl
+put_behind f x k (None ∷ all) values =
+    let next : suc k + 1 ≡ suc (k + 1) = omega arith in
+    ap (λ (n : ℕ). put_lines f (told_values_from n all) (x ∷ values)) next ∙ put_behind f x (k + 1) all values
+put_behind f x k (Some v ∷ all) values =
+    let next : suc k + 1 ≡ suc (k + 1) = omega arith in
+    ap (λ (n : ℕ). put_lines f (told_values_from n all) (x ∷ set values k (f v))) next ∙ put_behind f x (k + 1) all (set values k (f v))
+
+pub put_all : (all : List (Option ℤ)) → put_lines Some (told_values_from 0 all) (replicate (length all) None) ≡ all
+put_all [] = refl
+put_all (None ∷ all) = put_behind Some None 0 all (replicate (length all) None) ∙ ap (λ (xs : List (Option ℤ)). None ∷ xs) (put_all all)
+put_all (Some v ∷ all) = put_behind Some (Some v) 0 all (replicate (length all) None) ∙ ap (λ (xs : List (Option ℤ)). Some v ∷ xs) (put_all all)
+
+abbrev pub no_value : ℤ → Option ℤ
+no_value v = None
+
+pub clear_all : (all : List (Option ℤ)) → put_lines no_value (told_values_from 0 all) all ≡ replicate (length all) None
+clear_all [] = refl
+clear_all (None ∷ all) = put_behind no_value None 0 all all ∙ ap (λ (xs : List (Option ℤ)). None ∷ xs) (clear_all all)
+clear_all (Some v ∷ all) = put_behind no_value None 0 all all ∙ ap (λ (xs : List (Option ℤ)). None ∷ xs) (clear_all all)
+
+pub put_size : (f : ℤ → Option ℤ) (lines : List TraceLine) (values : List (Option ℤ)) → length (put_lines f lines values) ≡ length values
+put_size f [] values = refl
+put_size f (At t n ∷ lines) values = put_size f lines values
+put_size f (Value p v ∷ lines) values = put_size f lines (set values p (f v)) ∙ length-set values p (f v)
+
+-- once the last line is taken
+pub put_end : (f : ℤ → Option ℤ) (told : List TraceLine) (i : ℕ) (values old : List (Option ℤ)) → put_lines f (drop i told) values ≡ put_lines f told old → length told ≤ i → values ≡ put_lines f told old
+put_end f told i values old so_far past = sym (at_drop_all (λ (xs : List TraceLine). put_lines f xs values) told i past) ∙ so_far

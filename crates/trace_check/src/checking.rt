@@ -2,14 +2,16 @@ ghost use Rattle.std.specs.Prelude.{◌≡◌, ◌+◌, ◌-◌, ◌<◌, ◌≤
 ghost use Rattle.system_model.specs.declared.plan.EndKind.TheVariants.{Stop};
 ghost use Rattle.trace_reading.specs.Form.{IsTrace};
 ghost use Rattle.trace_reading.specs.Written.{ports_told};
+ghost use Rattle.trace_check.specs.Inputs.{HoldInputs};
 ghost use Rattle.trace_check.specs.Rules.{IsFirst, KeepsRules};
 ghost use Rattle.trace_check.specs.Steps.{AreConstantClocks};
 ghost use Rattle.trace_check.specs.Ticks.{HasLimitedClocks};
 ghost use Rattle.trace_check.specs.declared.verdict.Verdict.TheVariants.{Yes, No};
 
+use crate::inputs::FedInputs;
 use crate::instant::first_break;
 use crate::ports::first_strange_port;
-use crate::reading::{next_at, read_values};
+use crate::reading::{clear_values, next_at, put_values, value_lines};
 use crate::ticks::{ConstantClock, constant_clocks};
 use crate::verdict::{ORDER_RULE, PORT_RULE, Verdict};
 use std::alloc::{AllocError, Global};
@@ -33,7 +35,8 @@ pub fn check(alloc: Global, system: &System, trace: &Trace) -> Result<Verdict, A
         });
     }
     let clocks = constant_clocks(alloc, system)?;
-    check_instants(alloc, system, &clocks, trace)
+    let inputs = FedInputs::of(alloc, system)?;
+    check_instants(alloc, system, &clocks, &inputs, trace)
 }
 
 // The same for a trace that tells the system's ports.
@@ -41,9 +44,12 @@ fn check_instants(
     alloc: Global,
     system: &System,
     clocks: &[ConstantClock],
+    inputs: &FedInputs,
     trace: &Trace,
 ) -> Result<Verdict, AllocError>
     requires clocks { AreConstantClocks system.now clocks.now }
+    requires inputs { HoldInputs system.now.ports (length system.now.ports) inputs.now.steady.items
+        inputs.now.at_ticks }
     requires ports { (k : ℕ) → slice_get trace.now.ports k ≡ slice_get (ports_told system.now) k }
     requires form { IsTrace trace.now }
     requires lines { length trace.now.ports + length trace.now.lines + 2 < 2 ^ 64 }
@@ -52,17 +58,22 @@ fn check_instants(
         IsFirst system.now trace.now line rule }
 {
     let mut values = Vec::new(alloc);
+    values.resize(trace.ports.len(), None)?;
     let mut last = None;
     let mut is_reached = false;
     let mut rest = trace.lines.as_slice();
     while let Some((t, n, rows)) = next_at(rest) {
-        let behind = read_values(&mut values, trace.ports.len(), rows)?;
-        if let Some((offset, rule)) = first_break(system, clocks, trace, last, t, n, &values) {
+        let (told, behind) = value_lines(rows);
+        put_values(&mut values, told);
+        if let Some((offset, rule)) = first_break(
+            system, clocks, inputs, trace, last, t, n, told, &values,
+        ) {
             return Ok(Verdict::No {
                 line: line_number(trace, rest) + offset,
                 rule,
             });
         }
+        clear_values(&mut values, told);
         is_reached = is_reached || t == trace.stop;
         last = Some((t, n));
         rest = behind;

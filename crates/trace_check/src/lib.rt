@@ -2,6 +2,7 @@
 #![tactic(auto)]
 
 mod checking;
+mod inputs;
 mod instant;
 mod laws;
 mod ports;

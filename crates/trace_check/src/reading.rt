@@ -1,8 +1,8 @@
-ghost use Rattle.std.specs.Prelude.{◌≡◌, ℕ, ℤ, List, ◌∷◌, Option, IfSome, OnOk, IfOk, IfNone};
+ghost use Rattle.std.specs.Prelude.{◌≡◌, ℕ, ℤ, None, List, ◌∷◌, Option, IfSome, IfNone, length, replicate, slice_set};
+ghost use Rattle.trace_reading.specs.Form.{told_values_from};
 ghost use Rattle.trace_reading.specs.declared.trace.TraceLine.{TraceLine};
 ghost use Rattle.trace_check.specs.Steps.{BeginsWithValues};
 
-use std::alloc::{AllocError, Global};
 use trace_reading::TraceLine;
 
 /// The `at` line that stands first, and what is left behind it.
@@ -17,36 +17,51 @@ pub(crate) fn next_at(lines: &[TraceLine]) -> Option<(u64, u64, &[TraceLine])>
     }
 }
 
-/// Reads the values of an instant, one a port, from the front of some lines, and answers the lines that are left.
-pub(crate) fn read_values<'a>(
-    values: &mut Vec<Option<i128>>,
-    ports: usize,
-    lines: &'a [TraceLine],
-) -> Result<&'a [TraceLine], AllocError>
-    ensures values { (told : List (Option ℤ)) (behind : List TraceLine) →
-        BeginsWithValues lines.now ports told behind → OnOk result (values.new.items ≡ told) }
-    ensures rest { (told : List (Option ℤ)) (behind : List TraceLine) →
-        BeginsWithValues lines.now ports told behind → IfOk result (λ rest. rest.now ≡ behind) }
+/// The value lines that stand first, and what is left behind them.
+pub(crate) fn value_lines(lines: &[TraceLine]) -> (&[TraceLine], &[TraceLine])
+    ensures told { (ports : ℕ) (values : List (Option ℤ)) (behind : List TraceLine) →
+        BeginsWithValues lines.now ports values behind → result.0.now ≡ told_values_from 0 values }
+    ensures rest { (ports : ℕ) (values : List (Option ℤ)) (behind : List TraceLine) →
+        BeginsWithValues lines.now ports values behind → result.1.now ≡ behind }
 {
-    values.clear();
-    let mut rest = lines;
-    while let Some((port, value, behind)) = next_value(rest) {
-        values.resize(port, None)?;
-        values.push(Some(value))?;
-        rest = behind;
+    for (k, line) in lines.iter().enumerate() {
+        if let TraceLine::At { .. } = line {
+            return lines.split_at(k);
+        }
     }
-    values.resize(ports, None)?;
-    Ok(rest)
+    lines.split_at(lines.len())
 }
 
-// The value line that stands first, and what is left behind it.
-fn next_value(lines: &[TraceLine]) -> Option<(usize, i128, &[TraceLine])>
-    ensures found { IfSome result (λ p. lines.now ≡ TraceLine.Value p.0 p.1 ∷ p.2.now) }
-    ensures none { IfNone result ((port : ℕ) (value : ℤ) (rest : List TraceLine) →
-        lines.now ≡ TraceLine.Value port value ∷ rest → ⊥) }
+/// Puts the values of an instant, which these lines tell, to the places of their ports.
+pub(crate) fn put_values(values: &mut Vec<Option<i128>>, told: &[TraceLine])
+    requires none { values.old.items ≡ replicate (length values.old.items) None }
+    ensures size { length values.new.items ≡ length values.old.items }
+    ensures put { (all : List (Option ℤ)) → length all ≡ length values.old.items →
+        told.now ≡ told_values_from 0 all → values.new.items ≡ all }
 {
-    match lines {
-        [TraceLine::Value { port, value }, rest @ ..] => Some((*port as usize, *value, rest)),
-        _ => None,
+    for line in told {
+        if let TraceLine::Value { port, value } = line {
+            put(values, *port as usize, Some(*value));
+        }
+    }
+}
+
+/// Takes away what was put.
+pub(crate) fn clear_values(values: &mut Vec<Option<i128>>, told: &[TraceLine])
+    requires told { told.now ≡ told_values_from 0 values.old.items }
+    ensures none { values.new.items ≡ replicate (length values.old.items) None }
+{
+    for line in told {
+        if let TraceLine::Value { port, .. } = line {
+            put(values, *port as usize, None);
+        }
+    }
+}
+
+fn put(values: &mut Vec<Option<i128>>, p: usize, value: Option<i128>)
+    ensures { values.new.items ≡ slice_set values.old.items p value }
+{
+    if p < values.len() {
+        values[p] = value;
     }
 }

@@ -1,4 +1,4 @@
-ghost use Rattle.std.specs.Prelude.{◌≡◌, ◌≤◌, ◌<◌, ◌↔◌, ℕ, None, IfNone, IfSome, IsTrue};
+ghost use Rattle.std.specs.Prelude.{◌≡◌, ◌≤◌, ◌<◌, ◌↔◌, ℕ, None, Contains, IfNone, IfSome, IsTrue, length};
 ghost use Rattle.std.specs.List.{list_any};
 ghost use Rattle.std.specs.Option.{option_map};
 ghost use Rattle.sim_base.specs.declared.numbers.PortId.{PortId};
@@ -6,11 +6,15 @@ ghost use Rattle.system_model.specs.Ports.{is_clock_role, source_of};
 ghost use Rattle.system_model.specs.declared.system.Feed.{Feed};
 ghost use Rattle.trace_check.specs.Instants.{lines_to};
 ghost use Rattle.system_model.specs.Values.{value, is_active, is_present};
+ghost use Rattle.trace_reading.specs.Form.{told_values_from};
+ghost use Rattle.trace_check.specs.Inputs.{HoldInputs};
 ghost use Rattle.trace_check.specs.Steps.{IsOtherValue};
 ghost use Rattle.trace_check.specs.Values.{DiffersFromSource};
 
+use crate::inputs::FedInputs;
 use sim_base::PortId;
 use system_model::{Feed, Port, Role, System};
+use trace_reading::TraceLine;
 
 /// The value of a port, or none.
 pub(crate) fn value(values: &[Option<i128>], p: usize) -> Option<i128>
@@ -32,7 +36,7 @@ pub(crate) fn is_active(value: Option<i128>) -> bool
     }
 }
 
-fn is_clock(role: Role) -> bool
+pub(crate) fn is_clock(role: Role) -> bool
     ensures { result ≡ is_clock_role role }
 {
     match role {
@@ -51,7 +55,7 @@ fn place_from(feed: Option<Feed>) -> Option<usize>
 }
 
 // The port that feeds a port of this role.
-fn source_of(role: Role) -> Option<usize>
+pub(crate) fn source_of(role: Role) -> Option<usize>
     ensures { result ≡ source_of role }
 {
     match role {
@@ -88,36 +92,67 @@ fn differs(system: &System, values: &[Option<i128>], p: usize) -> bool
     }
 }
 
-/// An input that is present and has no value, where its source has one.
-pub(crate) fn first_without_value(system: &System, values: &[Option<i128>]) -> Option<usize>
+/// An input that is present and has no value, where its source has one. These lines tell the values. Of the inputs with
+/// Clocks it looks at those of which a Clock is active.
+pub(crate) fn first_without_value(
+    system: &System,
+    inputs: &FedInputs,
+    told: &[TraceLine],
+    values: &[Option<i128>],
+) -> Option<usize>
+    requires inputs { HoldInputs system.now.ports (length system.now.ports) inputs.now.steady.items
+        inputs.now.at_ticks }
+    requires told { told.now ≡ told_values_from 0 values.now }
+    requires size { length values.now ≡ length system.now.ports }
     ensures found { IfSome result (λ p. DiffersFromSource system.now values.now p ×
         (value values.now p ≡ None)) }
     ensures none { IfNone result ((p : ℕ) → DiffersFromSource system.now values.now p →
         value values.now p ≡ None → ⊥) }
 {
-    for p in 0..system.ports.len() {
-        if value(values, p).is_none() && differs(system, values, p) {
+    if let Some(p) = first_lacking(system, inputs.steady.as_slice(), values) {
+        return Some(p);
+    }
+    for line in told {
+        if let Some(p) = first_lacking(system, inputs.at_tick(line), values) {
             return Some(p);
         }
     }
     None
 }
 
+// Of these ports the first input that is present and has no value, where its source has one.
+fn first_lacking(system: &System, ports: &[usize], values: &[Option<i128>]) -> Option<usize>
+    ensures found { IfSome result (λ p. DiffersFromSource system.now values.now p ×
+        (value values.now p ≡ None)) }
+    ensures none { IfNone result ((p : ℕ) → Contains ports.now p →
+        DiffersFromSource system.now values.now p → value values.now p ≡ None → ⊥) }
+{
+    for p in ports {
+        if value(values, *p).is_none() && differs(system, values, *p) {
+            return Some(*p);
+        }
+    }
+    None
+}
+
 /// Of the inputs that have a value, are present and haven't their source's the first: how many lines its line stands
-/// behind the `at` line.
-pub(crate) fn first_other_value(system: &System, values: &[Option<i128>]) -> Option<u64>
+/// behind the `at` line. These lines tell the values.
+pub(crate) fn first_other_value(
+    system: &System,
+    told: &[TraceLine],
+    values: &[Option<i128>],
+) -> Option<u64>
+    requires told { told.now ≡ told_values_from 0 values.now }
     ensures found { IfSome result (IsOtherValue system.now values.now) }
     ensures first { IfSome result (λ lines. (p : ℕ) → DiffersFromSource system.now values.now p →
         0 < lines_to values.now p → lines ≤ lines_to values.now p) }
     ensures none { IfNone result ((p : ℕ) → DiffersFromSource system.now values.now p →
         lines_to values.now p ≡ 0) }
 {
-    let mut lines = 0;
-    for (p, value) in values.iter().enumerate() {
-        if value.is_some() {
-            lines += 1;
-            if differs(system, values, p) {
-                return Some(lines);
+    for (k, line) in told.iter().enumerate() {
+        if let TraceLine::Value { port, .. } = line {
+            if differs(system, values, *port as usize) {
+                return Some(k as u64 + 1);
             }
         }
     }

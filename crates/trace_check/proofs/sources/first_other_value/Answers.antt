@@ -1,32 +1,36 @@
-use Rattle.std.proofs.Common.{rules, ◌≡◌, ◌<◌, length, true, false}
-use Rattle.std.specs.Prelude.{is_some}
-use Rattle.system_model.specs.Values.{value}
+use Rattle.std.proofs.Common.{arith, ◌≡◌, ◌∙◌, ap, sym, subst, ℕ, Some, get_or}
+use Rattle.std.specs.List.{slice_get}
+use Rattle.std.proofs.lemmas.Option.{slice_get-get_or}
+use Rattle.trace_reading.specs.declared.trace.TraceLine.TheVariants.{At, Value}
+use Rattle.system_model.proofs.CallerLemmas.{true_false}
 use Rattle.trace_check.specs.Values.{DiffersFromSource}
-use Rattle.trace_check.proofs.SourceLemmas.{counted_next, counted_same, first_line, none_with, none_without}
+use Rattle.trace_check.proofs.SourceLemmas.{agree_more, first_line, no_line, other_line}
 use Rattle.trace_check.proofs.sources.first_other_value.Goals as goal
-use Rattle.trace_check.proofs.sources.first_other_value.Goals.{then-is_some+else-differs, else-is_some}
+use Rattle.trace_check.proofs.sources.first_other_value.Goals.{in-Value+else-differs, in_default}
+
+pub returns-then-differs-clause-found : goal.returns-then-differs-clause-found
+returns-then-differs-clause-found c =
+    let own : get_or c.args.told.now c.loop-k.k (At 0 0) ≡ Value c.in-Value.port c.in-Value.value = cc in
+    let at : slice_get c.args.told.now c.loop-k.k ≡ Some (Value c.in-Value.port c.in-Value.value) = slice_get-get_or c.args.told.now c.loop-k.k (At 0 0) (omega arith) ∙ ap Some own in
+    other_line c.args.system.now c.args.values.now c.args.told.now c.loop-k.k c.in-Value.port c.in-Value.value c.requires.told at (c.differs.ensures.0 c.if-differs.true)
 
 pub returns-then-differs-clause-first : goal.returns-then-differs-clause-first
-returns-then-differs-clause-first c =
-    let within : c.loop-p.p < length c.args.values.now = search rules in
-    let some : is_some (value c.args.values.now c.loop-p.p) ≡ true = search rules in
-    first_line c.args.system.now c.args.values.now c.loop-p.p c.loop-p.lines c.loop-p.invariant.counted within some c.loop-p.invariant.none
+returns-then-differs-clause-first c = first_line c.args.system.now c.args.values.now c.args.told.now c.loop-k.k c.requires.told c.loop-k.invariant
 
-pub loop-p-preserved : goal.loop-p-preserved
-loop-p-preserved c =
-    let within : c.loop-p.p < length c.args.values.now = search rules in
-    elim c.if-is_some.branch [
-      | then-is_some+else-differs w ↦
-          let some : is_some (value c.args.values.now c.loop-p.p) ≡ true = search rules in
-          let same : DiffersFromSource c.args.system.now c.args.values.now c.loop-p.p → ⊥ = λ differs. let is = w.differs.ensures.1 differs in cc in
-          record {
-            counted = counted_next c.args.values.now c.loop-p.p c.loop-p.lines c.if-is_some.lines c.loop-p.invariant.counted within some w.lines-is;
-            none = none_with c.args.system.now c.args.values.now c.loop-p.p c.loop-p.invariant.none same;
-          }
-      | else-is_some w ↦
-          let none : is_some (value c.args.values.now c.loop-p.p) ≡ false = search rules in
-          record {
-            counted = counted_same c.args.values.now c.loop-p.p c.loop-p.lines c.if-is_some.lines c.loop-p.invariant.counted within none w.lines-is;
-            none = none_without c.args.system.now c.args.values.now c.loop-p.p c.loop-p.invariant.none none;
-          }
+pub loop-k-preserved : goal.loop-k-preserved
+loop-k-preserved c =
+    elim c.match-line.branch [
+      | in-Value+else-differs w ↦
+          let own : get_or c.args.told.now c.loop-k.k (At 0 0) ≡ Value w.in-Value.port w.in-Value.value = cc in
+          let at : slice_get c.args.told.now c.loop-k.k ≡ Some (Value w.in-Value.port w.in-Value.value) = slice_get-get_or c.args.told.now c.loop-k.k (At 0 0) (omega arith) ∙ ap Some own in
+          agree_more c.args.system.now c.args.values.now c.args.told.now c.loop-k.k (Value w.in-Value.port w.in-Value.value) c.loop-k.invariant at (λ p v is differs.
+          let same : p ≡ w.in-Value.port = cc is in
+          true_false (sym (w.differs.ensures.1 (subst (λ (q : ℕ). DiffersFromSource c.args.system.now c.args.values.now q) same differs)) ∙ w.if-differs.false))
+      | in_default w ↦
+          let own : get_or c.args.told.now c.loop-k.k (At 0 0) ≡ At w.in_default.field-0 w.in_default.field-1 = cc in
+          let at : slice_get c.args.told.now c.loop-k.k ≡ Some (At w.in_default.field-0 w.in_default.field-1) = slice_get-get_or c.args.told.now c.loop-k.k (At 0 0) (omega arith) ∙ ap Some own in
+          agree_more c.args.system.now c.args.values.now c.args.told.now c.loop-k.k (At w.in_default.field-0 w.in_default.field-1) c.loop-k.invariant at (λ p v is differs. cc is)
     ]
+
+pub returns-clause-none : goal.returns-clause-none
+returns-clause-none c = no_line c.args.system.now c.args.values.now c.args.told.now c.loop-k.k c.requires.told c.loop-k.invariant (omega arith)
