@@ -4,6 +4,9 @@ use Rattle.std.specs.Prelude.{◌↔◌, ◌==◌, IsSomeAnd, IsTrue, slice_get}
 use Rattle.std.specs.Option.{option_map_or}
 use Rattle.std.proofs.lemmas.Bool.{cases_lt, eq-eqb, eqb-true}
 use Rattle.std.proofs.lemmas.Option.{same_Some, slice_get_within}
+use Rattle.system_model.specs.declared.system.Port.{Port}
+use Rattle.system_model.specs.declared.system.Role.{Role}
+use Rattle.system_model.specs.declared.system.Role.TheVariants.{Input, Output, ClockInput, ClockOutput, TimeClock}
 use Rattle.system_model.specs.declared.system.System.{System}
 use Rattle.system_model.proofs.CallerLemmas.{all_at, true_false}
 use Rattle.tick_schedule.specs.declared.clock.ClockState.{ClockState}
@@ -11,7 +14,8 @@ use Rattle.tick_schedule.specs.declared.clock.ClockState.TheVariants as S
 use Rattle.tick_schedule.specs.Timetable.{IsToTick, TicksAt, Timetable}
 use Rattle.run_model.specs.Equations.{timer_of}
 use Rattle.run_model.specs.Timers.{IsDue}
-use Rattle.event_iteration.specs.Clocks.{AreTicks, IsNextFrom, StandsAt, is_due_at, is_due_in, timer_in, timers_in}
+use Rattle.event_iteration.specs.Clocks.{AreTicks, IsNextFrom, IsPlaceOf, StandsAt, is_due_at, is_due_in, timer_in, timers_in}
+use Rattle.event_iteration.specs.Intervals.{is_time_clock}
 use Rattle.event_iteration.proofs.Fmus.{got}
 
 -- ---- one Clock
@@ -81,6 +85,20 @@ module _ (system : System) (t : ℕ) (is_first : Bool) (table : Timetable) (stan
 
   pub due_is : (p : ℕ) → p < length table.clocks → (b : Bool) → (IsTrue b ↔ TicksAt table p t) → b ≡ is_due_at table t p
   due_is p within b told = let found = got table.clocks p within in told_due p found.0 found.1 b told ∙ sym (due_at table t p found.0 found.1)
+
+  -- a port that is no time-based Clock never is
+  pub never_due : (p : ℕ) (port : Port) → slice_get system.ports p ≡ Some port → is_time_clock port.role ≡ false → is_due_at table t p ≡ false
+  never_due p port is plain =
+      let within : p < length table.clocks = (let few = stands.len in let w = slice_get_within system.ports p port is in omega (arith, few, w)) in
+      let found = got table.clocks p within in
+      due_at table t p found.0 found.1 ∙ by port.role found.0 (stands.places p port found.0 is found.1) plain
+    where
+      by : (role : Role) (place : ClockState) → IsPlaceOf role place → is_time_clock role ≡ false → is_due_in table.start t place ≡ false
+      by (TimeClock timing) place at clock = absurd (true_false clock)
+      by (Input feed) place at clock = ap (is_due_in table.start t) at
+      by Output place at clock = ap (is_due_in table.start t) at
+      by (ClockInput feed) place at clock = ap (is_due_in table.start t) at
+      by ClockOutput place at clock = ap (is_due_in table.start t) at
 
   -- what is due are the ticks of the timers
   pub are_ticks : (n : ℕ) → (n == 0) ≡ is_first → AreTicks system table.start (timers_in table) t n (is_due_at table t)

@@ -1,12 +1,15 @@
 -- Sending a run, with the instances in their slots.
-use Rattle.std.proofs.Common.{◌≡◌, ℕ, ◌<◌, ◌≤◌, ◌+◌, ◌-◌, ℤ, List, [], ◌∷◌, Option, Some, Result, Ok, Err, refl, sym, ap, ◌∙◌, subst, arith, length, map, take, drop, get_or, set}
-use Rattle.std.specs.Prelude.{All, slice_get}
+use Rattle.std.proofs.Common.{◌≡◌, inl, inr, ℕ, ◌<◌, ◌≤◌, ◌+◌, ◌-◌, ℤ, List, [], ◌∷◌, Option, Some, Result, Ok, Err, refl, sym, ap, ◌∙◌, subst, arith, length, map, take, drop, get_or, set}
+use Rattle.std.specs.Prelude.{All, IsTrue, slice_get}
 use Rattle.std.proofs.lemmas.List.{drop-map, drop-take, length-map, map-set, take-map}
 use Rattle.std.proofs.lemmas.List.Elements.{All-drop, All-head, All-take}
 use Rattle.std.proofs.lemmas.Option.{slice_get_within}
 use Rattle.sim_base.specs.declared.numbers.PortId.{PortId}
 use Rattle.fmi_calls.specs.declared.call.Call.{Call}
+use Rattle.fmi_calls.specs.declared.call.Call.TheVariants as C
 use Rattle.fmi_calls.specs.declared.call.Reply.{Reply}
+use Rattle.fmi_calls.specs.Kinds.{kind_of}
+use Rattle.fmi_calls.specs.Permission.{Permitted}
 use Rattle.fmu_peer.specs.declared.ended.Why.{Why}
 use Rattle.fmu_peer.specs.CloseAll.{Instance}
 use Rattle.fmu_peer.specs.Many.{AreOfOneSort, MayAskAll}
@@ -17,11 +20,12 @@ use Rattle.system_model.proofs.CallerLemmas.{at_contains, place_of}
 use Rattle.run_model.specs.Machines.{AreFitting}
 use Rattle.slot_calls.specs.declared.bad_answer.BadAnswer.{BadAnswer}
 use Rattle.slot_calls.specs.Log.{AnswersAll, StopsBehind}
+use Rattle.slot_calls.specs.Slots.{keeps_mode}
 use Rattle.event_iteration.specs.declared.walk.Waiting.{Waiting}
 use Rattle.event_iteration.specs.declared.walk.Way.{Way}
 use Rattle.event_iteration.specs.declared.walk.Way.TheVariants.{Send, Skip, Wait, Quiet, Ask}
 use Rattle.event_iteration.specs.Turns.{Rules, TakesTurn}
-use Rattle.event_iteration.specs.Waits.{EndsBadly, Gathers, IsPlain, IsReady, IsWay, Moves, Place, StandsBehindReads, call_in, skipped, turned, waits_in}
+use Rattle.event_iteration.specs.Waits.{EndsBadly, Gathered, Gathers, IsPlain, IsReady, IsWay, Moves, Place, ReadsOrSets, StandsBehindReads, call_in, skipped, turned, waits_in}
 use Rattle.event_iteration.proofs.Rounds.{number_at}
 use Rattle.event_iteration.proofs.Steps.{asked, ends, failed, sent}
 use Rattle.event_iteration.proofs.Taking.{instance_at, slots_many}
@@ -76,6 +80,15 @@ module _ {A : Type 0} (f : A → Instance) (system : System) (rules : Rules) (be
     each = g.kinds;
   }
 
+  -- one that waits alone is the first
+  pub alone : w.count ≡ 1 → g.calls ≡ w.first ∷ []
+  alone one = by g.calls (calls_long ∙ one) g.alone
+    where
+      by : (calls : List Call) → length calls ≡ 1 → ((call : Call) → calls ≡ call ∷ [] → w.first ≡ call) → calls ≡ w.first ∷ []
+      by [] len is = absurd (omega (arith, len))
+      by (c ∷ []) len is = ap (λ (x : Call). x ∷ []) (sym (is c refl))
+      by (c ∷ d ∷ calls) len is = absurd (omega (arith, len))
+
   pub may_ask : (d : A) → w.component.0 < length xs → MayAskAll (f (get_or xs w.component.0 d)).view.fixed.shape (f (get_or xs w.component.0 d)).view.phase g.calls
   may_ask d lt = g.asked (f (get_or xs w.component.0 d)) (instance_at f xs w.component.0 d lt)
 
@@ -97,19 +110,33 @@ module _ {A : Type 0} (f : A → Instance) (system : System) (rules : Rules) (be
           (subst (λ (cs : List Call). StopsBehind cs why (f (get_or xs w.component.0 d)) (f y)) made_is stops) (record { component = w.component; why = why }) refl refl),
     )
 
--- whatever was walked before: what was made are the calls that wait
+-- ---- whatever was walked before
+
+-- the port at a place of the order
+pub port_there : {system : System} {rules : Rules} {k : ℕ} {w : Waiting} {values : List (Option ℤ)} {is : List Instance} (order : List PortId) → Gathered system rules (numbers order) k w values is → k < length order → (d : PortId) → (get_or order k d).0 < length system.ports
+port_there {k = k} order so lt d = so.2.ordered.within (get_or order k d).0 (at_contains (numbers order) k (get_or order k d).0 (number_at order order k d refl lt))
+
+-- the FMU of the calls that wait, and what it may be asked
+module _ {A : Type 0} {system : System} {rules : Rules} {order : List ℕ} {k : ℕ} {w : Waiting} {values : List (Option ℤ)} (f : A → Instance) (xs : List A) (so : Gathered system rules order k w values (map f xs)) where
+  pub slot_of : IsSound system → 0 < w.count → w.component.0 < length xs
+  slot_of = slot_there f system rules so.0 order so.1 k w values xs so.2
+
+  pub waiting_within : All (λ (p : ℕ). p < length system.ports) (waits_in w)
+  waiting_within = waits_within f system rules so.0 order so.1 k w values xs so.2
+
+-- what was made are the calls that wait
 pub moves_sent : {A : Type 0} (f : A → Instance) (system : System) (rules : Rules) (order : List ℕ) (k : ℕ) (w : Waiting) (values taken next : List (Option ℤ)) (xs : List A) (d y : A) → w.component.0 < length xs → (made : List Call) →
-    ((calls : List Call) → map (call_in system rules values) (waits_in w) ≡ map (λ (c : Call). Some c) calls → made ≡ calls) → (replies : List Reply) → length replies ≡ length made → AnswersAll made replies (f (get_or xs w.component.0 d)) (f y) →
+    ((before : List (Option ℤ)) (olds : List Instance) (g : Gathers system rules before order olds k w values (map f xs)) → made ≡ g.calls) → (replies : List Reply) → length replies ≡ length made → AnswersAll made replies (f (get_or xs w.component.0 d)) (f y) →
     taken ≡ turned system rules (waits_in w) (map (λ (r : Reply). Some r) replies) values → next ≡ turned system rules (skipped system order k w) [] taken →
     Moves system rules order (record { k = k; waiting = w; values = values; instances = map f xs }) (record { k = k; waiting = record w { count = 0 }; values = next; instances = map f (set xs w.component.0 y) }) (Ok tt)
 moves_sent f system rules order k w values taken next xs d y lt made made_is replies len all taken_is next_is before olds g =
-    run_sent f system rules before order olds k w values xs g d y lt made (made_is g.calls g.each) replies len all taken next taken_is next_is
+    run_sent f system rules before order olds k w values xs g d y lt made (made_is before olds g) replies len all taken next taken_is next_is
 
 pub moves_failed : {A : Type 0} (f : A → Instance) (system : System) (rules : Rules) (order : List ℕ) (k : ℕ) (w : Waiting) (values : List (Option ℤ)) (xs : List A) (d y : A) → w.component.0 < length xs → (made : List Call) →
-    ((calls : List Call) → map (call_in system rules values) (waits_in w) ≡ map (λ (c : Call). Some c) calls → made ≡ calls) → (why : Why) → StopsBehind made why (f (get_or xs w.component.0 d)) (f y) →
+    ((before : List (Option ℤ)) (olds : List Instance) (g : Gathers system rules before order olds k w values (map f xs)) → made ≡ g.calls) → (why : Why) → StopsBehind made why (f (get_or xs w.component.0 d)) (f y) →
     Moves system rules order (record { k = k; waiting = w; values = values; instances = map f xs }) (record { k = k; waiting = record w { count = 0 }; values = values; instances = map f (set xs w.component.0 y) }) (Err (record { component = w.component; why = why }))
 moves_failed f system rules order k w values xs d y lt made made_is why stops before olds g =
-    run_failed f system rules before order olds k w values xs g d y lt made (made_is g.calls g.each) why stops
+    run_failed f system rules before order olds k w values xs g d y lt made (made_is before olds g) why stops
 
 -- a call that was sent at once
 pub moves_asked : (system : System) (rules : Rules) (order : List ℕ) (k : ℕ) (w : Waiting) (values : List (Option ℤ)) (is : List Instance) (p : ℕ) → slice_get order k ≡ Some p → w.count ≡ 0 → (next : List (Option ℤ)) (news : List Instance) (r : Result (Unit {0}) BadAnswer) →
@@ -128,13 +155,13 @@ moves_on system rules order from mid to (Err bad) first then = λ before olds g.
 pub is_ready : (system : System) (rules : Rules) (w : Waiting) (p : ℕ) (values : List (Option ℤ)) (way : Way) → IsWay system rules w p values way → w.count ≡ 0 → IsReady way
 is_ready system rules w p values Send h none = absurd (omega (arith, h, none))
 is_ready system rules w p values Skip h none = tt
-is_ready system rules w p values (Wait kind) h none = tt
+is_ready system rules w p values (Wait call) h none = tt
 is_ready system rules w p values Quiet h none = tt
 is_ready system rules w p values (Ask call) h none = tt
 
 pub other_ready : (way : Way) → (way ≡ Send → ⊥) → IsReady way
 other_ready Send other = other refl
 other_ready Skip other = tt
-other_ready (Wait kind) other = tt
+other_ready (Wait call) other = tt
 other_ready Quiet other = tt
 other_ready (Ask call) other = tt

@@ -52,6 +52,16 @@ some_none : (calls : List Call) → [] ≡ map (λ (c : Call). Some c) calls →
 some_none [] h = refl
 some_none (c ∷ calls) h = absurd (cc)
 
+-- the call that came last is the first where there is no other
+alone_at : (calls : List Call) (call first : Call) → (calls ≡ [] → first ≡ call) → (x : Call) → calls ++ call ∷ [] ≡ x ∷ [] → first ≡ x
+alone_at [] call first is x e = let same : call ≡ x = cc in is refl ∙ same
+alone_at (c ∷ []) call first is x e = absurd (cc)
+alone_at (c ∷ d ∷ calls) call first is x e = absurd (cc)
+
+none_wait : (calls : List Call) (n : ℕ) → length (map (λ (c : Call). Some c) calls) ≡ n → calls ≡ [] → n ≡ 0
+none_wait [] n long none = sym long
+none_wait (c ∷ calls) n long none = absurd (cc)
+
 more_behind : (es : List Exchange) (call : Call) (left : List Call) → [] ≡ calls_in es ++ call ∷ left → ⊥
 more_behind [] call left h = absurd (cc)
 more_behind (e ∷ es) call left h = absurd (cc)
@@ -103,6 +113,7 @@ module _ (system : System) (rules : Rules) (before : List (Option ℤ)) (order :
     kind = kind;
     calls = [];
     each = ap (map (call_in system rules values)) none;
+    alone = λ call h. absurd (cc);
     kinds = All-nil _;
     plain = subst (All (IsPlain system w.component)) (sym none) (All-nil (IsPlain system w.component));
     among = λ q m. absurd (none_in q (subst (λ (l : List ℕ). Contains l q) none m));
@@ -175,6 +186,7 @@ module _ (system : System) (sound : IsSound system) (rules : Rules) (before : Li
     kind = g.kind;
     calls = g.calls;
     each = map_alike (call_in system rules (slice_set values p v)) (call_in system rules values) queue (λ q m. kept q m) ∙ g.each;
+    alone = g.alone;
     kinds = g.kinds;
     plain = g.plain;
     among = λ q m. among_more q (g.among q m);
@@ -218,6 +230,7 @@ module _ (system : System) (sound : IsSound system) (rules : Rules) (before : Li
     kind = g.kind;
     calls = g.calls;
     each = g.each;
+    alone = g.alone;
     kinds = g.kinds;
     plain = g.plain;
     among = λ q m. among_more q (g.among q m);
@@ -235,7 +248,7 @@ module _ (system : System) (sound : IsSound system) (rules : Rules) (before : Li
   -- ---- its call waits too
 
   module _ (call : Call) (asks : rules.asks p port c values ≡ Some call) (unfed : is_fed system queue p ≡ false) (sort : ReadsOrSets (kind_of call)) (own : w.component ≡ port.component) (kind : w.kind ≡ kind_of call) (room : w.count < 64)
-      (next : Waiting) (waits : waits_in next ≡ queue ++ p ∷ []) (count : next.count ≡ w.count + 1) (since : next.since ≡ w.since) (component : next.component ≡ port.component) (kind_next : next.kind ≡ kind_of call) where
+      (next : Waiting) (waits : waits_in next ≡ queue ++ p ∷ []) (count : next.count ≡ w.count + 1) (since : next.since ≡ w.since) (first : g.calls ≡ [] → next.first ≡ call) (component : next.component ≡ port.component) (kind_next : next.kind ≡ kind_of call) where
     here : port.component.0 ≡ i
     here = ap (λ (x : CompId). x.0) (sym own)
 
@@ -343,6 +356,7 @@ module _ (system : System) (sound : IsSound system) (rules : Rules) (before : Li
       each = ap (map (call_in system rules values)) waits ∙ map-append (call_in system rules values) queue (p ∷ [])
           ∙ ap₂ (λ (a b : List (Option Call)). a ++ b) g.each (ap (λ (o : Option Call). o ∷ []) (call_in-is system rules values p port c port_is of ∙ asks))
           ∙ sym (map-append (λ (x : Call). Some x) g.calls (call ∷ []));
+      alone = alone_at g.calls call next.first first;
       kinds = subst (λ (x : Kind). All (λ (y : Call). kind_of y ≡ x) (g.calls ++ call ∷ [])) (kind ∙ sym kind_next) (All-push (λ (y : Call). kind_of y ≡ w.kind) g.calls call g.kinds (sym kind));
       plain = subst (All (IsPlain system next.component)) (sym waits) (subst (λ (x : CompId). All (IsPlain system x) (queue ++ p ∷ [])) (own ∙ sym component)
           (All-push (IsPlain system w.component) queue p g.plain (record { port = port; is = port_is; of = sym own; role = plain_role })));
@@ -387,15 +401,15 @@ module _ (system : System) (sound : IsSound system) (rules : Rules) (before : Li
 -- whether others wait or not
 pub waits_too : (system : System) (sound : IsSound system) (rules : Rules) (before : List (Option ℤ)) (order : List ℕ) (olds : List Instance) (k : ℕ) (w : Waiting) (values : List (Option ℤ)) (is : List Instance) → Gathers system rules before order olds k w values is → (p : ℕ) → slice_get order k ≡ Some p →
     (port : Port) → slice_get system.ports p ≡ Some port → (c : Component) → slice_get system.components port.component.0 ≡ Some c → (call : Call) → rules.asks p port c values ≡ Some call → is_fed system (waits_in w) p ≡ false → ReadsOrSets (kind_of call) → IsOpen w port.component (kind_of call) →
-    (next : Waiting) → waits_in next ≡ waits_in w ++ p ∷ [] → next.count ≡ w.count + 1 → next.since ≡ (if w.count == 0 then k else w.since) → next.component ≡ port.component → next.kind ≡ kind_of call → Gathers system rules before order olds (k + 1) next values is
-waits_too system sound rules before order olds k w values is g p at port port_is c of call asks unfed sort room next waits count since component kind_next = by_number w.count 0
+    (next : Waiting) → waits_in next ≡ waits_in w ++ p ∷ [] → next.count ≡ w.count + 1 → next.since ≡ (if w.count == 0 then k else w.since) → next.first ≡ (if w.count == 0 then call else w.first) → next.component ≡ port.component → next.kind ≡ kind_of call → Gathers system rules before order olds (k + 1) next values is
+waits_too system sound rules before order olds k w values is g p at port port_is c of call asks unfed sort room next waits count since first component kind_next = by_number w.count 0
     (λ none.
     let home : Waiting = record w { since = k; component = port.component; kind = kind_of call } in
     pushes system sound rules before order olds k home values is (rehomed system rules before order olds k w values is g home none none (omega arith) sort) p at port port_is c of call asks unfed sort refl refl (omega (arith, none))
-    next waits count (since ∙ ap (λ (b : Bool). if b then k else w.since) (eq-eqb w.count 0 none)) component kind_next)
+    next waits count (since ∙ ap (λ (b : Bool). if b then k else w.since) (eq-eqb w.count 0 none)) (λ empty. first ∙ ap (λ (b : Bool). if b then call else w.first) (eq-eqb w.count 0 none)) component kind_next)
     (λ some. elim room as (λ o. Gathers system rules before order olds (k + 1) next values is) [
       | inl none ↦ absurd (some none)
-      | inr alike ↦ pushes system sound rules before order olds k w values is g p at port port_is c of call asks unfed sort alike.1 alike.2 alike.0 next waits count (since ∙ ap (λ (b : Bool). if b then k else w.since) (ne_eqb w.count 0 some)) component kind_next
+      | inr alike ↦ pushes system sound rules before order olds k w values is g p at port port_is c of call asks unfed sort alike.1 alike.2 alike.0 next waits count (since ∙ ap (λ (b : Bool). if b then k else w.since) (ne_eqb w.count 0 some)) (λ empty. absurd (some (none_wait g.calls w.count (sym (ap length g.each) ∙ length-map (waits_in w) (call_in system rules values) ∙ g.many) empty))) component kind_next
     ])
 
 -- ---- sending

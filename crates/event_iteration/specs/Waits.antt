@@ -143,12 +143,11 @@ abbrev pub IsWay : System → Rules → Waiting → ℕ → List (Option ℤ) �
 IsWay system rules waiting p values Send = 0 < waiting.count
 IsWay system rules waiting p values Skip =
     (is_fed system (waits_in waiting) p ≡ true) × IsSilent system rules p values
-IsWay system rules waiting p values (Wait kind) =
-    (is_fed system (waits_in waiting) p ≡ false) × ReadsOrSets kind ×
+IsWay system rules waiting p values (Wait call) =
+    (is_fed system (waits_in waiting) p ≡ false) × ReadsOrSets (kind_of call) ×
     ((port : Port) (c : Component) → slice_get system.ports p ≡ Some port →
     slice_get system.components port.component.0 ≡ Some c →
-    IsOpen waiting port.component kind ×
-    ((call : Call) × (rules.asks p port c values ≡ Some call) × (kind_of call ≡ kind)))
+    IsOpen waiting port.component (kind_of call) × (rules.asks p port c values ≡ Some call))
 IsWay system rules waiting p values Quiet =
     (is_fed system (waits_in waiting) p ≡ false) ×
     ((port : Port) (c : Component) → slice_get system.ports p ≡ Some port →
@@ -161,8 +160,8 @@ IsWay system rules waiting p values (Ask call) =
 -- so it goes on with this call to this component
 abbrev pub IsWayOfCall : Waiting → CompId → Call → Way → Type 0
 IsWayOfCall waiting component call Send = 0 < waiting.count
-IsWayOfCall waiting component call (Wait kind) =
-    ReadsOrSets kind × IsOpen waiting component kind × (kind_of call ≡ kind)
+IsWayOfCall waiting component call (Wait sent) =
+    ReadsOrSets (kind_of call) × IsOpen waiting component (kind_of call) × (sent ≡ call)
 IsWayOfCall waiting component call (Ask sent) = (waiting.count ≡ 0) × (sent ≡ call)
 IsWayOfCall waiting component call way = ⊥
 
@@ -235,6 +234,7 @@ pub record Gathers (system : System) (rules : Rules) (before : List (Option ℤ)
   pub kind : ReadsOrSets waiting.kind
   pub calls : List Call
   pub each : map (call_in system rules values) (waits_in waiting) ≡ map (λ (c : Call). Some c) calls
+  pub alone : (call : Call) → calls ≡ call ∷ [] → waiting.first ≡ call
   pub kinds : All (λ (c : Call). kind_of c ≡ waiting.kind) calls
   pub plain : All (IsPlain system waiting.component) (waits_in waiting)
   pub among : (q : ℕ) → Contains (waits_in waiting) q → Contains (take k order) q

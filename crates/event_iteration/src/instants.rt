@@ -17,6 +17,7 @@ ghost use Rattle.event_iteration.specs.Intervals.{TellsTicks};
 ghost use Rattle.event_iteration.specs.Questions.{AreActive, modes};
 
 use crate::initialization::set_call;
+use crate::intervals::is_time_clock;
 use crate::turn::has_event_mode;
 use crate::walk::{Turns, walk};
 use fmi_calls::{Call, Reply};
@@ -179,6 +180,21 @@ struct InInstant<'a> {
     is_first: bool,
 }
 
+impl<'a> InInstant<'a> {
+    // Whether a port is a time-based Clock that ticks. Of other ports the schedule isn't asked.
+    fn ticks(&self, system: &System, p: usize) -> bool
+        requires stands { StandsAt system.now self.now.t self.now.is_first self.now.schedule.now }
+        requires port { p < length system.now.ports }
+        ensures { result ≡ is_due_at self.now.schedule.now self.now.t p }
+    {
+        let port = &system.ports.as_slice()[p];
+        if !is_time_clock(port.role) {
+            return false;
+        }
+        plain::due(self.schedule, p, self.t)
+    }
+}
+
 impl<'a> Turns for InInstant<'a> {
     ghost rules = { λ i system. in_instant (is_due_at i.schedule.now i.t) i.is_first };
 
@@ -186,7 +202,7 @@ impl<'a> Turns for InInstant<'a> {
 
     fn call_of(&self, system: &System, p: usize, values: &[Option<i128>]) -> Option<Call> {
         let port = &system.ports.as_slice()[p];
-        let ticks = plain::due(self.schedule, p, self.t);
+        let ticks = self.ticks(system, p);
         let has_event_mode = has_event_mode(system, port.component);
         call_of(port, has_event_mode, self.is_first, ticks, values)
     }
@@ -206,7 +222,7 @@ impl<'a> Turns for InInstant<'a> {
         reply: &Option<Reply>,
     ) -> Option<i128> {
         let port = &system.ports.as_slice()[p];
-        let ticks = plain::due(self.schedule, p, self.t);
+        let ticks = self.ticks(system, p);
         value_of(port, ticks, values, last, reply)
     }
 }

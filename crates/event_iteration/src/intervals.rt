@@ -144,7 +144,7 @@ fn go_on(
 }
 
 // Whether a port is a time-based Clock.
-fn is_time_clock(role: Role) -> bool
+pub(crate) fn is_time_clock(role: Role) -> bool
     ensures { result ≡ is_time_clock role }
 {
     match role {

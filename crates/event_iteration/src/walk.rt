@@ -5,6 +5,7 @@ ghost use Rattle.std.specs.List.{list_any, slice_get};
 ghost use Rattle.fmi_calls.specs.declared.call.Reply.{Reply};
 ghost use Rattle.sim_base.specs.declared.numbers.PortId.{PortId};
 ghost use Rattle.fmi_calls.specs.declared.call.Call.{Call};
+ghost use Rattle.fmi_calls.specs.Kinds.{kind_of};
 ghost use Rattle.system_model.specs.declared.system.Component.{Component};
 ghost use Rattle.system_model.specs.declared.system.Port.{Port};
 ghost use Rattle.system_model.specs.Ports.{numbers};
@@ -78,8 +79,8 @@ pub(crate) enum Way {
     Send,
     // the port sends nothing, but its source waits: it is taken with that
     Skip,
-    // its call, of this kind, waits
-    Wait(Kind),
+    // its call, which reads or sets a variable, waits
+    Wait(Call),
     // it sends nothing, and is taken
     Quiet,
     // its call is sent, and it is taken
@@ -91,6 +92,8 @@ pub(crate) enum Way {
 pub(crate) struct Waiting {
     ports: [u32; MOST],
     count: usize,
+    // the call of the first of them
+    first: Call,
     // the place in the order of the first of them
     since: usize,
     component: CompId,
@@ -106,6 +109,7 @@ impl Waiting {
         Waiting {
             ports: [0; MOST],
             count: 0,
+            first: NO_CALL,
             since: 0,
             component: CompId(0),
             kind: Kind::Get,
@@ -120,22 +124,24 @@ impl Waiting {
         self.count == 0 || (self.count < MOST && self.component == component && self.kind == kind)
     }
 
-    // One more waits, at this place of the order.
-    fn push(&mut self, number: u32, k: usize, component: CompId, kind: Kind)
+    // One more waits with its call, at this place of the order.
+    fn push(&mut self, number: u32, k: usize, component: CompId, call: Call)
         requires few { self.old.count < 64 }
         ensures ports { waits_in self.new ≡ waits_in self.old ++ number ∷ [] }
         ensures count { self.new.count ≡ self.old.count + 1 }
         ensures since { self.new.since ≡ (if self.old.count == 0 then k else self.old.since) }
+        ensures first { self.new.first ≡ (if self.old.count == 0 then call else self.old.first) }
         ensures component { self.new.component ≡ component }
-        ensures kind { self.new.kind ≡ kind }
+        ensures kind { self.new.kind ≡ kind_of call }
     {
         if self.count == 0 {
             self.since = k;
+            self.first = call;
         }
         self.ports[self.count] = number;
         self.count += 1;
         self.component = component;
-        self.kind = kind;
+        self.kind = call.kind();
     }
 
     fn as_slice(&self) -> &[u32]
@@ -146,6 +152,7 @@ impl Waiting {
     }
 
     // How it goes on with a port.
+    #[inline(always)]
     fn way_of<T: Turns>(&self, system: &System, turns: &T, p: usize, values: &[Option<i128>]) -> Way
         requires sound { IsSound system.now }
         requires holds { T.holds turns.now system.now }
@@ -172,10 +179,11 @@ impl Waiting {
     fn way_of_call(&self, component: CompId, call: Call) -> Way
         ensures { IsWayOfCall self.now component call result }
     {
-        match call.kind() {
+        let kind = call.kind();
+        match kind {
             Kind::Get | Kind::Set => {
-                if self.is_open(component, call.kind()) {
-                    Way::Wait(call.kind())
+                if self.is_open(component, kind) {
+                    Way::Wait(call)
                 } else {
                     Way::Send
                 }
@@ -407,7 +415,51 @@ fn send_several<L: Peer, T: Turns>(
     )
 }
 
-// Sends what waits: one call with room for one, several with room for as many as may wait.
+// Sends the call that waits alone, which was made when it came to wait, as a run of one.
+#[inline(always)]
+fn send_one<L: Peer, T: Turns>(
+    slots: &mut [Slot<L>],
+    system: &System,
+    turns: &T,
+    order: &[PortId],
+    values: &mut [Option<i128>],
+    k: usize,
+    waiting: &Waiting,
+) -> Result<(), BadAnswer>
+    requires sound { IsSound system.now }
+    requires holds { T.holds turns.now system.now }
+    requires live { All (LiveSlot L.view) slots.old }
+    requires one { waiting.now.count ≡ 1 }
+    requires gathered { Gathered system.now (T.rules turns.now system.now) (numbers order.now) k
+        waiting.now values.old (instances L.view slots.old) }
+    ensures live { OnOk result (All (LiveSlot L.view) slots.new) }
+    ensures moves { Moves system.now (T.rules turns.now system.now) (numbers order.now)
+        (place k waiting.now values.old (instances L.view slots.old))
+        (place k (record waiting.now { count = 0 }) values.new (instances L.view slots.new))
+        result }
+{
+    let ports = waiting.as_slice();
+    let calls = [waiting.first];
+    let mut replies = [NO_REPLY];
+    match send_many(
+        &mut slots[waiting.component.0 as usize],
+        &calls,
+        &mut replies,
+    ) {
+        Ok(()) => {
+            take_replied(system, turns, values, ports, &replies);
+            take_fed(system, turns, values, ports, &order[waiting.since..k]);
+            Ok(())
+        }
+        Err(why) => Err(BadAnswer {
+            component: waiting.component,
+            why,
+        }),
+    }
+}
+
+// Sends what waits: one call by itself, several with room for as many as may wait.
+#[inline(always)]
 fn send_all<L: Peer, T: Turns>(
     slots: &mut [Slot<L>],
     system: &System,
@@ -430,24 +482,13 @@ fn send_all<L: Peer, T: Turns>(
         result }
 {
     if waiting.count == 1 {
-        let mut calls = [NO_CALL];
-        let mut replies = [NO_REPLY];
-        return send_run(
-            slots,
-            system,
-            turns,
-            order,
-            values,
-            k,
-            waiting,
-            &mut calls,
-            &mut replies,
-        );
+        return send_one(slots, system, turns, order, values, k, waiting);
     }
     send_several(slots, system, turns, order, values, k, waiting)
 }
 
 // Sends what waits, if anything does.
+#[inline(always)]
 fn send_waiting<L: Peer, T: Turns>(
     slots: &mut [Slot<L>],
     system: &System,
@@ -482,6 +523,7 @@ fn send_waiting<L: Peer, T: Turns>(
 }
 
 // Goes on with the port at a place of the order, before which nothing has to be sent.
+#[inline(always)]
 fn advance<L: Peer, T: Turns>(
     slots: &mut [Slot<L>],
     system: &System,
@@ -512,9 +554,9 @@ fn advance<L: Peer, T: Turns>(
     match way {
         Way::Send => unreachable!(),
         Way::Skip => return Ok(()),
-        Way::Wait(kind) => {
+        Way::Wait(call) => {
             let component = system.ports.as_slice()[p].component;
-            waiting.push(number, k, component, kind);
+            waiting.push(number, k, component, call);
             return Ok(());
         }
         Way::Quiet => {
@@ -525,7 +567,42 @@ fn advance<L: Peer, T: Turns>(
     }
 }
 
+// Sends what waits, and goes on with the port at a place of the order: on its own, so that a port before which nothing has to
+// be sent pays nothing for that.
+#[inline(never)]
+fn send_first<L: Peer, T: Turns>(
+    slots: &mut [Slot<L>],
+    system: &System,
+    turns: &T,
+    order: &[PortId],
+    values: &mut [Option<i128>],
+    k: usize,
+    waiting: &mut Waiting,
+) -> Result<(), BadAnswer>
+    requires sound { IsSound system.now }
+    requires holds { T.holds turns.now system.now }
+    requires live { All (LiveSlot L.view) slots.old }
+    requires within { k < length order.now }
+    requires gathered { Gathered system.now (T.rules turns.now system.now) (numbers order.now) k
+        waiting.old values.old (instances L.view slots.old) }
+    ensures live { OnOk result (All (LiveSlot L.view) slots.new) }
+    ensures moves { Moves system.now (T.rules turns.now system.now) (numbers order.now)
+        (place k waiting.old values.old (instances L.view slots.old))
+        (place (k + 1) waiting.new values.new (instances L.view slots.new))
+        result }
+{
+    match send_waiting(slots, system, turns, order, values, k, waiting) {
+        Ok(()) => {
+            let p = order[k].0 as usize;
+            let next = waiting.way_of(system, turns, p, values);
+            return advance(slots, system, turns, order, values, k, waiting, next);
+        }
+        Err(bad) => return Err(bad),
+    }
+}
+
 // Goes on with the port at a place of the order.
+#[inline(always)]
 fn go_on<L: Peer, T: Turns>(
     slots: &mut [Slot<L>],
     system: &System,
@@ -550,13 +627,7 @@ fn go_on<L: Peer, T: Turns>(
     let p = order[k].0 as usize;
     let way = waiting.way_of(system, turns, p, values);
     match way {
-        Way::Send => match send_waiting(slots, system, turns, order, values, k, waiting) {
-            Ok(()) => {
-                let next = waiting.way_of(system, turns, p, values);
-                return advance(slots, system, turns, order, values, k, waiting, next);
-            }
-            Err(bad) => return Err(bad),
-        },
+        Way::Send => return send_first(slots, system, turns, order, values, k, waiting),
         _ => return advance(slots, system, turns, order, values, k, waiting, way),
     }
 }

@@ -35,6 +35,7 @@ fn step<L: Peer>(slot: &mut Slot<L>, at: u64, size: u64) -> Result<bool, Why>
     }
 }
 
+#[inline(never)]
 fn save<L: Peer>(slot: &mut Slot<L>) -> Result<bool, Why>
     requires { CanBeSent L.view slot.old C.Save }
     ensures { Did L.view C.Save slot.old slot.new result }
@@ -64,6 +65,7 @@ fn keep(place: &mut Option<Saved>, saved: Saved)
     }
 }
 
+#[inline(never)]
 fn restore<L: Peer>(slot: &mut Slot<L>) -> Result<bool, Why>
     requires { CanBeSent L.view slot.old C.Restore }
     ensures { Did L.view C.Restore slot.old slot.new result }
@@ -79,6 +81,7 @@ fn restore<L: Peer>(slot: &mut Slot<L>) -> Result<bool, Why>
     }
 }
 
+#[inline(never)]
 fn free<L: Peer>(slot: &mut Slot<L>) -> Result<bool, Why>
     requires { CanBeSent L.view slot.old C.Free }
     ensures { Did L.view C.Free slot.old slot.new result }

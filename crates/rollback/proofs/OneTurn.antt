@@ -1,6 +1,6 @@
--- An agreement over slots of which one alone might return early: it is asked first, and then the others for its end.
+-- An agreement over slots of which one alone might return early: it is asked first, and then the others for its end. Where none might, all are asked once.
 use Rattle.std.proofs.Common.{◌≡◌, ◌≢◌, ◌⊎◌, inl, inr, ℕ, zero, suc, ◌-◌, ◌<◌, ◌≤◌, ◌==◌, Bool, true, false, not, List, [], ◌∷◌, ◌++◌, Some, Result, Ok, Err, refl, sym, ap, ◌∙◌, subst, arith, length, get_or}
-use Rattle.std.specs.Prelude.{All, ◌&&◌, if◌then◌else◌}
+use Rattle.std.specs.Prelude.{All, if◌then◌else◌}
 use Rattle.std.specs.List.{slice_get}
 use Rattle.std.proofs.lemmas.Bool.Decides.{nat_tests}
 use Rattle.std.proofs.lemmas.Option.{none-some as none_some, same_Some}
@@ -11,13 +11,13 @@ use Rattle.fmu_peer.specs.declared.slot.Slot.{Slot}
 use Rattle.fmu_peer.specs.View.{View}
 use Rattle.system_model.specs.EarlyReturn.{early_count}
 use Rattle.run_model.specs.Stepping.{asked_first}
-use Rattle.slot_calls.specs.Log.{Sent, part}
+use Rattle.slot_calls.specs.Log.{part}
 use Rattle.slot_calls.specs.Slots.{instances}
 use Rattle.slot_calls.specs.Stage.{everyone, shapes}
 use Rattle.slot_calls.proofs.CallerLemmas.{part_append, told_on}
-use Rattle.step_agreement.specs.Agreement.{Asks, FirstMeet, FirstStops, Meets, NextMeet, NextStops, Stand, are_at, comes_first, ends_elsewhere, is_elsewhere, reached, stands_by}
+use Rattle.step_agreement.specs.Agreement.{Asks, FirstMeet, FirstStops, Meets, NextMeet, NextStops, Stand, are_at, comes_first, ends_elsewhere, is_elsewhere, reached, shapes_in, stands_by}
 use Rattle.step_agreement.specs.Agreement as A
-use Rattle.step_agreement.proofs.CallerLemmas.{OneEarlyIn, all_meet, elsewhere_waits, first_all, first_one, one_alone, one_first, one_later, one_waits, one_within, other_number, same_number, shape_kept}
+use Rattle.step_agreement.proofs.CallerLemmas.{OneEarlyIn, all_meet, all_whole, elsewhere_waits, first_all, first_one, m_whole, one_alone, one_first, one_later, one_waits, one_within, other_number, same_number, same_shapes, shape_kept}
 use Rattle.rollback.specs.Asked.{AgreedOver, AskedOver, IsAt, IsHome, IsTested, MayGoBack, Moved, might_return_early, outcome_of}
 use Rattle.rollback.specs.Places.{StandSo, at_rest, passes, stand_in, stands}
 use Rattle.rollback.specs.Standing.{Placed, TakesSize}
@@ -25,7 +25,7 @@ use Rattle.rollback.specs.declared.places.Who.TheVariants as W
 use Rattle.rollback.specs.declared.step_end.StepEnd.{StepEnd}
 use Rattle.rollback.proofs.Moving.{lower, moved_both, moved_lower}
 use Rattle.rollback.proofs.OneAsking.{fits_by}
-use Rattle.rollback.proofs.Resting.{are_at_so, reached_so, shapes_own, so_behind, stand_at, stands_own}
+use Rattle.rollback.proofs.Resting.{are_at_so, reached_so, shapes_own, shapes_so, so_behind, stand_at, stands_own}
 use Rattle.rollback.proofs.Turning.{unequal, are_all_at, least, there_by}
 
 equal : (a b : ℕ) → (a == b) ≡ true → a ≡ b
@@ -206,6 +206,35 @@ module _ {L : Type 0} {g : Ghosts L} (view : L → View) where
               within = within;
             };
           }
+
+  -- ---- none might return early
+
+  module _ (t step b : ℕ) (later : t < b) (olds : List (Slot L g)) (none : early_count (shapes (instances view olds)) ≡ 0) where
+    pub none_stops : (news : List (Slot L g)) (end : StepEnd) → AskedOver {T = Unit {0}} view t step W.Everyone W.Everyone b olds news (Err end) → AgreedOver view everyone t step b olds news (Err end)
+    none_stops news end a = record {
+      log = a.log;
+      told = a.told;
+      says = record { from = a.says.0; comes = λ ss so. FirstStops b ss a.log (outcome_of end) (a.says.1 ss so) };
+    }
+
+    -- all end at the bound
+    pub none_meets : (news : List (Slot L g)) → length news ≡ length olds → AskedOver {T = Unit {0}} view t step W.Everyone W.Everyone b olds news (Ok tt) → AgreedOver view everyone t step b olds news (Ok b)
+    none_meets news len a = record {
+      log = a.log;
+      told = a.told;
+      says = record {
+        comes = λ ss so. FirstMeet b ss a.log (Meets b) b (a.says.0 ss so) (sym (m_whole t step b later ss a.log (a.says.0 ss so) (counted ss so))) (all_whole t step b later ss a.log (a.says.0 ss so) (counted ss so)) refl;
+        moved = a.says.1;
+        there = there_by view b news
+            (sym (are_at_so view (stands_by t (stands view olds) a.log) news (so_behind view t a.log (stands view olds) olds news (stands_own view olds) len (λ i d w. (a.says.1 i d w).stand)) b)
+            ∙ all_whole t step b later (stands view olds) a.log (a.says.0 (stands view olds) (stands_own view olds)) (counted (stands view olds) (stands_own view olds)));
+        later = later;
+        within = omega arith;
+      };
+    }
+      where
+        counted : (ss : List Stand) → StandSo view ss olds → early_count (shapes_in (stands_by t ss a.log)) ≡ 0
+        counted ss so = ap early_count (same_shapes t step ss a.log ∙ shapes_so view ss olds so) ∙ none
 
   -- ---- by how many might return early
 

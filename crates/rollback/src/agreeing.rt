@@ -25,7 +25,7 @@ pub(crate) enum Turned {
 }
 
 /// Asks for steps from t to at most a bound until all stand at one point. Of `early` FMUs that might return early one alone is
-/// asked first.
+/// asked first; where there is none, all end at the bound.
 pub(crate) fn agree<R: Threads + Sync, L: Peer>(
     rt: &R,
     slots: &mut [Slot<L>],
@@ -43,14 +43,49 @@ pub(crate) fn agree<R: Threads + Sync, L: Peer>(
     requires home { All (IsAt L.view t) slots.old }
     ensures { AgreedOver L.view (asked_first early) t step bound slots.old slots.new result }
 {
-    if early == 1 {
+    if early == 0 {
+        ask_once(rt, slots, t, bound, step, workers)
+    } else if early == 1 {
         follow_one(rt, slots, t, bound, step, workers)
     } else {
         agree_all(rt, slots, t, bound, step, workers)
     }
 }
 
+// Asks all for a step to the bound, where none might return early.
+#[inline(always)]
+fn ask_once<R: Threads + Sync, L: Peer>(
+    rt: &R,
+    slots: &mut [Slot<L>],
+    t: u64,
+    bound: u64,
+    step: u64,
+    workers: u32,
+) -> Result<u64, StepEnd>
+    requires few { length slots.old ≤ 2 ^ 32 }
+    requires later { t < bound }
+    requires none { early_count (shapes (instances L.view slots.old)) ≡ 0 }
+    requires placed { All (Placed L.view t bound step) slots.old }
+    requires home { All (IsAt L.view t) slots.old }
+    ensures { AgreedOver L.view everyone t step bound slots.old slots.new result }
+{
+    match ask_home(
+        rt,
+        slots,
+        Who::Everyone,
+        Who::Everyone,
+        t,
+        bound,
+        step,
+        workers,
+    ) {
+        Ok(()) => Ok(bound),
+        Err(end) => Err(end),
+    }
+}
+
 // Asks the one that might return early for a step to the bound, and then the others for one to where it ended.
+#[inline(never)]
 fn follow_one<R: Threads + Sync, L: Peer>(
     rt: &R,
     slots: &mut [Slot<L>],
@@ -104,6 +139,7 @@ fn follow_one<R: Threads + Sync, L: Peer>(
 
 // Asks all for a step from t to a bound, and those that pass the least end for that, turn after turn, until all stand at one
 // point.
+#[inline(never)]
 fn agree_all<R: Threads + Sync, L: Peer>(
     rt: &R,
     slots: &mut [Slot<L>],
@@ -218,6 +254,7 @@ fn ask<R: Threads + Sync, L: Peer>(
 }
 
 // Likewise, where those that are meant stand at t, so that none goes back.
+#[inline(always)]
 fn ask_home<R: Threads + Sync, L: Peer>(
     rt: &R,
     slots: &mut [Slot<L>],
@@ -247,6 +284,7 @@ fn ask_home<R: Threads + Sync, L: Peer>(
 }
 
 /// Whether each of those that are meant takes a step from t to an end; where one doesn't, the least of them is named.
+#[inline(always)]
 pub(crate) fn test_sizes<L: Peer>(
     slots: &[Slot<L>],
     who: Who,
@@ -269,6 +307,7 @@ pub(crate) fn test_sizes<L: Peer>(
 }
 
 /// Of those that are meant, the least that takes no step of this size.
+#[inline(always)]
 fn first_unfit<L: Peer>(slots: &[Slot<L>], who: Who, step: u64, size: u64) -> Option<usize>
     ensures first { result ≡ unfit step size (passes who) (stands L.view slots.now) }
     ensures within { IfSome result (λ place. place < length slots.now) }

@@ -61,6 +61,7 @@ fn set_job<L: Peer>(slot: &mut Slot<L>, who: Who, turn: Turn)
 }
 
 // Whether a turn's call is for any of them. Where no two might return early, none is saved.
+#[inline(always)]
 fn is_any_sent<L: Peer>(slots: &[Slot<L>], who: Who, turn: Turn) -> bool
     ensures { result ≡ list_any (λ slot. is_sent who turn (stand_in L.view slot)) slots.now }
 {
@@ -82,6 +83,7 @@ fn is_sent<L: Peer>(slot: &Slot<L>, who: Who, turn: Turn) -> bool
 
 /// Sends the call of a turn to those that are meant, whatever they answer, and tells the first answer that isn't good. Where
 /// it is for none, no thread is begun.
+#[inline(always)]
 pub(crate) fn send<R: Threads + Sync, L: Peer>(
     rt: &R,
     slots: &mut [Slot<L>],
@@ -97,6 +99,23 @@ pub(crate) fn send<R: Threads + Sync, L: Peer>(
     if !is_any_sent(slots, who, turn) {
         return Ok(());
     }
+    send_meant(rt, slots, who, turn, workers)
+}
+
+// Likewise, where it is for some: on its own, so that a turn that is for none pays nothing for that.
+#[inline(never)]
+fn send_meant<R: Threads + Sync, L: Peer>(
+    rt: &R,
+    slots: &mut [Slot<L>],
+    who: Who,
+    turn: Turn,
+    workers: u32,
+) -> Result<(), BadAnswer>
+    requires few { length slots.old ≤ 2 ^ 32 }
+    requires turn { CanAsk turn }
+    requires can { All (CanDo L.view who turn) slots.old }
+    ensures { Sends L.view who turn slots.old slots.new result }
+{
     set_jobs(slots, who, turn);
     round(rt, slots, workers);
     match first_bad(slots) {

@@ -89,6 +89,7 @@ pub(crate) fn are_at<L: Peer>(slots: &[Slot<L>], m: u64) -> bool
 }
 
 /// Of those that are meant, the first that takes steps of one size alone.
+#[inline(never)]
 pub(crate) fn first_unvaried<L: Peer>(slots: &[Slot<L>], who: Who) -> Option<usize>
     ensures first { result ≡ position (λ slot. passes who (stand_in L.view slot) &&
         not (stand_in L.view slot).shape.has_variable_steps) slots.now }

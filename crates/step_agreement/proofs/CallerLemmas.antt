@@ -7,7 +7,7 @@ pub use Rattle.step_agreement.proofs.Asked.{EndWhereAsked, agree_within, asked_l
 pub use Rattle.step_agreement.proofs.Broken.{IsAskedIn, IsBadAsk, ToGoBack, ToStep, bad_ask}
 pub use Rattle.step_agreement.proofs.Existence.{agrees_or_stops}
 pub use Rattle.step_agreement.proofs.ByCount.{either, ends_so, first_all, first_one, meets_within, one_alone, only_saved_go_back, puts_back_saved, sizes_fall_along}
-pub use Rattle.step_agreement.proofs.GoingBack.{all_first, c_before, c_later, counts_elsewhere, elsewhere_saved, m_before, m_later, m_within, same_shapes, saved_beside_two, two_at_last}
+pub use Rattle.step_agreement.proofs.GoingBack.{all_first, all_whole, c_before, c_later, counts_elsewhere, elsewhere_saved, m_before, m_later, m_whole, m_within, same_shapes, saved_beside_two, two_at_last}
 pub use Rattle.step_agreement.proofs.Lists.{map_map}
 pub use Rattle.step_agreement.proofs.Machines.{agrees_over_machines, each_here, known_end}
 pub use Rattle.step_agreement.proofs.Moves.{IsEnd, good_end, other_number, same_number}

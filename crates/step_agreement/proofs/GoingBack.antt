@@ -86,6 +86,27 @@ module _ (t step : ℕ) where
       by (inl none) = let e = none.0 in omega (arith, e)
       by (inr one) = let l = (first_end one.1.0 one.0 one.1.1).within in let d = counts_as one.1.0 one.0 one.1.1 in let e = one.2 in omega (arith, e, d, l, later)
 
+    -- where none might return early, all end at the bound
+    module _ (none : early_count (shapes_in mids) ≡ 0) where
+      ends_whole : (j : ℕ) (y : Stand) → slice_get mids j ≡ Some y → y.point ≡ b
+      ends_whole j y at = by y.shape.might_return_early refl where
+        by : (x : Bool) → y.shape.might_return_early ≡ x → y.point ≡ b
+        by true h =
+            absurd (let some = counts_one (shapes_in mids) j y.shape (slice_get-map (λ (s : Stand). s.shape) mids j ∙ ap (option_map (λ (s : Stand). s.shape)) at) h in omega (arith, some, none))
+        by false h = let w = (first_end j y at).whole h in omega (arith, w, later)
+
+      pub m_whole : m ≡ b
+      m_whole = by least where
+        by : Least → m ≡ b
+        by (inl empty) = empty.0
+        by (inr one) = one.2 ∙ counts_as one.1.0 one.0 one.1.1 ∙ ends_whole one.1.0 one.0 one.1.1
+
+      pub all_whole : are_at b mids ≡ true
+      all_whole = by (are_at b mids) refl where
+        by : (x : Bool) → are_at b mids ≡ x → are_at b mids ≡ true
+        by true h = h
+        by false h = let one = not_all (λ (s : Stand). s.point == b) mids h in absurd (unequal one.1.point b one.3 (ends_whole one.0 one.1 one.2))
+
     -- where one doesn't end there, that is before the bound, and one that might return early is there
     module _ (j : ℕ) (y : Stand) (at : slice_get mids j ≡ Some y) (ne : y.point ≢ m) where
       pub m_before : m < b

@@ -4,12 +4,12 @@ use Rattle.sim_base.specs.declared.numbers.PortId.{PortId}
 use Rattle.fmu_peer.specs.CloseAll.{instance_in}
 use Rattle.system_model.specs.declared.system.Port.{Port}
 use Rattle.system_model.specs.Ports.{numbers}
-use Rattle.system_model.proofs.CallerLemmas.{at_contains, place_of}
+use Rattle.system_model.proofs.CallerLemmas.{place_of}
 use Rattle.event_iteration.specs.declared.walk.Way.{Way}
-use Rattle.event_iteration.specs.Waits.{Gathers, IsOpen, IsWay, ReadsOrSets}
+use Rattle.event_iteration.specs.Waits.{Gathers, IsWay}
 use Rattle.event_iteration.proofs.Fmus.{got}
 use Rattle.event_iteration.proofs.Rounds.{components_there, number_at}
-use Rattle.event_iteration.proofs.Runs.{moves_asked}
+use Rattle.event_iteration.proofs.Runs.{moves_asked, port_there}
 use Rattle.event_iteration.proofs.Steps.{may_now, passes, quiet, waits_too}
 use Rattle.event_iteration.proofs.Taking.{port_at}
 use Rattle.event_iteration.proofs.Turned.{value_by}
@@ -23,67 +23,34 @@ returns-in-Skip-clause-moves g c =
     let k = c.args.k in
     let w = c.args.waiting.now in
     let values = c.args.values.now in
-    let slots = c.args.slots.now in
-    let so = c.requires.gathered in
     let d : PortId = record { 0 = 0 } in
     let p = (get_or order k d).0 in
-    let at = number_at order order k d refl c.requires.within in
-    let lt = so.2.ordered.within p (at_contains (numbers order) k p at) in
-    let port = got system.ports p lt in
+    let port = got system.ports p (port_there c.args.order.now c.requires.gathered c.requires.within d) in
     let placed = place_of system c.requires.sound p port.0 port.1 in
     let way = subst (λ (x : Way). IsWay system rules w p values x) c.in-Skip.is (c.requires.way d) in
-    λ before olds gathers. passes system c.requires.sound rules before (numbers order) olds k w values (map (λ s. instance_in g.L.Peer.view s) slots) gathers p at port.0 port.1 placed.component placed.is.of way.0 way.1
+    λ before olds gathers. passes system c.requires.sound rules before (numbers order) olds k w values (map (λ s. instance_in g.L.Peer.view s) c.args.slots.now) gathers p (number_at order order k d refl c.requires.within)
+    port.0 port.1 placed.component placed.is.of way.0 way.1
 
 pub bounds-as_slice-p : goal.bounds-as_slice-p
 bounds-as_slice-p g c =
-    let system = c.args.system.now in
-    let rules = g.T.Turns.rules c.args.turns.now system in
-    let order = c.args.order.now in
-    let k = c.args.k in
-    let w = c.args.waiting.now in
-    let values = c.args.values.now in
-    let slots = c.args.slots.now in
-    let so = c.requires.gathered in
     let d : PortId = record { 0 = 0 } in
-    let p = (get_or order k d).0 in
-    let at = number_at order order k d refl c.requires.within in
-    let lt = so.2.ordered.within p (at_contains (numbers order) k p at) in
-    subst (λ (xs : List Port). p < length xs) (sym c.as_slice.ensures) lt
+    subst (λ (xs : List Port). (get_or c.args.order.now c.args.k d).0 < length xs) (sym c.as_slice.ensures) (port_there c.args.order.now c.requires.gathered c.requires.within d)
 
 pub bounds-as_slice-p-in-Wait : goal.bounds-as_slice-p-in-Wait
 bounds-as_slice-p-in-Wait g c =
-    let system = c.args.system.now in
-    let rules = g.T.Turns.rules c.args.turns.now system in
-    let order = c.args.order.now in
-    let k = c.args.k in
-    let w = c.args.waiting.now in
-    let values = c.args.values.now in
-    let slots = c.args.slots.now in
-    let so = c.requires.gathered in
     let d : PortId = record { 0 = 0 } in
-    let p = (get_or order k d).0 in
-    let at = number_at order order k d refl c.requires.within in
-    let lt = so.2.ordered.within p (at_contains (numbers order) k p at) in
-    subst (λ (xs : List Port). p < length xs) (sym c.as_slice.ensures) lt
+    subst (λ (xs : List Port). (get_or c.args.order.now c.args.k d).0 < length xs) (sym c.as_slice.ensures) (port_there c.args.order.now c.requires.gathered c.requires.within d)
 
 pub push-requires : goal.push-requires
 push-requires g c =
     let system = c.args.system.now in
     let rules = g.T.Turns.rules c.args.turns.now system in
-    let order = c.args.order.now in
-    let k = c.args.k in
-    let w = c.args.waiting.now in
-    let values = c.args.values.now in
-    let slots = c.args.slots.now in
-    let so = c.requires.gathered in
     let d : PortId = record { 0 = 0 } in
-    let p = (get_or order k d).0 in
-    let at = number_at order order k d refl c.requires.within in
-    let lt = so.2.ordered.within p (at_contains (numbers order) k p at) in
+    let p = (get_or c.args.order.now c.args.k d).0 in
     let port = c.index-as_slice-p.result in
-    let is = port_at _ system.ports p port c.as_slice.ensures c.index-as_slice-p.is lt in
+    let is = port_at _ system.ports p port c.as_slice.ensures c.index-as_slice-p.is (port_there c.args.order.now c.requires.gathered c.requires.within d) in
     let placed = place_of system c.requires.sound p port is in
-    let way = subst (λ (x : Way). IsWay system rules w p values x) c.in-Wait.is (c.requires.way d) in
+    let way = subst (λ (x : Way). IsWay system rules c.args.waiting.now p c.args.values.now x) c.in-Wait.is (c.requires.way d) in
     record {
       few = elim (way.2 port placed.component is placed.is.of).0 [
         | inl none ↦ omega (arith, none)
@@ -99,69 +66,29 @@ returns-in-Wait-clause-moves g c =
     let k = c.args.k in
     let w = c.args.waiting.now in
     let values = c.args.values.now in
-    let slots = c.args.slots.now in
-    let so = c.requires.gathered in
     let d : PortId = record { 0 = 0 } in
     let p = (get_or order k d).0 in
-    let at = number_at order order k d refl c.requires.within in
-    let lt = so.2.ordered.within p (at_contains (numbers order) k p at) in
     let port = c.index-as_slice-p.result in
-    let is = port_at _ system.ports p port c.as_slice.ensures c.index-as_slice-p.is lt in
+    let is = port_at _ system.ports p port c.as_slice.ensures c.index-as_slice-p.is (port_there c.args.order.now c.requires.gathered c.requires.within d) in
     let placed = place_of system c.requires.sound p port is in
     let way = subst (λ (x : Way). IsWay system rules w p values x) c.in-Wait.is (c.requires.way d) in
     let sent = way.2 port placed.component is placed.is.of in
-    let call = sent.1.0 in
-    let same = sent.1.2 in
-    λ before olds gathers. waits_too system c.requires.sound rules before (numbers order) olds k w values (map (λ s. instance_in g.L.Peer.view s) slots) gathers p at port is placed.component placed.is.of call sent.1.1 way.0
-    (subst ReadsOrSets (sym same) way.1) (subst (IsOpen w port.component) (sym same) sent.0) c.push.new.self c.push.ensures.ports c.push.ensures.count c.push.ensures.since (c.push.ensures.component ∙ ap (λ (x : Port). x.component) (sym c.index-as_slice-p.is)) (c.push.ensures.kind ∙ sym same)
+    λ before olds gathers. waits_too system c.requires.sound rules before (numbers order) olds k w values (map (λ s. instance_in g.L.Peer.view s) c.args.slots.now) gathers p (number_at order order k d refl c.requires.within)
+    port is placed.component placed.is.of c.in-Wait.call sent.1 way.0 way.1 sent.0 c.push.new.self c.push.ensures.ports c.push.ensures.count c.push.ensures.since c.push.ensures.first
+    (c.push.ensures.component ∙ ap (λ (x : Port). x.component) (sym c.index-as_slice-p.is)) c.push.ensures.kind
 
 pub bounds-values-p : goal.bounds-values-p
 bounds-values-p g c =
-    let system = c.args.system.now in
-    let rules = g.T.Turns.rules c.args.turns.now system in
-    let order = c.args.order.now in
-    let k = c.args.k in
-    let w = c.args.waiting.now in
-    let values = c.args.values.now in
-    let slots = c.args.slots.now in
-    let so = c.requires.gathered in
     let d : PortId = record { 0 = 0 } in
-    let p = (get_or order k d).0 in
-    let at = number_at order order k d refl c.requires.within in
-    let lt = so.2.ordered.within p (at_contains (numbers order) k p at) in
-    subst (λ n. p < n) (sym so.2.places) lt
+    subst (λ n. (get_or c.args.order.now c.args.k d).0 < n) (sym c.requires.gathered.2.places) (port_there c.args.order.now c.requires.gathered c.requires.within d)
 
 pub value_of-requires-clause-port : goal.value_of-requires-clause-port
-value_of-requires-clause-port g c =
-    let system = c.args.system.now in
-    let rules = g.T.Turns.rules c.args.turns.now system in
-    let order = c.args.order.now in
-    let k = c.args.k in
-    let w = c.args.waiting.now in
-    let values = c.args.values.now in
-    let slots = c.args.slots.now in
-    let so = c.requires.gathered in
-    let d : PortId = record { 0 = 0 } in
-    let p = (get_or order k d).0 in
-    let at = number_at order order k d refl c.requires.within in
-    let lt = so.2.ordered.within p (at_contains (numbers order) k p at) in
-    lt
+value_of-requires-clause-port g c = let d : PortId = record { 0 = 0 } in port_there c.args.order.now c.requires.gathered c.requires.within d
 
 pub bounds-values-p-in-Quiet : goal.bounds-values-p-in-Quiet
 bounds-values-p-in-Quiet g c =
-    let system = c.args.system.now in
-    let rules = g.T.Turns.rules c.args.turns.now system in
-    let order = c.args.order.now in
-    let k = c.args.k in
-    let w = c.args.waiting.now in
-    let values = c.args.values.now in
-    let slots = c.args.slots.now in
-    let so = c.requires.gathered in
     let d : PortId = record { 0 = 0 } in
-    let p = (get_or order k d).0 in
-    let at = number_at order order k d refl c.requires.within in
-    let lt = so.2.ordered.within p (at_contains (numbers order) k p at) in
-    subst (λ n. p < n) (sym so.2.places) lt
+    subst (λ n. (get_or c.args.order.now c.args.k d).0 < n) (sym c.requires.gathered.2.places) (port_there c.args.order.now c.requires.gathered c.requires.within d)
 
 pub returns-in-Quiet-clause-moves : goal.returns-in-Quiet-clause-moves
 returns-in-Quiet-clause-moves g c =
@@ -171,34 +98,20 @@ returns-in-Quiet-clause-moves g c =
     let k = c.args.k in
     let w = c.args.waiting.now in
     let values = c.args.values.now in
-    let slots = c.args.slots.now in
-    let so = c.requires.gathered in
+    let is = map (λ s. instance_in g.L.Peer.view s) c.args.slots.now in
     let d : PortId = record { 0 = 0 } in
     let p = (get_or order k d).0 in
-    let at = number_at order order k d refl c.requires.within in
-    let lt = so.2.ordered.within p (at_contains (numbers order) k p at) in
+    let lt = port_there c.args.order.now c.requires.gathered c.requires.within d in
     let port = got system.ports p lt in
     let placed = place_of system c.requires.sound p port.0 port.1 in
     let way = subst (λ (x : Way). IsWay system rules w p values x) c.in-Quiet.is (c.requires.way d) in
     let v = value_by system rules values p None c.value_of.result lt c.value_of.ensures in
-    λ before olds gathers. subst (λ (x : Option ℤ). Gathers system rules before (numbers order) olds (k + 1) w (slice_set values p x) (map (λ s. instance_in g.L.Peer.view s) slots)) (sym v)
-    (quiet system c.requires.sound rules before (numbers order) olds k w values (map (λ s. instance_in g.L.Peer.view s) slots) gathers p at port.0 port.1 placed.component placed.is.of way.0 (way.1 port.0 placed.component port.1 placed.is.of))
+    λ before olds gathers. subst (λ (x : Option ℤ). Gathers system rules before (numbers order) olds (k + 1) w (slice_set values p x) is) (sym v)
+    (quiet system c.requires.sound rules before (numbers order) olds k w values is gathers p (number_at order order k d refl c.requires.within) port.0 port.1 placed.component placed.is.of way.0
+    (way.1 port.0 placed.component port.1 placed.is.of))
 
 pub take-requires-clause-port : goal.take-requires-clause-port
-take-requires-clause-port g c κs lives =
-    let system = c.args.system.now in
-    let rules = g.T.Turns.rules c.args.turns.now system in
-    let order = c.args.order.now in
-    let k = c.args.k in
-    let w = c.args.waiting.now in
-    let values = c.args.values.now in
-    let slots = c.args.slots.now in
-    let so = c.requires.gathered in
-    let d : PortId = record { 0 = 0 } in
-    let p = (get_or order k d).0 in
-    let at = number_at order order k d refl c.requires.within in
-    let lt = so.2.ordered.within p (at_contains (numbers order) k p at) in
-    lt
+take-requires-clause-port g c κs lives = let d : PortId = record { 0 = 0 } in port_there c.args.order.now c.requires.gathered c.requires.within d
 
 pub take-requires-clause-there : goal.take-requires-clause-there
 take-requires-clause-there g c κs lives = components_there c.args.system.now c.requires.sound
@@ -207,17 +120,9 @@ pub take-requires-clause-call : goal.take-requires-clause-call
 take-requires-clause-call g c κs lives =
     let system = c.args.system.now in
     let rules = g.T.Turns.rules c.args.turns.now system in
-    let order = c.args.order.now in
-    let k = c.args.k in
-    let w = c.args.waiting.now in
-    let values = c.args.values.now in
-    let slots = c.args.slots.now in
-    let so = c.requires.gathered in
     let d : PortId = record { 0 = 0 } in
-    let p = (get_or order k d).0 in
-    let at = number_at order order k d refl c.requires.within in
-    let lt = so.2.ordered.within p (at_contains (numbers order) k p at) in
-    let way = subst (λ (x : Way). IsWay system rules w p values x) c.in-Ask.is (c.requires.way d) in
+    let p = (get_or c.args.order.now c.args.k d).0 in
+    let way = subst (λ (x : Way). IsWay system rules c.args.waiting.now p c.args.values.now x) c.in-Ask.is (c.requires.way d) in
     λ x y x_is of. sym (way.1 x y x_is of)
 
 pub take-requires-clause-may : goal.take-requires-clause-may
@@ -228,14 +133,11 @@ take-requires-clause-may g c κs lives =
     let k = c.args.k in
     let w = c.args.waiting.now in
     let values = c.args.values.now in
-    let slots = c.args.slots.now in
     let so = c.requires.gathered in
     let d : PortId = record { 0 = 0 } in
     let p = (get_or order k d).0 in
-    let at = number_at order order k d refl c.requires.within in
-    let lt = so.2.ordered.within p (at_contains (numbers order) k p at) in
     let way = subst (λ (x : Way). IsWay system rules w p values x) c.in-Ask.is (c.requires.way d) in
-    may_now system rules so.0 (numbers order) so.1 k w values (map (λ s. instance_in g.L.Peer.view s) slots) so.2 p at way.0
+    may_now system rules so.0 (numbers order) so.1 k w values (map (λ s. instance_in g.L.Peer.view s) c.args.slots.now) so.2 p (number_at order order k d refl c.requires.within) way.0
 
 pub returns-in-Ask-clause-moves : goal.returns-in-Ask-clause-moves
 returns-in-Ask-clause-moves g c =
@@ -245,11 +147,8 @@ returns-in-Ask-clause-moves g c =
     let k = c.args.k in
     let w = c.args.waiting.now in
     let values = c.args.values.now in
-    let slots = c.args.slots.now in
-    let so = c.requires.gathered in
     let d : PortId = record { 0 = 0 } in
     let p = (get_or order k d).0 in
-    let at = number_at order order k d refl c.requires.within in
-    let lt = so.2.ordered.within p (at_contains (numbers order) k p at) in
     let way = subst (λ (x : Way). IsWay system rules w p values x) c.in-Ask.is (c.requires.way d) in
-    moves_asked system rules (numbers order) k w values (map (λ s. instance_in g.L.Peer.view s) slots) p at way.0 c.take.new.values (map (λ s. instance_in g.L.Peer.view s) c.take.new.slots) c.take.result c.take.ensures.turn
+    moves_asked system rules (numbers order) k w values (map (λ s. instance_in g.L.Peer.view s) c.args.slots.now) p (number_at order order k d refl c.requires.within) way.0
+    c.take.new.values (map (λ s. instance_in g.L.Peer.view s) c.take.new.slots) c.take.result c.take.ensures.turn

@@ -1,13 +1,25 @@
-use Rattle.std.proofs.Common.{◌≡◌, ℕ, [], List, length, map, refl, subst, arith, take}
+use Rattle.std.proofs.Common.{◌≡◌, ◌≤◌, ℕ, ℤ, [], List, Option, length, map, refl, subst, arith, take}
 use Rattle.std.proofs.lemmas.List.{length-map, take_all}
 use Rattle.sim_base.specs.declared.numbers.PortId.{PortId}
-use Rattle.fmu_peer.specs.CloseAll.{instance_in}
+use Rattle.fmu_peer.specs.CloseAll.{Instance, instance_in}
+use Rattle.system_model.specs.declared.system.System.{System}
 use Rattle.system_model.specs.Ports.{numbers}
 use Rattle.slot_calls.proofs.CallerLemmas.{told_none}
-use Rattle.event_iteration.specs.Turns.{Begun, Walked}
+use Rattle.event_iteration.specs.declared.walk.Waiting.{Waiting}
+use Rattle.event_iteration.specs.Turns.{Begun, Rules, Walked}
 use Rattle.event_iteration.specs.Waits.{Gathers}
 use Rattle.event_iteration.proofs.Steps.{rested, walked_now}
 use Rattle.event_iteration.proofs.walk.walk.Goals as goal
+
+-- behind the last port of the order
+at_end : {system : System} {rules : Rules} {before values : List (Option ℤ)} {olds is : List Instance} {k : ℕ} {w : Waiting} (order : List PortId) → Gathers system rules before (numbers order) olds k w values is → length order ≤ k →
+    Gathers system rules before (numbers order) olds (length order) w values is
+at_end {system = system} {rules = rules} {before = before} {values = values} {olds = olds} {is = is} {k = k} {w = w} order gathers end =
+    let all : k ≡ length order = (let m = gathers.within in let n = length-map order (λ (x : PortId). x.0) in omega (arith, end, m, n)) in
+    subst (λ (n : ℕ). Gathers system rules before (numbers order) olds n w values is) all gathers
+
+whole : (order : List PortId) → take (length order) (numbers order) ≡ numbers order
+whole order = take_all (length order) (numbers order) (let n = length-map order (λ (x : PortId). x.0) in omega (arith, n))
 
 pub loop-k-init : goal.loop-k-init
 loop-k-init g c =
@@ -28,14 +40,7 @@ loop-k-preserved g c =
 
 pub send_waiting-requires-clause-gathered : goal.send_waiting-requires-clause-gathered
 send_waiting-requires-clause-gathered g c κs lives =
-    let system = c.args.system.now in
-    let rules = g.T.Turns.rules c.args.turns.now system in
-    let order = c.args.order.now in
-    let before = c.args.values.now in
-    let olds = map (λ s. instance_in g.L.Peer.view s) c.args.slots.now in
-    let all : c.loop-k.k ≡ length order = (let t = c.loop-k-test.false in let m = c.loop-k.invariant.gathers.within in let n = length-map order (λ (x : PortId). x.0) in omega (arith, t, m, n)) in
-    let gathers = subst (λ (n : ℕ). Gathers system rules before (numbers order) olds n c.loop-k.waiting c.loop-k.values (map (λ s. instance_in g.L.Peer.view s) c.loop-k.slots)) all c.loop-k.invariant.gathers in
-    (before, olds, gathers)
+    (c.args.values.now, map (λ s. instance_in g.L.Peer.view s) c.args.slots.now, at_end c.args.order.now c.loop-k.invariant.gathers c.loop-k-test.false)
 
 pub returns-in-Ok-send_waiting-clause-goes : goal.returns-in-Ok-send_waiting-clause-goes
 returns-in-Ok-send_waiting-clause-goes g c =
@@ -44,46 +49,21 @@ returns-in-Ok-send_waiting-clause-goes g c =
     let order = c.args.order.now in
     let before = c.args.values.now in
     let olds = map (λ s. instance_in g.L.Peer.view s) c.args.slots.now in
-    let all : c.loop-k.k ≡ length order = (let t = c.loop-k-test.false in let m = c.loop-k.invariant.gathers.within in let n = length-map order (λ (x : PortId). x.0) in omega (arith, t, m, n)) in
-    let gathers = subst (λ (n : ℕ). Gathers system rules before (numbers order) olds n c.loop-k.waiting c.loop-k.values (map (λ s. instance_in g.L.Peer.view s) c.loop-k.slots)) all c.loop-k.invariant.gathers in
-    let last = c.in-Ok-send_waiting.ensures.moves before olds gathers in
-    let news = map (λ s. instance_in g.L.Peer.view s) c.send_waiting.new.slots in
-    let whole : take (length order) (numbers order) ≡ numbers order = take_all (length order) (numbers order) (let n = length-map order (λ (x : PortId). x.0) in omega (arith, n)) in (
+    let last = c.in-Ok-send_waiting.ensures.moves before olds (at_end c.args.order.now c.loop-k.invariant.gathers c.loop-k-test.false) in (
       last.log,
       last.told,
-      subst (λ (l : List ℕ). Walked system rules before l c.send_waiting.new.values last.log) whole
-          (walked_now system rules before (numbers order) olds (length order) c.send_waiting.new.waiting c.send_waiting.new.values news last c.in-Ok-send_waiting.ensures.none),
+      subst (λ (l : List ℕ). Walked system rules before l c.send_waiting.new.values last.log) (whole order)
+          (walked_now system rules before (numbers order) olds (length order) c.send_waiting.new.waiting c.send_waiting.new.values (map (λ s. instance_in g.L.Peer.view s) c.send_waiting.new.slots) last c.in-Ok-send_waiting.ensures.none),
     )
 
 pub returns-in-Ok-send_waiting-clause-fitting : goal.returns-in-Ok-send_waiting-clause-fitting
 returns-in-Ok-send_waiting-clause-fitting g c =
-    let system = c.args.system.now in
-    let rules = g.T.Turns.rules c.args.turns.now system in
-    let order = c.args.order.now in
-    let before = c.args.values.now in
-    let olds = map (λ s. instance_in g.L.Peer.view s) c.args.slots.now in
-    let all : c.loop-k.k ≡ length order = (let t = c.loop-k-test.false in let m = c.loop-k.invariant.gathers.within in let n = length-map order (λ (x : PortId). x.0) in omega (arith, t, m, n)) in
-    let gathers = subst (λ (n : ℕ). Gathers system rules before (numbers order) olds n c.loop-k.waiting c.loop-k.values (map (λ s. instance_in g.L.Peer.view s) c.loop-k.slots)) all c.loop-k.invariant.gathers in
-    (c.in-Ok-send_waiting.ensures.moves before olds gathers).fits
+    (c.in-Ok-send_waiting.ensures.moves c.args.values.now (map (λ s. instance_in g.L.Peer.view s) c.args.slots.now) (at_end c.args.order.now c.loop-k.invariant.gathers c.loop-k-test.false)).fits
 
 pub returns-in-Err-send_waiting-clause-goes : goal.returns-in-Err-send_waiting-clause-goes
 returns-in-Err-send_waiting-clause-goes g c =
-    let system = c.args.system.now in
-    let rules = g.T.Turns.rules c.args.turns.now system in
-    let order = c.args.order.now in
-    let before = c.args.values.now in
-    let olds = map (λ s. instance_in g.L.Peer.view s) c.args.slots.now in
-    let all : c.loop-k.k ≡ length order = (let t = c.loop-k-test.false in let m = c.loop-k.invariant.gathers.within in let n = length-map order (λ (x : PortId). x.0) in omega (arith, t, m, n)) in
-    let gathers = subst (λ (n : ℕ). Gathers system rules before (numbers order) olds n c.loop-k.waiting c.loop-k.values (map (λ s. instance_in g.L.Peer.view s) c.loop-k.slots)) all c.loop-k.invariant.gathers in
-    (c.in-Err-send_waiting.ensures.moves before olds gathers).1
+    (c.in-Err-send_waiting.ensures.moves c.args.values.now (map (λ s. instance_in g.L.Peer.view s) c.args.slots.now) (at_end c.args.order.now c.loop-k.invariant.gathers c.loop-k-test.false)).1
 
 pub returns-in-Err-send_waiting-clause-fitting : goal.returns-in-Err-send_waiting-clause-fitting
 returns-in-Err-send_waiting-clause-fitting g c =
-    let system = c.args.system.now in
-    let rules = g.T.Turns.rules c.args.turns.now system in
-    let order = c.args.order.now in
-    let before = c.args.values.now in
-    let olds = map (λ s. instance_in g.L.Peer.view s) c.args.slots.now in
-    let all : c.loop-k.k ≡ length order = (let t = c.loop-k-test.false in let m = c.loop-k.invariant.gathers.within in let n = length-map order (λ (x : PortId). x.0) in omega (arith, t, m, n)) in
-    let gathers = subst (λ (n : ℕ). Gathers system rules before (numbers order) olds n c.loop-k.waiting c.loop-k.values (map (λ s. instance_in g.L.Peer.view s) c.loop-k.slots)) all c.loop-k.invariant.gathers in
-    (c.in-Err-send_waiting.ensures.moves before olds gathers).0
+    (c.in-Err-send_waiting.ensures.moves c.args.values.now (map (λ s. instance_in g.L.Peer.view s) c.args.slots.now) (at_end c.args.order.now c.loop-k.invariant.gathers c.loop-k-test.false)).0

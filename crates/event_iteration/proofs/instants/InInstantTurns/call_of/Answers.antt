@@ -1,4 +1,4 @@
-use Rattle.std.proofs.Common.{◌≡◌, ◌<◌, ℕ, Bool, Some, length, sym, ap, ◌∙◌, subst}
+use Rattle.std.proofs.Common.{◌≡◌, ℕ, Bool, Some, length, sym, ap, ◌∙◌, subst}
 use Rattle.std.specs.Prelude.{slice_get}
 use Rattle.std.proofs.lemmas.Option.{same_Some}
 use Rattle.system_model.specs.declared.system.Port.{Port}
@@ -6,7 +6,6 @@ use Rattle.system_model.proofs.CallerLemmas.{all_at}
 use Rattle.event_iteration.specs.Clocks.{is_due_at}
 use Rattle.event_iteration.specs.Initialization.{IsPlaced}
 use Rattle.event_iteration.specs.Instants.{HasPlacedClocks, asks_in_instant}
-use Rattle.event_iteration.proofs.ClockTicks.{due_is}
 use Rattle.event_iteration.proofs.InInstant.{clocks_placed}
 use Rattle.event_iteration.proofs.Rounds.{components_there, sources_placed}
 use Rattle.event_iteration.proofs.Taking.{component_at, port_at}
@@ -43,7 +42,6 @@ returns c = λ x k x_is of.
     let port = c.index-as_slice-p.result in
     let is = port_at _ system.ports p port c.as_slice.ensures c.index-as_slice-p.is c.requires.port in
     let self = c.args.self.now in
-    let ticks : c.due-ticks.result ≡ is_due_at self.schedule.now self.t p = due_is system self.t self.is_first self.schedule.now c.requires.holds p (subst (λ (n : ℕ). p < n) (sym c.requires.holds.len) c.requires.port) c.due-ticks.result c.due-ticks.ensures in
     subst (λ (y : Port). slice_get system.components y.component.0 ≡ Some k → c.call_of.result ≡ asks_in_instant y.role y k.shape.has_event_mode self.is_first (is_due_at self.schedule.now self.t p) c.args.values.now) (same_Some port x (sym is ∙ x_is))
-    (λ own. c.call_of.ensures ∙ ap (λ (b : Bool). asks_in_instant port.role port b self.is_first c.due-ticks.result c.args.values.now) (c.has_event_mode-has_event_mode.ensures k own)
-    ∙ ap (λ (b : Bool). asks_in_instant port.role port k.shape.has_event_mode self.is_first b c.args.values.now) ticks) of
+    (λ own. c.call_of.ensures ∙ ap (λ (b : Bool). asks_in_instant port.role port b self.is_first c.ticks-ticks.result c.args.values.now) (c.has_event_mode-has_event_mode.ensures k own)
+    ∙ ap (λ (b : Bool). asks_in_instant port.role port k.shape.has_event_mode self.is_first b c.args.values.now) c.ticks-ticks.ensures) of

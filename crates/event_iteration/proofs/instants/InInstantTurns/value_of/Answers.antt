@@ -1,11 +1,10 @@
-use Rattle.std.proofs.Common.{◌≡◌, ◌<◌, ℕ, Bool, length, sym, ap, ◌∙◌, subst}
+use Rattle.std.proofs.Common.{◌≡◌, ℕ, Bool, length, sym, ap, ◌∙◌, subst}
 use Rattle.std.proofs.lemmas.Option.{same_Some}
 use Rattle.system_model.specs.declared.system.Port.{Port}
 use Rattle.system_model.proofs.CallerLemmas.{all_at}
 use Rattle.event_iteration.specs.Clocks.{is_due_at}
 use Rattle.event_iteration.specs.Initialization.{IsPlaced}
 use Rattle.event_iteration.specs.Instants.{HasPlacedClocks, takes_in_instant}
-use Rattle.event_iteration.proofs.ClockTicks.{due_is}
 use Rattle.event_iteration.proofs.InInstant.{clocks_placed}
 use Rattle.event_iteration.proofs.Rounds.{sources_placed}
 use Rattle.event_iteration.proofs.Taking.{port_at}
@@ -34,6 +33,5 @@ returns c = λ x x_is.
     let port = c.index-as_slice-p.result in
     let is = port_at _ system.ports p port c.as_slice.ensures c.index-as_slice-p.is c.requires.port in
     let self = c.args.self.now in
-    let ticks : c.due-ticks.result ≡ is_due_at self.schedule.now self.t p = due_is system self.t self.is_first self.schedule.now c.requires.holds p (subst (λ (n : ℕ). p < n) (sym c.requires.holds.len) c.requires.port) c.due-ticks.result c.due-ticks.ensures in
     subst (λ (y : Port). c.value_of.result ≡ takes_in_instant y.role y (is_due_at self.schedule.now self.t p) c.args.values.now c.args.last c.args.reply.now) (same_Some port x (sym is ∙ x_is))
-    (c.value_of.ensures ∙ ap (λ (b : Bool). takes_in_instant port.role port b c.args.values.now c.args.last c.args.reply.now) ticks)
+    (c.value_of.ensures ∙ ap (λ (b : Bool). takes_in_instant port.role port b c.args.values.now c.args.last c.args.reply.now) c.ticks-ticks.ensures)
