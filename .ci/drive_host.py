@@ -206,7 +206,7 @@ def play_page(page, program, directory, resolution):
                     raise Stopped(1, f"{page}:{number}: the page has {data.hex()}, the host answers {got.hex()}")
     rest, status = host.end()
     if rows == 0 or rest or status != 0:
-        raise Stopped(1, f"{page}: {rows} frames, {len(rest)} bytes behind them, status {status}")
+        raise Stopped(1, f"{page}: {rows} frames, {len(rest)} bytes after them, status {status}")
 
 
 # ---- checks
@@ -243,7 +243,7 @@ def drive_sampler(program, directory, resolution):
         host.ask("EnterEvent")
     host.ask("Terminate")
     host.ask("FreeInstance")
-    expect("behind FreeInstance", host.end(), (b"", 0))
+    expect("after FreeInstance", host.end(), (b"", 0))
 
 
 def drive_alarm(program, directory, resolution):
@@ -279,7 +279,7 @@ def drive_alarm(program, directory, resolution):
     instant(7)
     host.ask("Terminate")
     host.ask("FreeInstance")
-    expect("behind FreeInstance", host.end(), (b"", 0))
+    expect("after FreeInstance", host.end(), (b"", 0))
 
 
 def drive_pulse(program, directory, resolution):
@@ -304,7 +304,7 @@ def drive_pulse(program, directory, resolution):
         host.ask("Update")
     host.ask("Terminate")
     host.ask("FreeInstance")
-    expect("behind FreeInstance", host.end(), (b"", 0))
+    expect("after FreeInstance", host.end(), (b"", 0))
 
 
 def drive_waker(program, directory, resolution):
@@ -336,10 +336,10 @@ def drive_waker(program, directory, resolution):
     instant(event + 1)
     host.ask("Terminate")
     host.ask("FreeInstance")
-    expect("behind FreeInstance", host.end(), (b"", 0))
+    expect("after FreeInstance", host.end(), (b"", 0))
 
 
-# What is no frame of a call: its bytes, each behind a good Instantiate.
+# What is no frame of a call: its bytes, each after a good Instantiate.
 NO_FRAMES = (
     ("the kind 0", FRAME.pack(0, 0, 0, 0, 0, 0, 0)),
     ("the kind 19", FRAME.pack(19, 0, 0, 0, 0, 0, 0)),
@@ -389,16 +389,16 @@ def drive_odd(program, directory, resolution):
     expect("before a step", count(), 0)
     host.ask("Save")
     expect("a step", host.ask("DoStep", first=10, second=7), (0, 0, 17, 0))
-    expect("behind a step", count(), -5)
+    expect("after a step", count(), -5)
     for _ in range(2):
         host.ask("Restore")
-        expect("behind a Restore", count(), 0)
+        expect("after a Restore", count(), 0)
         host.ask("DoStep", first=10, second=10)
-    expect("behind both", count(), -5)
+    expect("after both", count(), -5)
     host.ask("Free")
     host.ask("Terminate")
     host.ask("FreeInstance")
-    expect("behind FreeInstance", host.end(), (b"", 0))
+    expect("after FreeInstance", host.end(), (b"", 0))
 
     refused = (
         ("GetClock", {"reference": 1}),
@@ -417,8 +417,8 @@ def drive_odd(program, directory, resolution):
         host.ask("ExitInitialization")
         number = KINDS.index(kind) + 1
         expect(kind, host.exchange(kind, **fields).hex(), FRAME.pack(number, 3, 0, 0, 0, 0, 0).hex())
-        expect("FreeInstance behind Error", host.exchange("FreeInstance"), FRAME.pack(18, 0, 0, 0, 0, 0, 0))
-        expect("behind it", host.end(), (b"", 0))
+        expect("FreeInstance after Error", host.exchange("FreeInstance"), FRAME.pack(18, 0, 0, 0, 0, 0, 0))
+        expect("after it", host.end(), (b"", 0))
 
 
 def drive_batches(program, directory, resolution):
@@ -441,7 +441,7 @@ def drive_batches(program, directory, resolution):
     try:
         expect("up to an unknown variable", host.ask_together("Get", (5, y, 0), (5, unknown, 0), (5, y, 0)), [(0, 3), (3, 0)])
         host.ask("FreeInstance")
-        expect("behind FreeInstance", host.end(), (b"", 0))
+        expect("after FreeInstance", host.end(), (b"", 0))
     except Stopped as end:
         # A host that tests what is permitted, as fmu_host, ends there, and answers none of the batch.
         if end.status != 5:

@@ -80,7 +80,7 @@ int main(int count, char **words)
         return 2;
     static unsigned char calls[FRAME * (MOST_CALLS + 1)], replies[FRAME * (MOST_CALLS + 1)];
     while (read_all(calls, FRAME)) {
-        /* The head of a batch tells how many calls are behind it; the head of its reply is the same. */
+        /* The head of a batch tells how many calls are after it; the head of its reply is the same. */
         size_t behind = calls[0] == BATCH ? calls[7] : 0, length = FRAME * (behind + 1);
         if (behind > MOST_CALLS || !read_all(calls + FRAME, FRAME * behind))
             return 1;

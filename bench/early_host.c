@@ -1,13 +1,13 @@
 /*
  * A host whose FMU may end steps early, by the name of its folder:
  *
- *     DIR/first       a step of more than 5 counts ends 5 counts behind its beginning
- *     DIR/second      one of 4 or 5 counts ends 3 counts behind it
+ *     DIR/first       a step of more than 5 counts ends 5 counts after its beginning
+ *     DIR/second      one of 4 or 5 counts ends 3 counts after it
  *     any other       each step ends at its bound
  *
  *     cc -std=c99 -O2 -o early_host early_host.c
  *
- * So in a longer step of all of them the first ends early, the second does on the way there, and all meet behind 3 counts: those
+ * So in a longer step of all of them the first ends early, the second does on the way there, and all meet after 3 counts: those
  * that passed go back twice. It answers each other call that ssprun sends to an FMU without variables with OK.
  */
 #include <stdint.h>

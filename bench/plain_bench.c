@@ -1,6 +1,6 @@
 /*
  * What `ssprun bench SEED N` counts, by a plain program: it generates the same system from the same draws, runs the same machines
- * by the same calls, each behind a function pointer and each call and each reply 24 bytes, and writes the same line. It keeps no
+ * by the same calls, each by a function pointer and each call and each reply 24 bytes, and writes the same line. It keeps no
  * trace and tests no calling sequence.
  *
  *     cc -std=c99 -O2 -o plain_bench plain_bench.c

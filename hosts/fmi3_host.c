@@ -80,7 +80,7 @@ struct call {
     uint64_t second;
 };
 
-/* The texts of Instantiate, each with a 0 behind it. They are kept, since there is one Instantiate. */
+/* The texts of Instantiate, each with a 0 after it. They are kept, since there is one Instantiate. */
 static char *name, *token;
 
 struct reply {
@@ -137,7 +137,7 @@ static bool is_word_of(int type, uint64_t word)
     }
 }
 
-/* A text of Instantiate, with a 0 behind it; NULL where the input ends before, or there is no memory. */
+/* A text of Instantiate, with a 0 after it; NULL where the input ends before, or there is no memory. */
 static char *read_text(FILE *calls, uint64_t length)
 {
     char *text = malloc((size_t)length + 1);
@@ -231,7 +231,7 @@ static bool is_good(fmi3Status status)
     return status == fmi3OK || status == fmi3Warning;
 }
 
-/* From the status fmi3Discard on all behind it is 0. */
+/* From the status fmi3Discard on all after it is 0. */
 static void put_reply(unsigned char *bytes, int kind, const struct reply *reply)
 {
     memset(bytes, 0, FRAME_LENGTH);
@@ -294,7 +294,7 @@ static struct {
     if (fmu.name == NULL) \
         return complain("the library doesn't have the function ", "fmi3" #name)
 
-/* Two texts, the one behind the other, in memory of their own; NULL where there is no first text, or no memory. */
+/* Two texts, one after the other, in memory of their own; NULL where there is no first text, or no memory. */
 static char *joined(const char *first, const char *second)
 {
     size_t room = first != NULL ? strlen(first) + strlen(second) + 1 : 0;
@@ -304,7 +304,7 @@ static char *joined(const char *first, const char *second)
     return text;
 }
 
-/* The whole file of the folder with this name, and a 0 behind it; NULL where it can't be read. */
+/* The whole file of the folder with this name, and a 0 after it; NULL where it can't be read. */
 static char *read_whole(const char *file)
 {
     char *path = joined(directory, file);

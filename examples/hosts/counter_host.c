@@ -74,7 +74,7 @@ struct call {
     uint64_t second;
 };
 
-/* From the status DISCARD on everything behind the status has to be 0. */
+/* From the status DISCARD on everything after the status has to be 0. */
 struct reply {
     int status;
     int flags;
@@ -234,7 +234,7 @@ static void put_reply(unsigned char *bytes, int kind, const struct reply *reply)
 
 /*
  * Writes so many replies to a frame on standard output: to a batch with a head that counts them. ssprun sends the next
- * frame only behind them, so they leave at once.
+ * frame only after them, so they leave at once.
  */
 static bool write_replies(const struct frame *frame, const struct reply *given, int count)
 {
@@ -384,7 +384,7 @@ static bool find_attribute(const char *tag, const char *name, char *value, size_
 
 /*
  * The start value of the parameter with this reference, 0 where none is found: that of the first tag with both
- * attributes. This is a search and no XML reader: it wants each value right behind `=` in double quotes, no `>` in a
+ * attributes. This is a search and no XML reader: it wants each value right after `=` in double quotes, no `>` in a
  * value, and no such tag in a comment. ssprun reads the description in full before it starts a host.
  */
 static uint64_t find_start(const char *description, unsigned long reference)

@@ -303,7 +303,7 @@ def serve(model, calls, replies):
         if frame is None:
             return
         replies.write(answer_batch(model, frame) if isinstance(frame, list) else model.answer(frame))
-        replies.flush()  # ssprun sends the next frame only behind this reply
+        replies.flush()  # ssprun sends the next frame only after this reply
         if not isinstance(frame, list) and frame.kind == Kind.FREE_INSTANCE:
             return
 

@@ -65,7 +65,7 @@ class Description:
         return next((one for one in self.variables if name in one.names), None)
 
     def ports(self):
-        """The inputs and outputs that aren't foreign, in their order."""
+        """The inputs and outputs that aren't ignored, in their order."""
         return [one for one in self.variables if one.causality in ("input", "output") and not one.is_foreign]
 
     def clocks(self):
@@ -230,7 +230,7 @@ class Binding:
 
 
 def bindings(system):
-    """The bindings of a system in the order of its documents; those of a component behind those of its own document's System."""
+    """The bindings of a system in the order of its documents; those of a component after those of its own document's System."""
     for part in system.parts:
         of_component = part.frame.element if part.frame else part.element if part.element.name == "Component" else None
         if part.element.name == "System":
@@ -245,7 +245,7 @@ def binding_elements(element):
 
 
 def parameters_seen(system, part):
-    """What names lead to from a System or a component: the component and the variable of each parameter, also of foreign ones."""
+    """What names lead to from a System or a component: the component and the variable of each parameter, also of ignored ones."""
     found = {}
     for other in system.parts:
         if other.element.name == "Component" and (other is part or part in other.around):

@@ -1,10 +1,10 @@
-"""`ssp unreached SYSTEM`: the values of parameters that reach nothing, and variables that connections and bindings can't use."""
+"""`ssp unreached SYSTEM`: the unresolved values of parameters, and variables that connections and bindings can't use."""
 import difflib
 
 from .common import one_line
 from .systems import System, bindings, parameters_seen
 
-ABOUT = """Names each value of a parameter that reaches nothing, with the nearest name that is there, and each variable that is
+ABOUT = """Names each unresolved value of a parameter, with the nearest name that is there, and each variable that is
 connected or bound and is of a type that the program neither sets nor reads, such as Float64. `check` counts the former (unreached
 U) and refuses a connection of the latter. A line begins with the file, the line and the column. The status is 1 where something
 is named, else 0."""

@@ -55,7 +55,7 @@ function fault(text) {
     exit 2
 }
 
-# The positionals and options behind the command.
+# The positionals and options after the command.
 function read_words(   i, word, name, at) {
     about["DIR"] = "the folder of the system, or of the FMU"
     about["FILE"] = "the file of a trace"

@@ -1,6 +1,6 @@
 /*
- * An FMU for Co-Simulation with event mode and a changing Clock: `c` ticks first `s` thousandths of a second behind the
- * start, and behind each tick when `d` and the number of ticks before have passed. `y` counts the ticks.
+ * An FMU for Co-Simulation with event mode and a changing Clock: `c` ticks first `s` thousandths of a second after the
+ * start, and after each tick when `d` and the number of ticks before have passed. `y` counts the ticks.
  *
  *     cc -std=c99 -fPIC -shared -I ../../../../../hosts -o ../binaries/x86_64-linux/pulse.so pulse.c
  *
@@ -76,7 +76,7 @@ fmi3Status fmi3DoStep(fmi3Instance instance, fmi3Float64 currentCommunicationPoi
     return fmi3OK;
 }
 
-/* A tick is counted, and the Clock is inactive behind it. */
+/* A tick is counted, and the Clock is inactive after it. */
 fmi3Status fmi3UpdateDiscreteStates(fmi3Instance instance, fmi3Boolean *discreteStatesNeedUpdate,
                                     fmi3Boolean *terminateSimulation, fmi3Boolean *nominalsOfContinuousStatesChanged,
                                     fmi3Boolean *valuesOfContinuousStatesChanged, fmi3Boolean *nextEventTimeDefined,
