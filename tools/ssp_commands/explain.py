@@ -64,6 +64,12 @@ LINES = (
         "Choose T - S as a multiple of H, and H such that each tick of a Clock is at a point of the grid. "
         "An FMU that ends steps early needs canHandleVariableCommunicationStepSize of each, itself too.",
     ),
+    (
+        r"range (?P<component>\S+) (?P<variable>\S+) (?P<value>-?\d+)",
+        "The value {value} is lost on its way to {variable}: a transformation of a connection makes nothing of it that this input holds.",
+        "Look at the transformations on the path to this input: each result is from -2^63 to 2^64 - 1, the last one in the range of "
+        "the input's type, and a mapping needs an entry for each value that comes.",
+    ),
     (r"write", "A write failed, to standard output or standard error.", "See whether the disk is full, or who reads the output ended."),
     (r"memory", "There isn't enough memory; nothing was called.", "docs/PERFORMANCE.md says what large files take."),
 )
@@ -71,7 +77,7 @@ LINES = (
 TRACE_RULES = {
     "1": "It is out of form, isn't the line of the system's port that is due here, or is missing.",
     "2": "The point or the instant of this line doesn't follow from those before it, or the end isn't that of the stop.",
-    "3": "A connected input has another value than its source, or none where its source has one.",
+    "3": "A connected input has another value than its path makes of its source's, or none where there is one.",
     "4": "A constant Clock ticks where it doesn't, or a tick of it was passed over.",
 }
 VERDICT = re.compile(r"no (\d+) ([1-4])", re.ASCII)

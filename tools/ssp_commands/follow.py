@@ -11,7 +11,7 @@ The program itself writes its trace alone: give it a file (./ssprun run .. > FIL
 any more and has no end line is followed until this is stopped (Ctrl-C)."""
 HEADER = re.compile(rb"trace 1 ([1-9]\d{0,18}) (\d{1,19}) (\d{1,19})\n")
 LAST = re.compile(rb"(?:^|\n)at (\d{1,19}) \d{1,5}(?=\n)")
-END = re.compile(rb"\nend (stop|asked|limit|fixed|fault) (\d{1,19})\n\Z")
+END = re.compile(rb"\nend (stop|asked|limit|fixed|range|fault) (\d{1,19})\n\Z")
 PIECE = 1 << 16
 
 

@@ -69,6 +69,7 @@ class Explain(Case):
             (f"misreply a Get {'0' * 48}", "A reply in bytes"),
             ("limit 20", "--max-iterations"),
             ("fixed a 20 25", "The step from 20 to 25"),
+            ("range a.b u%20v -4", "a.b: The value -4 is lost on its way to u v"),
             ("write", "disk"),
             ("memory", "memory"),
             ("no 5 3", "Line 5 of the trace breaks rule 3"),

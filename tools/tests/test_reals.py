@@ -119,17 +119,17 @@ def bound(*pairs, **more):
     return structure("<Elements>" + component("a", "m", "", inline(*pairs, **more)) + "</Elements>")
 
 
-def through(type_name, output="y", end="u"):
-    """A path that leads through a System, whose connector has this type."""
+def through(type_name, output="y", end="u", outside="", inside=""):
+    """A path that leads through a System, whose connector has this type; and what its two connections have inside."""
     inner = (
         f'<System name="inner"><Connectors>{connector("x", "input", type_name)}</Connectors><Elements>'
         + component("b", "m", connector(end, "input"))
-        + f"</Elements><Connections>{connection('x', f'b.{end}')}</Connections></System>"
+        + f"</Elements><Connections>{connection('x', f'b.{end}', inside=inside)}</Connections></System>"
     )
     return structure(
         "<Elements>"
         + component("a", "m", connector(output, "output"))
-        + f"{inner}</Elements><Connections>{connection(f'a.{output}', 'inner.x')}</Connections>"
+        + f"{inner}</Elements><Connections>{connection(f'a.{output}', 'inner.x', inside=outside)}</Connections>"
     )
 
 
@@ -178,6 +178,8 @@ ROWS = [
     ),
     # transformations
     *((joint("y", "u", inside=text), "the connection from a.y to b.u has a transformation") for text in TRANSFORMATIONS),
+    (through("Real", outside=LINEAR), "the connection from a.y to inner.x has a transformation"),
+    (through("Real", inside=LINEAR), "has a transformation, and bits can't be transformed"),
     *(
         (bound(("p", value), mapping=mapping(("p", "k", "", text))), "a transformation on the way to a.k, a Float64")
         for value in ('<Real value="1"/>', '<Integer value="1"/>')

@@ -20,7 +20,7 @@ use Rattle.run_model.specs.Run.{Run, Situation, each}
 use Rattle.run_model.specs.Inputs.{is_under, state_with, under, written_at_port}
 use Rattle.run_model.specs.Initial as I
 use Rattle.run_model.specs.AfterInstant as A
-use Rattle.run_model.specs.AfterInstant.{Again, AtLimit, Done, Ended, Following, following}
+use Rattle.run_model.specs.AfterInstant.{Again, AtLimit, Done, Ended, Following, OutOfRange, following}
 use Rattle.run_model.specs.Stepping as P
 use Rattle.run_model.specs.Stepping.{AtStop, ByStep, Departs, GoesOn, Next, WhereAsked, WhereFixed}
 use Rattle.run_model.specs.Trace.{LeadsBy}
@@ -136,11 +136,12 @@ module _ (r : Run) (sound : IsSound r.system) (i : ℕ) (c : Component) (b : Beh
   departs {s} set (ByStep next k p step asks a) z e = subst (λ (x : Situation). AreSetIn x.states) (ap (λ (n : Next). situation_of n z) (sym a ∙ e)) (stepped s k p set)
 
   leads : (f : Following) (s : Situation) (V : List (Option ℤ)) (z : Situation) → AreSetIn s.states → LeadsBy f r s V (GoesOn z) → AreSetIn z.states
+  leads OutOfRange s V z set a = absurd (true_false (sym (ap ends_or_goes a)))
   leads Ended s V z set a = absurd (true_false (sym (ap ends_or_goes a)))
   leads AtLimit s V z set a = absurd (true_false (sym (ap ends_or_goes a)))
   leads Again s V z set a = subst (λ (x : Situation). AreSetIn x.states) (ap (λ (n : Next). situation_of n z) (sym a)) (updated s V set)
   leads Done s V z set a = departs (updated s V set) a z refl
 
   pub reached : {s : Situation} → B.Reached r s → AreSetIn s.states
-  reached (B.AtFirst s initial solves is) = subst (λ (x : Situation). AreSetIn x.states) (sym is) (beginning initial)
+  reached (B.AtFirst s initial solves kept is) = subst (λ (x : Situation). AreSetIn x.states) (sym is) (beginning initial)
   reached (B.Onward s V next before solves on) = leads (following r s V) s V next (reached before) on

@@ -1,6 +1,7 @@
 -- A stage by its own contract: where it leads the run, and where it leaves the slots.
 use Rattle.std.proofs.Common.{◌≡◌, ℕ, ℤ, Bool, true, false, List, [], Option, Result, Ok, Err, refl, sym, ap, subst, arith, ◌∙◌, ◌+◌}
 use Rattle.std.specs.Prelude.{All, IfOk, OnOk, ◌||◌}
+use Rattle.std.specs.List.{list_any}
 use Rattle.std.proofs.lemmas.List.{length-map}
 use Rattle.sim_base.specs.Sink.{SinkView, with_piece}
 use Rattle.system_model.specs.Text.{instant_text}
@@ -16,6 +17,8 @@ use Rattle.event_iteration.specs.Explains.{Explains, Walks}
 use Rattle.event_iteration.specs.Intervals.{AsksIntervals, Fixes, is_some_armed}
 use Rattle.event_iteration.specs.Settings.{before_step, port_order}
 use Rattle.event_iteration.specs.Turns.{Rules}
+use Rattle.run_model.specs.Equations.{is_bad}
+use Rattle.run_model.specs.Initial.{is_bad_initially}
 use Rattle.run_model.specs.Run.{Timer}
 use Rattle.system_model.specs.declared.system.System.{System}
 use Rattle.slot_calls.specs.declared.bad_answer.BadAnswer.{BadAnswer}
@@ -74,20 +77,20 @@ pub asks_as : (system : System) (per_second t : ℕ) (timers next : List Timer) 
 asks_as system per_second t timers next mids news r a b same w = subst (λ (vs : List (Option ℤ)). AsksIntervals system per_second t vs timers next mids news r) same w
 
 -- the questions for the timing of fixed and changing Clocks
-pub by_fixes : (e : Experiment) (timers : List Timer) (mids news : List Instance) (count : ℕ) (r : Result (Unit {0}) BadAnswer) → Fixes e.system e.plan.resolution e.plan.start timers mids news r → Goes e Found (λ (x : Unit {0}). Timed timers) mids news count count r
-by_fixes e timers mids news count (Ok x) f = λ v olds before h. on_quietly e olds before Found mids news v count h f.log f.told (Timed timers) [] f.says.0 (Times [] f.log timers f.says.1) refl
-by_fixes e timers mids news count (Err bad) f = λ v olds before h. off e olds before Found mids news v count h f.log f.told bad f.says
+pub by_fixes : (e : Experiment) (found : List (Option ℤ)) → list_any (is_bad_initially e.system found) e.system.ports ≡ false → (timers : List Timer) (mids news : List Instance) (count : ℕ) (r : Result (Unit {0}) BadAnswer) → Fixes e.system e.plan.resolution e.plan.start timers mids news r → Goes e (Found found) (λ (x : Unit {0}). Timed timers) mids news count count r
+by_fixes e found kept timers mids news count (Ok x) f = λ v olds before h. on_quietly e olds before (Found found) mids news v count h f.log f.told (Timed timers) [] f.says.0 (Times found [] f.log timers kept f.says.1) refl
+by_fixes e found kept timers mids news count (Err bad) f = λ v olds before h. off e olds before (Found found) mids news v count h f.log f.told bad f.says
 
 -- by another name of the start
 pub fixes_as : (system : System) (per_second a b : ℕ) → a ≡ b → (timers : List Timer) (mids news : List Instance) (r : Result (Unit {0}) BadAnswer) → Fixes system per_second a timers mids news r → Fixes system per_second b timers mids news r
 fixes_as system per_second a b same timers mids news r f = subst (λ (start : ℕ). Fixes system per_second start timers mids news r) same f
 
 -- the questions for intervals
-pub by_asking : (e : Experiment) (s : Spot) (next : List Timer) (mids news : List Instance) (count : ℕ) (r : Result Bool BadAnswer) → AsksIntervals e.system e.plan.resolution s.t s.values s.timers next mids news r →
+pub by_asking : (e : Experiment) (s : Spot) → list_any (is_bad s.values) e.system.ports ≡ false → (next : List Timer) (mids news : List Instance) (count : ℕ) (r : Result Bool BadAnswer) → AsksIntervals e.system e.plan.resolution s.t s.values s.timers next mids news r →
     Goes e (Read s) (λ (armed : Bool). Rearmed (record s { timers = next })) mids news count count r
-by_asking e s next mids news count (Ok x) a = λ v olds before h.
-    on_quietly e olds before (Read s) mids news v count h a.log a.told (Rearmed (record s { timers = next })) s.values a.says.0.explains (Rearming s s.values next a.log a.says.0) refl
-by_asking e s next mids news count (Err bad) a = λ v olds before h.
+by_asking e s kept next mids news count (Ok x) a = λ v olds before h.
+    on_quietly e olds before (Read s) mids news v count h a.log a.told (Rearmed (record s { timers = next })) s.values a.says.0.explains (Rearming s s.values next a.log kept a.says.0) refl
+by_asking e s kept next mids news count (Err bad) a = λ v olds before h.
     off e olds before (Read s) mids news v count h a.log a.told bad (s.values, a.says)
 
 -- the same event times, by another name

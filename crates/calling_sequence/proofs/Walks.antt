@@ -18,7 +18,7 @@ use Rattle.system_model.specs.declared.system.Role.TheVariants.{Input, Output, C
 use Rattle.system_model.specs.declared.system.Port.{Port}
 use Rattle.system_model.specs.declared.system.Timing.TheVariants.{Answered, Changing, Countdown, Periodic}
 use Rattle.system_model.specs.declared.system.System.{System}
-use Rattle.run_model.specs.Equations.{fed}
+use Rattle.run_model.specs.Equations.{fed, source_value}
 use Rattle.run_model.specs.Initial.{is_read}
 use Rattle.system_model.specs.Values.{value, is_active, is_present}
 use Rattle.slot_calls.specs.Log.{Asking, Sent}
@@ -99,7 +99,7 @@ unless_some false o x h = h
 
 finds : (role : Role) (ports : List Port) (read : Bool) (port : Port) (values : List (Option ℤ)) (k : Call) → asks_initially role ports read port values ≡ Some k → IsSort IsGetOrSet k
 finds (Input None) ports read port values k h result = absurd (cc)
-finds (Input (Some feed)) ports read port values k h result = inr (set_of port (fed feed values) k (if_some (is_set_from_feed ports port feed) _ k h) result)
+finds (Input (Some feed)) ports read port values k h result = inr (set_of port (fed port.kind feed values) k (if_some (is_set_from_feed ports port feed) _ k h) result)
 finds Output ports read port values k h result = inl (port.kind, port.reference, sym (same_Some _ _ (if_some read (Some (C.Get port.kind port.reference)) k h)))
 finds (ClockInput feed) ports read port values k h result = absurd (cc)
 finds ClockOutput ports read port values k h result = absurd (cc)
@@ -124,12 +124,12 @@ in_instants : (shape : Shape) (role : Role) (port : Port) (is_first ticks : Bool
 in_instants shape (Input None) port is_first ticks values k h result = absurd (cc)
 in_instants shape (Input (Some feed)) port is_first ticks values k h result =
     let asked = shape.has_event_mode && is_present port values in
-    let set = option_map (λ x. C.Set port.kind port.reference x) (fed feed values) in
-    inr (inl (set_of port (fed feed values) k (if_some asked set k h) result, both_true shape.has_event_mode (is_present port values) (passes asked set k h)))
+    let set = option_map (λ x. C.Set port.kind port.reference x) (fed port.kind feed values) in
+    inr (inl (set_of port (fed port.kind feed values) k (if_some asked set k h) result, both_true shape.has_event_mode (is_present port values) (passes asked set k h)))
 in_instants shape Output port is_first ticks values k h result =
     inl (port.kind, port.reference, sym (same_Some _ _ (if_some (is_read_in_instant port shape.has_event_mode is_first values) (Some (C.Get port.kind port.reference)) k h)))
 in_instants shape (ClockInput None) port is_first ticks values k h result = absurd (cc)
-in_instants shape (ClockInput (Some feed)) port is_first ticks values k h result = inr (inr (set_clock (is_active (fed feed values)) port.reference k h result))
+in_instants shape (ClockInput (Some feed)) port is_first ticks values k h result = inr (inr (set_clock (is_active (source_value feed values)) port.reference k h result))
 in_instants shape ClockOutput port is_first ticks values k h result = inr (inr (port.reference, inr (sym (same_Some _ _ h))))
 in_instants shape (TimeClock timing) port is_first ticks values k h result = inr (inr (set_clock ticks port.reference k h result))
 

@@ -86,6 +86,7 @@ module _ (e : Experiment) (olds : List Instance) (before : SinkView) (news : Lis
   whole log is (E.Asked at) point f w = w
   whole log is (E.EventLimit at) point f w = w
   whole log is (E.FixedStep component at end) point f w = w
+  whole log is (E.Range lost at) point f w = w
   whole log is (E.Bad bad) point f w = w
   whole log is E.WriteFault point f w = absurd (never f) where
     never : {q : ℕ} → Finishes e.system e.bound e.plan E.WriteFault q log is → ⊥

@@ -1,10 +1,13 @@
 -- The run of a system by its plan, for any replies, part by part (FMI 3.0, 4.2.1: the calling sequence of Co-Simulation).
 use Rattle.std.specs.Prelude.{◌≡◌, ℕ, suc, ℤ, ◌==◌, ◌||◌, Bool, true, false, List, [], ◌∷◌, ◌++◌, Option, length}
+use Rattle.std.specs.List.{list_any}
 use Rattle.system_model.specs.declared.bound.Bound.{Bound}
 use Rattle.system_model.specs.declared.plan.Plan.{Plan}
 use Rattle.system_model.specs.declared.system.System.{System}
 use Rattle.system_model.specs.Text.{Instant}
 use Rattle.system_model.specs.Ports.{numbers}
+use Rattle.run_model.specs.Equations.{is_bad}
+use Rattle.run_model.specs.Initial.{is_bad_initially}
 use Rattle.run_model.specs.Run.{Timer}
 use Rattle.event_iteration.specs.Clocks.{AreTicks, no_events}
 use Rattle.event_iteration.specs.Initialization.{initially, no_values}
@@ -41,7 +44,7 @@ pub data Place : Type 0 where
   Configured : Place
   -- each is in Initialization Mode; its values were found; the fixed and changing Clocks were asked, which tells these timers
   Entered : Place
-  Found : Place
+  Found : (values : List (Option ℤ)) → Place
   Timed : (timers : List Timer) → Place
   -- before an instant with these ticks, with the values of the instant before it
   Before : (s : Spot) (ticks : ℕ → Bool) → Place
@@ -68,7 +71,7 @@ part_at system bound plan Made = Calls (binding bound)
 part_at system bound plan Configured = Calls (entering system plan)
 part_at system bound plan Entered =
     Walk (initially system) (no_values system) (numbers system.initial_order)
-part_at system bound plan Found = Calls (timing_calls system)
+part_at system bound plan (Found values) = Calls (timing_calls system)
 part_at system bound plan (Timed timers) = Calls (leaving system)
 part_at system bound plan (Before s ticks) =
     Walk (in_instant ticks (s.n == 0)) s.values (numbers system.instant_order)
@@ -99,11 +102,12 @@ pub data LeadsTo (system : System) (plan : Plan) : Place → List (Option ℤ) �
   Enters : (values : List (Option ℤ)) (log : List Sent) →
       LeadsTo system plan Configured values log Entered
   Finds : (values : List (Option ℤ)) (log : List Sent) →
-      LeadsTo system plan Entered values log Found
-  -- the timers of the Clocks before the first instant, by what the fixed and changing ones answered
-  Times : (values : List (Option ℤ)) (log : List Sent) (timers : List Timer) →
+      LeadsTo system plan Entered values log (Found values)
+  -- where no value is lost on its way: the timers of the Clocks before the first instant, by what the fixed and changing ones answered
+  Times : (found values : List (Option ℤ)) (log : List Sent) (timers : List Timer) →
+      list_any (is_bad_initially system found) system.ports ≡ false →
       timers ≡ first_told plan.resolution plan.start system log →
-      LeadsTo system plan Found values log (Timed timers)
+      LeadsTo system plan (Found found) values log (Timed timers)
   -- the first instant, at the start, before which no port has a value and no component an event time
   Exits : (timers : List Timer) (values : List (Option ℤ)) (log : List Sent) (s : Spot)
       (ticks : ℕ → Bool) →
@@ -118,7 +122,9 @@ pub data LeadsTo (system : System) (plan : Plan) : Place → List (Option ℤ) �
   Reads : (s : Spot) (ticks : ℕ → Bool) (values : List (Option ℤ)) (log : List Sent) →
       length values ≡ length system.ports →
       LeadsTo system plan (Before s ticks) values log (Read (record s { values = values }))
+  -- where no value is lost on its way
   Rearming : (s : Spot) (values : List (Option ℤ)) (next : List Timer) (log : List Sent) →
+      list_any (is_bad s.values) system.ports ≡ false →
       Rearms system plan.resolution s.t s.values s.timers next log →
       LeadsTo system plan (Read s) values log (Rearmed (record s { timers = next }))
   -- the event times are those that the Updates ask for; another instant is asked for by an Update, or by a Clock that is armed for the point

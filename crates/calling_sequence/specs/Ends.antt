@@ -1,5 +1,5 @@
 -- How a run ends, and the text that is put of it.
-use Rattle.std.specs.Prelude.{◌≡◌, ℕ, suc, ◌==◌, ◌-◌, Bool, true, false, List, [], ◌∷◌, ◌++◌, map, Some, length}
+use Rattle.std.specs.Prelude.{◌≡◌, ℕ, suc, ℤ, ◌==◌, ◌-◌, Bool, true, false, List, [], ◌∷◌, ◌++◌, map, Option, Some, length}
 use Rattle.sim_base.specs.Sink.{SinkView}
 use Rattle.sim_base.specs.declared.numbers.CompId.{CompId}
 use Rattle.fmu_peer.specs.CloseAll.{Instance}
@@ -11,6 +11,10 @@ use Rattle.system_model.specs.declared.system.System.{System}
 use Rattle.system_model.specs.Text.{Instant, end_text, header_text, instant_text}
 use Rattle.calling_sequence.specs.declared.run_end.RunEnd.{RunEnd}
 use Rattle.calling_sequence.specs.declared.run_end.RunEnd.TheVariants as E
+use Rattle.run_model.specs.Equations.{is_bad}
+use Rattle.run_model.specs.Initial.{is_bad_initially}
+use Rattle.event_iteration.specs.declared.lost.LostValue.{LostValue}
+use Rattle.event_iteration.specs.Lost.{IsFirstLost}
 use Rattle.slot_calls.specs.declared.bad_answer.BadAnswer.{BadAnswer}
 use Rattle.rollback.specs.declared.step_end.StepEnd.{StepEnd}
 use Rattle.rollback.specs.declared.step_end.StepEnd.TheVariants.{Bad, FixedStep}
@@ -27,7 +31,7 @@ abbrev pub point_of : Plan → Place → ℕ
 point_of plan Made = plan.start
 point_of plan Configured = plan.start
 point_of plan Entered = plan.start
-point_of plan Found = plan.start
+point_of plan (Found values) = plan.start
 point_of plan (Timed timers) = plan.start
 point_of plan (Before s ticks) = s.t
 point_of plan (Read s) = s.t
@@ -58,6 +62,13 @@ pub data EndsAt (system : System) (plan : Plan) : RunEnd → Place → Type 0 wh
   -- and so is that of the one which it would be asked for next, on the way to an agreement
   AtShort : (w : Way) (component : CompId) (end : ℕ) →
       EndsAt system plan (E.FixedStep component w.s.t end) (Short w component.0 end)
+  -- the value of a source is lost on its way to an input, in Initialization Mode or in an instant, which is not put
+  LostAtFirst : (values : List (Option ℤ)) (lost : LostValue) →
+      IsFirstLost (is_bad_initially system values) system.ports values lost →
+      EndsAt system plan (E.Range lost plan.start) (Found values)
+  LostThere : (s : Spot) (lost : LostValue) →
+      IsFirstLost (is_bad s.values) system.ports s.values lost →
+      EndsAt system plan (E.Range lost s.t) (Read s)
 
 -- with this log and behind these instants a run ends so, and its end line names the point: at a place, or by the first bad answer of the part that is sent from one
 pub data Finishes (system : System) (bound : Bound) (plan : Plan) : RunEnd → ℕ → List Sent →
@@ -75,6 +86,7 @@ ends_well E.Stop = true
 ends_well (E.Asked at) = true
 ends_well (E.EventLimit at) = true
 ends_well (E.FixedStep component at end) = true
+ends_well (E.Range lost at) = true
 ends_well (E.Bad bad) = false
 ends_well E.WriteFault = false
 
@@ -91,6 +103,7 @@ kind_of_end E.Stop = K.Stop
 kind_of_end (E.Asked at) = K.Asked
 kind_of_end (E.EventLimit at) = K.Limit
 kind_of_end (E.FixedStep component at end) = K.Fixed
+kind_of_end (E.Range lost at) = K.Range
 kind_of_end (E.Bad bad) = K.Fault
 kind_of_end E.WriteFault = K.Fault
 
@@ -149,6 +162,8 @@ EndsBy system bound plan log is (E.EventLimit point) before after =
     PutsWhole system bound plan log is (E.EventLimit point) before after
 EndsBy system bound plan log is (E.FixedStep component at end) before after =
     PutsWhole system bound plan log is (E.FixedStep component at end) before after
+EndsBy system bound plan log is (E.Range lost point) before after =
+    PutsWhole system bound plan log is (E.Range lost point) before after
 EndsBy system bound plan log is (E.Bad bad) before after =
     PutsWhole system bound plan log is (E.Bad bad) before after
 EndsBy system bound plan log is E.WriteFault before after =

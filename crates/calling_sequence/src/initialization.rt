@@ -1,27 +1,29 @@
-ghost use Rattle.std.specs.Prelude.{◌≡◌, ◌≤◌, ℕ, None, OnOk, true, length, replicate};
+ghost use Rattle.std.specs.Prelude.{◌≡◌, ◌≤◌, ℕ, None, OnOk, false, true, length, replicate};
+ghost use Rattle.std.specs.List.{list_any};
 ghost use Rattle.event_iteration.specs.Initialization.{AreReads};
 ghost use Rattle.event_iteration.specs.Clocks.{no_events};
+ghost use Rattle.run_model.specs.Initial.{is_bad_initially};
 ghost use Rattle.run_model.specs.Machines.{AreFitting};
 ghost use Rattle.slot_calls.specs.Slots.{instances};
 ghost use Rattle.calling_sequence.specs.Course.{Configured, Entered, Found, Made};
-ghost use Rattle.calling_sequence.specs.Goes.{Goes, before_instant, timed};
+ghost use Rattle.calling_sequence.specs.Goes.{Crosses, Goes, before_instant, timed};
 ghost use Rattle.calling_sequence.specs.Place.{IsAt, IsInitializing, IsMade};
 ghost use Rattle.calling_sequence.specs.Ready.{AreFresh, AreTimed, Ready};
 
 use crate::parameters::set_parameters;
-use crate::{BadAnswer, Buffers, Experiment};
-use event_iteration::fix_clocks;
+use crate::{BadAnswer, Buffers, Ending, Experiment, RunEnd};
+use event_iteration::{fix_clocks, lost_initially};
 use fmu_peer::{Peer, Slot};
 use slot_calls::{Ask, each};
 
 /// Sets the bound parameters, leads each FMU through Initialization Mode, where it finds the values and asks each fixed Clock
 /// for interval and shift and each changing Clock for its shift, and takes the values away: before the first instant no port
-/// has one.
+/// has one. Where a value is lost on its way to an input, the run ends before the Clocks are asked.
 pub(crate) fn initialize<L: Peer>(
     slots: &mut [Slot<L>],
     experiment: &Experiment,
     buffers: &mut Buffers,
-) -> Result<(), BadAnswer>
+) -> Result<(), Ending>
     requires ready { Ready L.view experiment.now (λ stop step. IsMade) slots.old }
     requires fresh { AreFresh experiment.now buffers.old }
     ensures ready { OnOk result
@@ -29,9 +31,52 @@ pub(crate) fn initialize<L: Peer>(
     ensures timed { OnOk result
         (AreTimed experiment.now experiment.now.plan.start 0 true buffers.new) }
     ensures text { length buffers.new.text.items ≡ length buffers.old.text.items }
-    ensures goes { Goes experiment.now Made
+    ensures crosses { Crosses experiment.now Made
         (λ x. before_instant experiment.now.plan.start 0 buffers.new) (instances L.view slots.old)
         (instances L.view slots.new) buffers.old.instants buffers.new.instants result }
+{
+    let start = experiment.plan.start;
+    match find_values(slots, experiment, buffers) {
+        Ok(()) => {}
+        Err(bad) => {
+            return Err(Ending {
+                end: RunEnd::Bad(bad),
+                point: start,
+            });
+        }
+    }
+    if let Some(lost) = lost_initially(&experiment.system, &buffers.values) {
+        return Err(Ending {
+            end: RunEnd::Range { lost, point: start },
+            point: start,
+        });
+    }
+    match leave(slots, experiment, buffers) {
+        Ok(()) => Ok(()),
+        Err(bad) => Err(Ending {
+            end: RunEnd::Bad(bad),
+            point: start,
+        }),
+    }
+}
+
+// Sets the bound parameters, and leads each FMU into Initialization Mode, where it finds the values.
+fn find_values<L: Peer>(
+    slots: &mut [Slot<L>],
+    experiment: &Experiment,
+    buffers: &mut Buffers,
+) -> Result<(), BadAnswer>
+    requires ready { Ready L.view experiment.now (λ stop step. IsMade) slots.old }
+    requires fresh { AreFresh experiment.now buffers.old }
+    ensures ready { OnOk result (Ready L.view experiment.now
+        (λ stop step. IsInitializing experiment.now.plan.start stop) slots.new) }
+    ensures fresh { OnOk result (AreFresh experiment.now buffers.new) }
+    ensures fitting { OnOk result
+        (AreFitting experiment.now.system buffers.new.values.items) }
+    ensures text { length buffers.new.text.items ≡ length buffers.old.text.items }
+    ensures goes { Goes experiment.now Made (λ x. Found buffers.new.values.items)
+        (instances L.view slots.old) (instances L.view slots.new) buffers.old.instants
+        buffers.new.instants result }
 {
     match configure(slots, experiment) {
         Ok(()) => {}
@@ -41,10 +86,30 @@ pub(crate) fn initialize<L: Peer>(
         Ok(()) => {}
         Err(bad) => return Err(bad),
     }
-    match find(slots, experiment, buffers) {
-        Ok(()) => {}
-        Err(bad) => return Err(bad),
-    }
+    find(slots, experiment, buffers)
+}
+
+// Asks the Clocks, leads each FMU out of Initialization Mode, and takes the values away.
+fn leave<L: Peer>(
+    slots: &mut [Slot<L>],
+    experiment: &Experiment,
+    buffers: &mut Buffers,
+) -> Result<(), BadAnswer>
+    requires ready { Ready L.view experiment.now
+        (λ stop step. IsInitializing experiment.now.plan.start stop) slots.old }
+    requires fresh { AreFresh experiment.now buffers.old }
+    requires fitting { AreFitting experiment.now.system buffers.old.values.items }
+    requires kept { list_any (is_bad_initially experiment.now.system buffers.old.values.items)
+        experiment.now.system.ports ≡ false }
+    ensures ready { OnOk result
+        (Ready L.view experiment.now (IsAt experiment.now.plan.start) slots.new) }
+    ensures timed { OnOk result
+        (AreTimed experiment.now experiment.now.plan.start 0 true buffers.new) }
+    ensures text { length buffers.new.text.items ≡ length buffers.old.text.items }
+    ensures goes { Goes experiment.now (Found buffers.old.values.items)
+        (λ x. before_instant experiment.now.plan.start 0 buffers.new) (instances L.view slots.old)
+        (instances L.view slots.new) buffers.old.instants buffers.new.instants result }
+{
     match ask(slots, experiment, buffers) {
         Ok(()) => {}
         Err(bad) => return Err(bad),
@@ -93,8 +158,9 @@ fn find<L: Peer>(
     ensures fresh { AreFresh experiment.now buffers.new }
     ensures fitting { AreFitting experiment.now.system buffers.new.values.items }
     ensures text { length buffers.new.text.items ≡ length buffers.old.text.items }
-    ensures goes { Goes experiment.now Entered (λ x. Found) (instances L.view slots.old)
-        (instances L.view slots.new) buffers.old.instants buffers.new.instants result }
+    ensures goes { Goes experiment.now Entered (λ x. Found buffers.new.values.items)
+        (instances L.view slots.old) (instances L.view slots.new) buffers.old.instants
+        buffers.new.instants result }
 {
     event_iteration::initialize(
         slots,
@@ -114,14 +180,17 @@ fn ask<L: Peer>(
         (λ stop step. IsInitializing experiment.now.plan.start stop) slots.old }
     requires fresh { AreFresh experiment.now buffers.old }
     requires fitting { AreFitting experiment.now.system buffers.old.values.items }
+    requires kept { list_any (is_bad_initially experiment.now.system buffers.old.values.items)
+        experiment.now.system.ports ≡ false }
     ensures ready { OnOk result (Ready L.view experiment.now
         (λ stop step. IsInitializing experiment.now.plan.start stop) slots.new) }
     ensures timed { OnOk result
         (AreTimed experiment.now experiment.now.plan.start 0 true buffers.new) }
     ensures none { buffers.new.schedule.events ≡ no_events experiment.now.system }
     ensures text { length buffers.new.text.items ≡ length buffers.old.text.items }
-    ensures goes { Goes experiment.now Found (λ x. timed buffers.new) (instances L.view slots.old)
-        (instances L.view slots.new) buffers.old.instants buffers.new.instants result }
+    ensures goes { Goes experiment.now (Found buffers.old.values.items) (λ x. timed buffers.new)
+        (instances L.view slots.old) (instances L.view slots.new) buffers.old.instants
+        buffers.new.instants result }
 {
     fix_clocks(
         slots,

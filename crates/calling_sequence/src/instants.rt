@@ -1,4 +1,7 @@
 ghost use Rattle.std.specs.Prelude.{◌≡◌, ◌==◌, ◌<◌, ◌^◌, ◌+◌, ◌||◌, ℕ, false, OnOk, IfOk, All, length};
+ghost use Rattle.std.specs.List.{list_any};
+ghost use Rattle.run_model.specs.Equations.{is_bad};
+ghost use Rattle.run_model.specs.Plain.{HasNoChanges};
 ghost use Rattle.event_iteration.specs.Clocks.{timers_in};
 ghost use Rattle.event_iteration.specs.Intervals.{TellsTicks, is_some_armed};
 ghost use Rattle.event_iteration.specs.Questions.{AreActive, modes};
@@ -11,25 +14,28 @@ ghost use Rattle.calling_sequence.specs.Ready.{AreTimed, Ready};
 
 use crate::text::put_values;
 use crate::{BadAnswer, Break, Buffers, Ending, Experiment, RunEnd};
-use event_iteration::{Updated, ask_intervals, instant, update};
+use event_iteration::{Updated, ask_intervals, instant, lost_in_instant, update};
 use fmu_peer::{Peer, Slot};
 use sim_base::Sink;
 
 /// Takes the n-th instant at a point, up to the first answer that isn't good: it finds the values from those of the instant
-/// before, asks each countdown Clock, and each changing one that ticked, for its interval and each FMU with event mode for what
-/// follows, and puts the instant. It is told whether another follows at the point, by an Update or by a Clock that is armed for
-/// it; the event times are those that the Updates ask for.
+/// before, and where none is lost on its way to an input it asks each countdown Clock, and each changing one that ticked, for its
+/// interval and each FMU with event mode for what follows, and puts the instant. It is told whether another follows at the
+/// point, by an Update or by a Clock that is armed for it; the event times are those that the Updates ask for. `has_changes`
+/// tells whether some path of connections makes a change of values.
 pub(crate) fn take<L: Peer, O: Sink>(
     slots: &mut [Slot<L>],
     experiment: &Experiment,
     buffers: &mut Buffers,
     t: u64,
     n: u64,
+    has_changes: bool,
     out: &mut O,
 ) -> Result<Updated, Break>
     requires ready { Ready L.view experiment.now (IsAt t) slots.old }
     requires timed { AreTimed experiment.now t n (n == 0) buffers.old }
     requires below { n < experiment.now.plan.limit }
+    requires changes { has_changes ≡ false → HasNoChanges experiment.now.system }
     ensures ready { OnOk result (Ready L.view experiment.now (IsAt t) slots.new) }
     ensures settled { IfOk result (λ u. u.again ≡ false →
         Ready L.view experiment.now (IsSettled t) slots.new) }
@@ -50,6 +56,12 @@ pub(crate) fn take<L: Peer, O: Sink>(
                 point: t,
             }));
         }
+    }
+    if let Some(lost) = lost_in_instant(&experiment.system, has_changes, &buffers.values) {
+        return Err(Break::Ends(Ending {
+            end: RunEnd::Range { lost, point: t },
+            point: t,
+        }));
     }
     let is_armed = match ask(slots, experiment, buffers, t, n) {
         Ok(is_armed) => is_armed,
@@ -109,6 +121,8 @@ fn ask<L: Peer>(
         buffers.old.values.items }
     requires active { AreActive experiment.now.system buffers.old.values.items
         (modes (instances L.view slots.old)) }
+    requires kept { list_any (is_bad buffers.old.values.items) experiment.now.system.ports ≡
+        false }
     ensures ready { OnOk result (Ready L.view experiment.now (IsTaking t) slots.new) }
     ensures timed { OnOk result (AreTimed experiment.now t n false buffers.new) }
     ensures armed { IfOk result (λ armed.

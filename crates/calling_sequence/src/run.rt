@@ -11,6 +11,7 @@ use crate::instants::take;
 use crate::steps::{cross, enter_event};
 use crate::text::{conclude, put_head};
 use crate::{Break, Buffers, Ending, Experiment, RunEnd};
+use event_iteration::has_changes;
 use fmu_peer::{Peer, Slot};
 use sim_base::Sink;
 use std::thread::Threads;
@@ -22,7 +23,8 @@ use std::thread::Threads;
 /// that ticked, for its interval and each FMU with event mode for what follows, and puts the instant. Then it steps all
 /// instances until they stand at one point, at most at the next grid point, the next tick, the next event time or the stop:
 /// those with event mode go into Step Mode and behind the step into Event Mode, and the connected inputs of the others are set
-/// before it. It puts one piece for the header, one for each instant, and one for the end line, but behind a put that failed.
+/// before it. Where the value of a source is lost on its way to an input, the run ends before what follows its values: in
+/// Initialization Mode, or in an instant, which isn't put. It puts one piece for the header, one for each instant, and one for the end line, but behind a put that failed.
 /// Points and sizes of steps are counts over the plan's resolution.
 ///
 /// Each FMU counts by the plan's resolution, and the bound values are for parameters of the components. There is a slot for
@@ -65,17 +67,13 @@ fn follow<R: Threads + Sync, L: Peer, O: Sink>(
     let plan = &experiment.plan;
     match initialize(slots, experiment, buffers) {
         Ok(()) => {}
-        Err(bad) => {
-            return Err(Break::Ends(Ending {
-                end: RunEnd::Bad(bad),
-                point: plan.start,
-            }));
-        }
+        Err(ending) => return Ok(ending),
     }
+    let has_changes = has_changes(&experiment.system);
     let mut t = plan.start;
     let mut n = 0;
     'instants: loop {
-        let updated = match take(slots, experiment, buffers, t, n, out) {
+        let updated = match take(slots, experiment, buffers, t, n, has_changes, out) {
             Ok(updated) => updated,
             Err(broken) => return Err(broken),
         };

@@ -1,4 +1,5 @@
 use crate::BadAnswer;
+use event_iteration::LostValue;
 use sim_base::CompId;
 
 /// How a run ends. Points are counts over the plan's resolution.
@@ -19,6 +20,11 @@ pub enum RunEnd {
         component: CompId,
         at: u64,
         end: u64,
+    },
+    /// at a point where the value of a source is lost on its way to an input, the least of those
+    Range {
+        lost: LostValue,
+        point: u64,
     },
     /// by the first answer that isn't good
     Bad(BadAnswer),

@@ -108,6 +108,7 @@ fn kind_of_end(end: RunEnd) -> EndKind
         RunEnd::Asked { .. } => EndKind::Asked,
         RunEnd::EventLimit { .. } => EndKind::Limit,
         RunEnd::FixedStep { .. } => EndKind::Fixed,
+        RunEnd::Range { .. } => EndKind::Range,
         RunEnd::Bad(_) | RunEnd::WriteFault => EndKind::Fault,
     }
 }

@@ -123,7 +123,7 @@ abbrev limit_at : Traits → Place → Limit
 limit_at e Made = limit made_kinds 0 1
 limit_at e Configured = limit made_kinds 0 3
 limit_at e Entered = limit initial_kinds 0 1
-limit_at e Found = limit initial_kinds 0 3
+limit_at e (Found values) = limit initial_kinds 0 3
 limit_at e (Timed timers) = limit initial_kinds 0 4
 limit_at e (Before s ticks) = limit point_kinds s.t (instant_span (s.n == 0) e.events).from
 limit_at e (Read s) = limit point_kinds s.t (instant_span (s.n == 0) e.events).below
@@ -141,8 +141,8 @@ limit_at e (Stepped s asked) = limit stepped_kinds s.t 1
 abbrev limit_behind : Traits → Plan → Place → Limit
 limit_behind e plan Made = limit_at e Configured
 limit_behind e plan Configured = limit_at e Entered
-limit_behind e plan Entered = limit_at e Found
-limit_behind e plan Found = limit initial_kinds 0 4
+limit_behind e plan Entered = limit_at e (Found [])
+limit_behind e plan (Found values) = limit initial_kinds 0 4
 limit_behind e plan (Timed timers) = limit point_kinds plan.start (instant_span true e.events).from
 limit_behind e plan (Before s ticks) = limit_at e (Read s)
 limit_behind e plan (Read s) = limit_at e (Rearmed s)
@@ -324,7 +324,7 @@ module _ (system : System) (sound : IsSound system) (k : ℕ) (c : Component) (o
         let enter = C.EnterInitialization plan.start plan.stop in
         to_all (limit_at e Configured) (limit_at e Entered) calls so enter refl (differ_by (limit_at e Configured) enter refl refl) refl (NamesNone refl refl tt) tt refl
     adds Entered calls later so = λ log walks. named (limit_at e Entered) (initial_span e.events) calls (mine log) so (omega arith) (omega arith) (uses.initial _ log walks k)
-    adds Found calls later so = named (limit_at e Found) timing_span calls _ so (omega arith) (omega arith) (uses.timing k)
+    adds (Found values) calls later so = named (limit_at e (Found values)) timing_span calls _ so (omega arith) (omega arith) (uses.timing k)
     adds (Timed timers) calls later so =
         let l = limit_at e (Timed timers) in
         to_all l (limit_behind e plan (Timed timers)) calls so C.ExitInitialization refl (differ_by l C.ExitInitialization refl refl) refl (NamesNone refl refl tt) tt refl

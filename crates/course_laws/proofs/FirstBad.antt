@@ -127,7 +127,7 @@ module _ (system : System) where
         (let a = AllZip-long (λ (c : Component) (values : List BoundValue). AreParameterValues c.shape values) system.components bound.components binds in let b = shapes_len in omega (arith, a, b))
     part_placed Configured = those _ _
     part_placed Entered = tt
-    part_placed Found = timings_to_one (length ss) system.ports (λ j port at.
+    part_placed (Found values) = timings_to_one (length ss) system.ports (λ j port at.
         let placed = place_of system sound j port at in
         let w = slice_get_within system.components port.component.0 placed.component placed.is.of in
         let e = shapes_len in

@@ -13,5 +13,5 @@ mod UpdateTables
 mod UpdatesNeeded
 mod Sorts
 mod UpdatesAlong
-mod Unsaved
+pub mod Unsaved
 mod StatesLeft

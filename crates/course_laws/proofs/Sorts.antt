@@ -136,7 +136,7 @@ module _ (system : System) (sound : IsSound system) (bound : Bound) (plan : Plan
   sorts_are Made = λ i. name_ports setting_span _ (binding_new system bound i binds)
   sorts_are Configured = those system (IsOf (Only K.EnterInitialization)) _ _ (λ s. refl)
   sorts_are Entered = walk_sort _ _ _ initial_span uses.initial
-  sorts_are Found = λ i. name_ports _ _ (uses.timing i)
+  sorts_are (Found values) = λ i. name_ports _ _ (uses.timing i)
   sorts_are (Timed timers) = those system (IsOf (Only K.ExitInitialization)) _ _ (λ s. refl)
   sorts_are (Before s ticks) = walk_sort _ _ _ (instant_span (s.n == 0)) (uses.instant ticks (s.n == 0))
   sorts_are (Read s) = walk_sort _ _ _ interval_span (uses.interval s.values)

@@ -56,7 +56,7 @@ use Rattle.course_laws.proofs.Goods.{AreInOrder, alone_behind, good_part, in_ord
 use Rattle.course_laws.proofs.LastSteps.{IsGoodRound, IsLast, all_first_by, begins_all, each_behind, ends_from, ends_same, none_both, rounds_saved, stand_behind, tracks}
 use Rattle.course_laws.proofs.OwnCalls.{own_calls, own_there}
 use Rattle.course_laws.proofs.Sorts.{IsOf, Only, Rounds, Sort, Uses, does_all, falls_all, sort_at, sorts_are, those}
-use Rattle.course_laws.proofs.Unsaved.{comes_stateless}
+use Rattle.course_laws.proofs.Unsaved.{comes_stateless, never_held}
 use Rattle.course_laws.proofs.UpdatesNeeded.{Throughout}
 
 -- ---- other calls leave the state and the steps
@@ -729,16 +729,6 @@ module _ (system : System) (sound : IsSound system) (bound : Bound) (plan : Plan
         }))
 
 -- ---- where one alone might return early
-
-unsaved_call : (shape : Shape) (c : Call) → IsStateless c → (r : Result Reply PeerFault) → saved_by shape c r false ≡ false
-unsaved_call shape C.Save is r = absurd is
-unsaved_call shape C.Free is r = absurd is
-unsaved_call shape c is r = refl
-
-never_held : (shape : Shape) (es : List Exchange) → All IsStateless (calls_in es) → saved_after shape false es ≡ false
-never_held shape [] all = refl
-never_held shape (e ∷ es) all =
-    ap (λ (b : Bool). saved_after shape b es) (unsaved_call shape e.call (All-head IsStateless e.call (calls_in es) all) e.result) ∙ never_held shape es (All-tail IsStateless e.call (calls_in es) all)
 
 leaves_none : (system : System) (log : List Sent) → Throughout system IsStateless log → (talks : List Talk) (k : ℕ) (d : Shape) → LeavesState talks (get_or (shapes_of system) k d) (part k log)
 leaves_none system log all talks k d = record {

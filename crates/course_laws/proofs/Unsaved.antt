@@ -1,14 +1,18 @@
 -- Where at most one FMU might return early: no call of a run saves a state, goes back to one or frees one.
-use Rattle.std.proofs.Common.{◌≡◌, ℕ, ◌+◌, ◌<◌, ◌≤◌, ℤ, Bool, true, false, List, [], ◌∷◌, ◌++◌, inl, inr, nat_lt, Option, refl, sym, ap, ◌∙◌, subst, arith, get_or}
+use Rattle.std.proofs.Common.{◌≡◌, ℕ, ◌+◌, ◌<◌, ◌≤◌, ℤ, Bool, true, false, List, [], ◌∷◌, ◌++◌, inl, inr, nat_lt, Option, Result, refl, sym, ap, ◌∙◌, subst, arith, get_or}
 use Rattle.std.specs.Prelude.{All, if◌then◌else◌}
 use Rattle.std.proofs.lemmas.Bool.Decides.{nat_tests}
-use Rattle.std.proofs.lemmas.List.Elements.{All-append, All-nil, All-weaker}
+use Rattle.std.proofs.lemmas.List.Elements.{All-append, All-head, All-nil, All-tail, All-weaker}
 use Rattle.value_types.specs.declared.shape.Shape.{Shape}
 use Rattle.fmi_calls.specs.declared.call.Call.{Call}
 use Rattle.fmi_calls.specs.declared.call.Call.TheVariants as C
 use Rattle.fmi_calls.specs.declared.call.Kind.{Kind}
 use Rattle.fmi_calls.specs.declared.call.Kind.TheVariants as K
+use Rattle.fmi_calls.specs.declared.call.Reply.{Reply}
+use Rattle.fmu_peer.specs.declared.peer.Exchange.{Exchange}
+use Rattle.fmu_peer.specs.declared.peer.PeerFault.{PeerFault}
 use Rattle.fmu_peer.specs.Mode.{instantiate_of}
+use Rattle.fmu_peer.specs.Talk.{calls_in}
 use Rattle.system_model.specs.declared.bound.Bound.{Bound}
 use Rattle.system_model.specs.declared.plan.Plan.{Plan}
 use Rattle.system_model.specs.declared.system.System.{System}
@@ -18,6 +22,7 @@ use Rattle.system_model.specs.Sound.{IsSound}
 use Rattle.system_model.specs.Text.{Instant}
 use Rattle.slot_calls.specs.declared.bad_answer.BadAnswer.{BadAnswer}
 use Rattle.slot_calls.specs.Log.{Asking, Sent, askings}
+use Rattle.slot_calls.specs.SavedStates.{saved_after, saved_by}
 use Rattle.slot_calls.specs.Stage.{IsAnswered, everyone, shapes_of, to_those_from}
 use Rattle.step_agreement.specs.Agreement.{Fails, Outcome}
 use Rattle.step_agreement.specs.Saving.{is_saved}
@@ -34,6 +39,19 @@ use Rattle.course_laws.proofs.LastSteps.{back_from}
 use Rattle.course_laws.proofs.OwnCalls.{own_calls, own_log}
 use Rattle.course_laws.proofs.Sorts.{IsOf, IsThroughout, Only, Rounds, Sort, Uses, agreement_so, does_all, falls_all, own_sent, sort_at, sorts_are, those}
 use Rattle.course_laws.proofs.UpdatesNeeded.{Throughout}
+
+-- ---- what they leave
+
+-- such a call leaves no state where none is saved
+unsaved_call : (shape : Shape) (c : Call) → IsStateless c → (r : Result Reply PeerFault) → saved_by shape c r false ≡ false
+unsaved_call shape C.Save is r = absurd is
+unsaved_call shape C.Free is r = absurd is
+unsaved_call shape c is r = refl
+
+pub never_held : (shape : Shape) (es : List Exchange) → All IsStateless (calls_in es) → saved_after shape false es ≡ false
+never_held shape [] all = refl
+never_held shape (e ∷ es) all =
+    ap (λ (b : Bool). saved_after shape b es) (unsaved_call shape e.call (All-head IsStateless e.call (calls_in es) all) e.result) ∙ never_held shape es (All-tail IsStateless e.call (calls_in es) all)
 
 -- ---- by the sort of a call
 

@@ -122,10 +122,10 @@ module _ (system : System) (sound : IsSound system) (bound : Bound) (plan : Plan
   counting i c of = all_at (λ (x : Component). x.shape.resolution ≡ plan.resolution) system.components i c counts of
 
   timers_on : (p q : Place) (values : List (Option ℤ)) (more : List Sent) → Does system (part_at system bound plan p) values more → LeadsTo system plan p values more q → TimersAt p → TimersAt q
-  timers_on _ _ _ _ does (Times values log timers is) at = subst (AreArmable system) (sym is) (first_armable system plan.resolution plan.start log)
+  timers_on _ _ _ _ does (Times found values log timers kept is) at = subst (AreArmable system) (sym is) (first_armable system plan.resolution plan.start log)
   timers_on _ _ _ _ does (Exits timers values log s ticks is begins) at = (subst (λ (z : Spot). AreArmable system z.timers) (sym is) at, begins.are_ticks)
   timers_on _ _ _ _ does (Reads s ticks values log places) at = (at.0, instant_takes system sound plan.start s.t s.n s.timers ticks s.values values log at.1 does)
-  timers_on _ _ _ _ does (Rearming s values next log rearms) at = rearmed_armable system sound plan.resolution s.t s.values s.timers next log rearms at.0
+  timers_on _ _ _ _ does (Rearming s values next log kept rearms) at = rearmed_armable system sound plan.resolution s.t s.values s.timers next log rearms at.0
   timers_on _ _ _ _ does (Again s values log ticks below begins) at = (at, begins.are_ticks)
   timers_on _ _ _ _ does (Arrives s values log ticks begins) at = (at, begins.are_ticks)
   timers_on _ _ _ _ does leads at = at
@@ -162,12 +162,12 @@ module _ (system : System) (sound : IsSound system) (bound : Bound) (plan : Plan
     on : (p q : Place) (values : List (Option ℤ)) (more : List Sent) → TimersAt p → IsAt p front → Does system (part_at system bound plan p) values more → Throughout system (calls_from p) more → LeadsTo system plan p values more q → IsAt q (front ++ more)
     on _ _ _ _ timers a does all (Binds values log) = onward Made Configured log all a a.besides
     on _ _ _ _ timers a does all (Enters values log) = onward Configured Entered log all a a.besides
-    on _ _ _ _ timers a does all (Finds values log) = onward Entered Found log all a a.besides
-    on _ _ _ _ timers a does all (Times values log told is) = onward Found (Timed told) log all a a.besides
+    on _ _ _ _ timers a does all (Finds values log) = onward Entered (Found values) log all a a.besides
+    on _ _ _ _ timers a does all (Times found values log told kept is) = onward (Found found) (Timed told) log all a a.besides
     on _ _ _ _ timers a does all (Exits told values log s ticks is begins) =
         record { m = a.m; flag = false; talks = calm system front log a.m (subst (Talks system front a.m) a.besides a.talks) all; besides = λ wrong. absurd (cc) }
     on _ _ _ _ timers a does all (Reads s ticks values log places) = onward (Before s ticks) (Read (record s { values = values })) log all a (λ is. asked_on (Before s ticks) log all a (a.besides is))
-    on _ _ _ _ timers a does all (Rearming s values next log rearms) = onward (Read s) (Rearmed (record s { timers = next })) log all a (
+    on _ _ _ _ timers a does all (Rearming s values next log kept rearms) = onward (Read s) (Rearmed (record s { timers = next })) log all a (
       λ is. asked_on (Read s) log all a (a.besides is),
       λ some. let x = rearmed_armed system sound plan.resolution s.t s.values s.timers next log rearms timers.0 above counting timers.1 some in arm system front log x.component x.event all x.arms,
     )

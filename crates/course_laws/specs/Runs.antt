@@ -13,13 +13,15 @@ use Rattle.calling_sequence.specs.declared.run_end.RunEnd.{RunEnd}
 use Rattle.calling_sequence.specs.declared.run_end.RunEnd.TheVariants as E
 use Rattle.calling_sequence.specs.Plans.{CountsBy}
 use Rattle.calling_sequence.specs.Calls.{making}
-use Rattle.calling_sequence.specs.Course.{Course, Made, Place, Seen, Short, Stepped, part_at}
+use Rattle.calling_sequence.specs.Course.{Course, Found, Made, Place, Read, Seen, Short, Stepped, part_at}
 use Rattle.calling_sequence.specs.Ends.{EndsBy}
 use Rattle.calling_sequence.specs.Parts.{Falls}
 
--- where a run may stop without a bad answer: before its header or behind it, behind an instant, behind a step, and before a size on the way to an agreement that a component doesn't take
+-- where a run may stop without a bad answer: before its header or behind it, where the values of Initialization Mode or of an instant are found and one is lost on its way, behind an instant, behind a step, and before a size on the way to an agreement that a component doesn't take
 abbrev pub IsHalt : Place → Type 0
 IsHalt Made = Unit {0}
+IsHalt (Found values) = Unit {0}
+IsHalt (Read s) = Unit {0}
 IsHalt (Seen s again asked) = Unit {0}
 IsHalt (Stepped s asked) = Unit {0}
 IsHalt (Short w component end) = Unit {0}
@@ -46,6 +48,7 @@ TellsEnd E.Stop bad = bad ≡ None
 TellsEnd (E.Asked point) bad = bad ≡ None
 TellsEnd (E.EventLimit point) bad = bad ≡ None
 TellsEnd (E.FixedStep component at end) bad = bad ≡ None
+TellsEnd (E.Range lost at) bad = bad ≡ None
 TellsEnd (E.Bad b) bad = bad ≡ Some b
 TellsEnd E.WriteFault bad = Unit {0}
 

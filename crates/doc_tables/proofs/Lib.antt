@@ -3,3 +3,4 @@ mod TableLemmas
 mod ScopeLemmas
 mod ViolationLemmas
 mod AnswerLemmas
+mod LengthLemmas

@@ -67,6 +67,7 @@ flattening_number f.OtherClass = 42
 flattening_number f.EndTwice = 43
 flattening_number f.TooWide = 44
 flattening_number f.FedClock = 45
+flattening_number f.OtherChange = 58
 
 -- of sets of parameter values and of their mappings (SSP 1.0: SSV and SSM)
 abbrev pub parameter_number : ParameterRule → ℕ

@@ -14,7 +14,7 @@ pub enum Rule {
     System(SystemRule),
     /// 39 and 59: a rule of documents that stand in one another, at an element
     Nesting(NestingRule),
-    /// 40 to 45: a rule of connectors and connections together with the variables that they name, at an element
+    /// 40 to 45 and 58: a rule of connectors and connections together with the variables that they name, at an element
     Flattening(FlatteningRule),
     /// 46: ports need each other in a loop, which is told with it
     Loop,
@@ -95,7 +95,7 @@ pub enum SystemRule {
     ModelExchange,
     /// 35: something required is absent, or a connector has another kind or the name of one before it
     Incomplete,
-    /// 36: a connection has a transformation
+    /// 36: a transformation of a connection doesn't read, or maps enumerations
     Transformation,
     /// 37: an end of a connection names no connector
     NoEnd,
@@ -139,10 +139,12 @@ pub enum FlatteningRule {
     OtherClass,
     /// 43: a connection ends where one before it does
     EndTwice,
-    /// 44: a path of connections leads to an input that can't hold each value of the output
+    /// 44: a path of connections without transformations leads to an input that can't hold each value of the output
     TooWide,
     /// 45: a path of connections leads to a time-based Clock
     FedClock,
+    /// 58: a transformation stands on a path to an input of another class
+    OtherChange,
 }
 
 /// The rules of sets of parameter values and of their mappings, in the order of their numbers. Those from 52 on are also
@@ -260,6 +262,7 @@ impl FlatteningRule {
             FlatteningRule::EndTwice => 43,
             FlatteningRule::TooWide => 44,
             FlatteningRule::FedClock => 45,
+            FlatteningRule::OtherChange => 58,
         }
     }
 }

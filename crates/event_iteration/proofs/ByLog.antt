@@ -31,7 +31,7 @@ use Rattle.event_iteration.proofs.Finding.{state_is, values_are}
 use Rattle.event_iteration.proofs.FindingInInstant as T
 use Rattle.event_iteration.proofs.FindingInInstant.{solves, states_are}
 pub use Rattle.event_iteration.proofs.Fmus.{each_many, each_same, fmu_on, got, part_all}
-pub use Rattle.event_iteration.proofs.Permits.{fed_fits, shape_of_component, value_type}
+pub use Rattle.event_iteration.proofs.Permits.{clock_fed_fits, shape_of_component, value_type}
 pub use Rattle.event_iteration.proofs.Setting.{asked_before_step, in_order, port_number}
 pub use Rattle.event_iteration.proofs.Stages.{AreAll, IsRead, all_on, configured_all, each_each, fmu_of, initialized_all, initializing_all, made_all, reads_part, reads_stay, replies_first, replies_then, stage_any, stage_states, stage_well, states_all, states_on, updated_all, written_all}
 pub use Rattle.event_iteration.proofs.Timing.{IsAsked, IsQuestionOf, IsTimingOf, asked_interval, first_timers_are, fixed_read, intervals_read, next_timers_are, timings_are, timings_read}

@@ -26,7 +26,7 @@ use Rattle.run_model.specs.Equations.{fed, shown, value_in}
 use Rattle.run_model.specs.Initial.{SolvesInitially, initial_value, initialized, initializing, is_read}
 use Rattle.run_model.specs.Machines.{AreMachines}
 use Rattle.run_model.specs.Walk.{only_at, write_if}
-use Rattle.run_model.proofs.CallerLemmas.{both, written_at-is, none_outside, unclocked_at-is, written_none, solvable_initially, all_at_last_initially, keeps_beside, looks_initially, nothing_at_first, writes_at_port, none_in, push_cases}
+use Rattle.run_model.proofs.CallerLemmas.{both, fed_same, written_at-is, none_outside, unclocked_at-is, written_none, solvable_initially, all_at_last_initially, keeps_beside, looks_initially, nothing_at_first, writes_at_port, none_in, push_cases}
 use Rattle.slot_calls.specs.Log.{Sent, Told, part}
 use Rattle.slot_calls.specs.Replies.{AreReplies, RepliesBy, state_by}
 use Rattle.slot_calls.specs.Stage.{shapes_of}
@@ -47,10 +47,10 @@ if_same true x y h = h refl
 if_same false x y h = refl
 
 module _ (system : System) (p : ℕ) (port : Port) (V W : List (Option ℤ)) (is : slice_get system.ports p ≡ Some port) (alike : (q : ℕ) → NeedsInitially system p q → value V q ≡ value W q) where
-  fed_alike : (feed : _) → port.role ≡ Input (Some feed) → is_set_from_feed system.ports port feed ≡ true → fed feed V ≡ fed feed W
+  fed_alike : (feed : _) → port.role ≡ Input (Some feed) → is_set_from_feed system.ports port feed ≡ true → fed port.kind feed V ≡ fed port.kind feed W
   fed_alike feed same set =
       let parts = both (is_unclocked port) (is_unclocked_at system.ports feed.from.0) set in
-      alike feed.from.0 (InitiallyByFeed (unclocked_at-is system.ports p port is ∙ parts.0) parts.1 port is (ap source_of same))
+      fed_same port.kind feed V W (alike feed.from.0 (InitiallyByFeed (unclocked_at-is system.ports p port is ∙ parts.0) parts.1 port is (ap source_of same)))
 
   asks_alike : (role : Role) → port.role ≡ role → (read : Bool) → asks_initially role system.ports read port V ≡ asks_initially role system.ports read port W
   asks_alike (Input (Some feed)) same read =
@@ -93,8 +93,8 @@ module _ (r : Run) (sound : IsSound r.system) (machines : AreMachines r) (W : Li
     call = (initially r.system).asks p port turn.component values
 
     -- the source of an input that is set has its value
-    fed_same : (feed : _) → port.role ≡ Input (Some feed) → is_set_from_feed r.system.ports port feed ≡ true → fed feed values ≡ fed feed W
-    fed_same feed same set = fed_alike r.system p port values W turn.is (λ q n. was.taken_values q (here.needed q n)) feed same set
+    fed_here : (feed : _) → port.role ≡ Input (Some feed) → is_set_from_feed r.system.ports port feed ≡ true → fed port.kind feed values ≡ fed port.kind feed W
+    fed_here feed same set = fed_alike r.system p port values W turn.is (λ q n. was.taken_values q (here.needed q n)) feed same set
 
     equation : (role : Role) → port.role ≡ role → value W p ≡ initial_value role r W p port
     equation role same = solves.equations p port turn.is ∙ ap (λ x. initial_value x r W p port) same
@@ -124,7 +124,7 @@ module _ (r : Run) (sound : IsSound r.system) (machines : AreMachines r) (W : Li
 
     -- the value that the port takes is the solution's
     value_here : (role : Role) → port.role ≡ role → takes_initially role r.system.ports port values reply ≡ initial_value role r W p port
-    value_here (Input (Some feed)) same = if_same (is_set_from_feed r.system.ports port feed) _ _ (fed_same feed same)
+    value_here (Input (Some feed)) same = if_same (is_set_from_feed r.system.ports port feed) _ _ (fed_here feed same)
     value_here Output same = by (is_read r.system.ports p) refl
       where
         by : (b : Bool) → is_read r.system.ports p ≡ b →
@@ -142,14 +142,14 @@ module _ (r : Run) (sound : IsSound r.system) (machines : AreMachines r) (W : Li
 
     -- and its call writes what is written at it
     sets_here : (feed : _) → port.role ≡ Input (Some feed) → (b : Bool) → is_set_from_feed r.system.ports port feed ≡ b → (m : Machine) (x : MachineState) →
-        after_if m x (if b then option_map (λ v. C.Set port.kind port.reference v) (fed feed values) else None) ≡ write_if m port.reference x (written_by (Input (Some feed)) port W (value W p))
+        after_if m x (if b then option_map (λ v. C.Set port.kind port.reference v) (fed port.kind feed values) else None) ≡ write_if m port.reference x (written_by (Input (Some feed)) port W (value W p))
     sets_here feed same true set m x =
         let present = present_unclocked port W (both (is_unclocked port) (is_unclocked_at r.system.ports feed.from.0) set).0 in
-        let value_is : value W p ≡ fed feed W = equation (Input (Some feed)) same ∙ ap (λ b. if b then fed feed W else None) set in
-        ap (λ o. after_if m x (option_map (λ v. C.Set port.kind port.reference v) o)) (fed_same feed same set ∙ sym value_is)
+        let value_is : value W p ≡ fed port.kind feed W = equation (Input (Some feed)) same ∙ ap (λ b. if b then fed port.kind feed W else None) set in
+        ap (λ o. after_if m x (option_map (λ v. C.Set port.kind port.reference v) o)) (fed_here feed same set ∙ sym value_is)
         ∙ set_writes m x port (value W p) ∙ sym (ap (λ b. write_if m port.reference x (if b then value W p else None)) present)
     sets_here feed same false set m x =
-        let none : value W p ≡ None = equation (Input (Some feed)) same ∙ ap (λ b. if b then fed feed W else None) set in
+        let none : value W p ≡ None = equation (Input (Some feed)) same ∙ ap (λ b. if b then fed port.kind feed W else None) set in
         sym (ap (write_if m port.reference x) (ap (written_by (Input (Some feed)) port W) none ∙ written_none (Input (Some feed)) port W))
 
     nothing_writes : (role : Role) → port.role ≡ role → initial_value role r W p port ≡ None → (m : Machine) (x : MachineState) → x ≡ write_if m port.reference x (written_by role port W (value W p))

@@ -24,12 +24,12 @@ use Rattle.system_model.proofs.CallerLemmas.{true_false}
 use Rattle.run_model.specs.Run.{IsFmu, Run, Situation, at_fmu}
 use Rattle.system_model.specs.Values.{value, is_active, is_present}
 use Rattle.run_model.specs.AfterInstant.{written}
-use Rattle.run_model.specs.Equations.{IsTickValue, Solves, SolvesAt, fed, output_value, shown, ticking, timer_of, value_in}
+use Rattle.run_model.specs.Equations.{IsTickValue, Solves, SolvesAt, fed, source_value, output_value, shown, ticking, timer_of, value_in}
 use Rattle.run_model.specs.Inputs.{state_with, state_written, written_at_port, written_by}
 use Rattle.run_model.specs.Machines.{AreMachines, IsSituation}
 use Rattle.run_model.specs.Walk.{only_at, write_if}
 use Rattle.run_model.specs.Timers.{IsDue}
-use Rattle.run_model.proofs.CallerLemmas.{present_alike, written_at-is, decided, all_at_last, keeps_beside, looks_in_midst, nothing_at_first, writes_at_port, solvable, none_in, push_cases}
+use Rattle.run_model.proofs.CallerLemmas.{fed_same, present_alike, written_at-is, decided, all_at_last, keeps_beside, looks_in_midst, nothing_at_first, writes_at_port, solvable, none_in, push_cases}
 use Rattle.slot_calls.specs.Log.{Sent, Told, part}
 use Rattle.slot_calls.specs.Replies.{AreReplies, RepliesBy, state_by, states_by}
 use Rattle.slot_calls.specs.Stage.{IsGoodOf, shapes_of}
@@ -90,8 +90,11 @@ module _ (r : Run) (sound : IsSound r.system) (machines : AreMachines r) (s : Si
       mine = fmu_of r s.states (states_all r machines s situation) port.component.0 turn.component turn.of
 
       -- the source of an input has its value
-      fed_same : (feed : Feed) → source_of port.role ≡ Some feed.from.0 → fed feed values ≡ fed feed W
-      fed_same feed from = was.taken_values feed.from.0 (here.needed feed.from.0 (ByFeed port turn.is from))
+      source_same : (feed : Feed) → source_of port.role ≡ Some feed.from.0 → source_value feed values ≡ source_value feed W
+      source_same feed from = was.taken_values feed.from.0 (here.needed feed.from.0 (ByFeed port turn.is from))
+
+      fed_alike : (feed : Feed) → source_of port.role ≡ Some feed.from.0 → fed port.kind feed values ≡ fed port.kind feed W
+      fed_alike feed from = fed_same port.kind feed values W (source_same feed from)
 
       -- it is present by the solution where it is by the values so far
       present_same : is_present port values ≡ is_present port W
@@ -189,12 +192,12 @@ module _ (r : Run) (sound : IsSound r.system) (machines : AreMachines r) (s : Si
       value_here : (role : Role) → port.role ≡ role → takes_in_instant role port (ticks p) values (value values p) reply ≡ value W p
       value_here (Input None) same = sym (equation (Input None) same)
       value_here (Input (Some feed)) same =
-          ap (λ b. if b then fed feed values else value values p) present_same
-          ∙ ap₂ (λ (x y : Option ℤ). if is_present port W then x else y) (fed_same feed (ap source_of same)) last_same
+          ap (λ b. if b then fed port.kind feed values else value values p) present_same
+          ∙ ap₂ (λ (x y : Option ℤ). if is_present port W then x else y) (fed_alike feed (ap source_of same)) last_same
           ∙ sym (equation (Input (Some feed)) same)
       value_here Output same = output_here same ∙ sym (equation Output same)
       value_here (ClockInput None) same = sym (equation (ClockInput None) same)
-      value_here (ClockInput (Some feed)) same = fed_same feed (ap source_of same) ∙ sym (equation (ClockInput (Some feed)) same)
+      value_here (ClockInput (Some feed)) same = source_same feed (ap source_of same) ∙ sym (equation (ClockInput (Some feed)) same)
       value_here ClockOutput same = clock_here same ∙ sym (equation ClockOutput same)
       value_here (TimeClock timing) same = time_here timing same
 
@@ -203,12 +206,12 @@ module _ (r : Run) (sound : IsSound r.system) (machines : AreMachines r) (s : Si
 
       -- with event mode its call writes what is written at it
       sets_here : (feed : Feed) → port.role ≡ Input (Some feed) → (present : Bool) → is_present port W ≡ present → (m : Machine) (x : MachineState) →
-          after_if m x (if present then option_map (λ v. C.Set port.kind port.reference v) (fed feed values) else None) ≡ write_if m port.reference x (if present then value W p else None)
+          after_if m x (if present then option_map (λ v. C.Set port.kind port.reference v) (fed port.kind feed values) else None) ≡ write_if m port.reference x (if present then value W p else None)
       sets_here feed same true there m x =
           ap (λ o. after_if m x (option_map (λ v. C.Set port.kind port.reference v) o)) (sym value_fed) ∙ set_writes m x port (value W p)
         where
-          value_fed : value W p ≡ fed feed values
-          value_fed = equation (Input (Some feed)) same ∙ ap (λ b. if b then fed feed W else value s.before p) there ∙ sym (fed_same feed (ap source_of same))
+          value_fed : value W p ≡ fed port.kind feed values
+          value_fed = equation (Input (Some feed)) same ∙ ap (λ b. if b then fed port.kind feed W else value s.before p) there ∙ sym (fed_alike feed (ap source_of same))
       sets_here feed same false there m x = refl
 
       tick_writes : (b : Bool) (m : Machine) (x : MachineState) → after_if m x (if b then Some (C.SetClock port.reference) else None) ≡ write_if m port.reference x (if b then Some (pos 1) else None)
@@ -232,7 +235,7 @@ module _ (r : Run) (sound : IsSound r.system) (machines : AreMachines r) (s : Si
       call_writes (Input None) same true e m x = refl
       call_writes (Input None) same false e m x = refl
       call_writes (Input (Some feed)) same true e m x =
-          ap (λ c. after_if m x (if c then option_map (λ v. C.Set port.kind port.reference v) (fed feed values) else None)) present_same ∙ sets_here feed same (is_present port W) refl m x
+          ap (λ c. after_if m x (if c then option_map (λ v. C.Set port.kind port.reference v) (fed port.kind feed values) else None)) present_same ∙ sets_here feed same (is_present port W) refl m x
       call_writes (Input (Some feed)) same false e m x = refl
       call_writes Output same true e m x = get_stays m x port (is_present port values)
       call_writes Output same false e m x = get_stays m x port first
@@ -240,7 +243,7 @@ module _ (r : Run) (sound : IsSound r.system) (machines : AreMachines r) (s : Si
           clock_writes (ap is_clock_role same) b e m x x _ (ap (λ o. write_if m port.reference x (if is_active o then Some (pos 1) else None)) (sym (equation (ClockInput None) same)))
       call_writes (ClockInput (Some feed)) same b e m x =
           clock_writes (ap is_clock_role same) b e m x _ _
-          (sets_clock (is_active (fed feed values)) (ap is_active (fed_same feed (ap source_of same) ∙ sym (equation (ClockInput (Some feed)) same))) m x)
+          (sets_clock (is_active (source_value feed values)) (ap is_active (source_same feed (ap source_of same) ∙ sym (equation (ClockInput (Some feed)) same))) m x)
       call_writes ClockOutput same b e m x = clock_writes (ap is_clock_role same) b e m x x None refl
       call_writes (TimeClock timing) same b e m x =
           clock_writes (ap is_clock_role same) b e m x _ _ (sets_clock (ticks p) (sym (is_ticking (ticks p)) ∙ ap is_active (time_here timing same)) m x)

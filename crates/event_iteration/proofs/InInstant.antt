@@ -41,9 +41,9 @@ use Rattle.system_model.specs.Ports.{is_clock_role, is_output_role, numbers, sou
 use Rattle.system_model.specs.Sound.{IsSound}
 use Rattle.system_model.proofs.CallerLemmas.{all_by_place, at_contains, true_false, clock_at, clock_type_of, events_of, is_input_of, is_output_of, kind_of_clock, place_of}
 use Rattle.system_model.specs.Values.{value, is_active, is_present}
-use Rattle.run_model.specs.Equations.{fed, value_in}
+use Rattle.run_model.specs.Equations.{fed, source_value, value_in}
 use Rattle.run_model.specs.Machines.{AreFitting}
-use Rattle.run_model.proofs.CallerLemmas.{present_alike, reply_fits, none_in, push_cases}
+use Rattle.run_model.proofs.CallerLemmas.{fed_fits, fed_same, present_alike, reply_fits, none_in, push_cases}
 use Rattle.slot_calls.specs.Log.{Sent, Told, part}
 use Rattle.slot_calls.specs.Stage.{shapes, shapes_of}
 use Rattle.slot_calls.proofs.CallerLemmas.{part_append}
@@ -53,7 +53,7 @@ use Rattle.event_iteration.specs.Turns.{IsPaired, MayAsk, MayTurn, Turn, Walked}
 use Rattle.event_iteration.proofs.Activity.{active_by, active_by-append, active_keeps, any_from, any_some, length-active, marked_here, talks_active}
 use Rattle.event_iteration.proofs.Fmus.{exchanges_of, got, part_own_of}
 use Rattle.event_iteration.proofs.Marks.{unmarked}
-use Rattle.event_iteration.proofs.Permits.{at_under, fed_fits, input_there, no_clocks_there, placed, readable, under, writable}
+use Rattle.event_iteration.proofs.Permits.{at_under, clock_fed_fits, input_there, no_clocks_there, placed, readable, under, writable}
 use Rattle.event_iteration.proofs.Turning.{AsksBy, Gets, IsCallOf, Sets, TakesFitting, Ticks, Touches, all_was, behind, calls_of, fits_along, quiet_behind, read_alone, shape_here, shape_was, talks_here}
 use Rattle.event_iteration.proofs.Walking.{AreAbout, Here, along, by_number, here_at, next_beside, next_here}
 
@@ -63,21 +63,24 @@ module _ (system : System) (p : ℕ) (port : Port) (V W : List (Option ℤ)) (is
   present_same : is_present port V ≡ is_present port W
   present_same = present_alike system p port V W is alike
 
-  fed_same : (feed : Feed) → source_of port.role ≡ Some feed.from.0 → fed feed V ≡ fed feed W
-  fed_same feed from = alike feed.from.0 (ByFeed port is from)
+  source_same : (feed : Feed) → source_of port.role ≡ Some feed.from.0 → source_value feed V ≡ source_value feed W
+  source_same feed from = alike feed.from.0 (ByFeed port is from)
+
+  fed_alike : (feed : Feed) → source_of port.role ≡ Some feed.from.0 → fed port.kind feed V ≡ fed port.kind feed W
+  fed_alike feed from = fed_same port.kind feed V W (source_same feed from)
 
   asks_alike : (role : Role) → port.role ≡ role → (events first ticks : Bool) → asks_in_instant role port events first ticks V ≡ asks_in_instant role port events first ticks W
   asks_alike (Input (Some feed)) same events first ticks =
-      ap (λ b. if events && b then option_map (λ x. C.Set port.kind port.reference x) (fed feed V) else None) present_same
-      ∙ ap (λ o. if events && is_present port W then option_map (λ x. C.Set port.kind port.reference x) o else None) (fed_same feed (ap source_of same))
+      ap (λ b. if events && b then option_map (λ x. C.Set port.kind port.reference x) (fed port.kind feed V) else None) present_same
+      ∙ ap (λ o. if events && is_present port W then option_map (λ x. C.Set port.kind port.reference x) o else None) (fed_alike feed (ap source_of same))
   asks_alike Output same events first ticks = ap (λ b. if (if events then b else first) then Some (C.Get port.kind port.reference) else None) present_same
-  asks_alike (ClockInput (Some feed)) same events first ticks = ap (λ o. if is_active o then Some (C.SetClock port.reference) else None) (fed_same feed (ap source_of same))
+  asks_alike (ClockInput (Some feed)) same events first ticks = ap (λ o. if is_active o then Some (C.SetClock port.reference) else None) (source_same feed (ap source_of same))
   asks_alike role same events first ticks = refl
 
   takes_alike : (role : Role) → port.role ≡ role → (ticks : Bool) (last : Option ℤ) (reply : Option Reply) → takes_in_instant role port ticks V last reply ≡ takes_in_instant role port ticks W last reply
   takes_alike (Input (Some feed)) same ticks last reply =
-      ap (λ b. if b then fed feed V else last) present_same ∙ ap (λ o. if is_present port W then o else last) (fed_same feed (ap source_of same))
-  takes_alike (ClockInput (Some feed)) same ticks last reply = fed_same feed (ap source_of same)
+      ap (λ b. if b then fed port.kind feed V else last) present_same ∙ ap (λ o. if is_present port W then o else last) (fed_alike feed (ap source_of same))
+  takes_alike (ClockInput (Some feed)) same ticks last reply = source_same feed (ap source_of same)
   takes_alike role same ticks last reply = refl
 
 pub about_instant : (system : System) (ticks : ℕ → Bool) (is_first : Bool) → AreAbout (Needs system) system (in_instant ticks is_first)
@@ -91,9 +94,9 @@ about_instant system ticks is_first = record {
 -- an output is read, with event mode where it is present; a connected input of an FMU with event mode that is present is set to its source's value; an output Clock is asked; and an input Clock is set where its source is active or it ticks
 pub data IsAskedInInstant (events : Bool) (port : Port) (values : List (Option ℤ)) (call : Call) : Type 0 where
   ReadsOutput : port.role ≡ Output → (events ≡ true → is_present port values ≡ true) → Gets port call → IsAskedInInstant events port values call
-  SetsInput : (feed : Feed) (x : ℤ) → port.role ≡ Input (Some feed) → events ≡ true → is_present port values ≡ true → fed feed values ≡ Some x → call ≡ C.Set port.kind port.reference x → IsAskedInInstant events port values call
+  SetsInput : (feed : Feed) (x : ℤ) → port.role ≡ Input (Some feed) → events ≡ true → is_present port values ≡ true → fed port.kind feed values ≡ Some x → call ≡ C.Set port.kind port.reference x → IsAskedInInstant events port values call
   AsksClock : port.role ≡ ClockOutput → call ≡ C.GetClock port.reference → IsAskedInInstant events port values call
-  SetsClock : (feed : Feed) → port.role ≡ ClockInput (Some feed) → is_active (fed feed values) ≡ true → call ≡ C.SetClock port.reference → IsAskedInInstant events port values call
+  SetsClock : (feed : Feed) → port.role ≡ ClockInput (Some feed) → is_active (source_value feed values) ≡ true → call ≡ C.SetClock port.reference → IsAskedInInstant events port values call
   Ticking : (timing : Timing) → port.role ≡ TimeClock timing → call ≡ C.SetClock port.reference → IsAskedInInstant events port values call
 
 module _ (port : Port) (values : List (Option ℤ)) (call : Call) where
@@ -103,7 +106,7 @@ module _ (port : Port) (values : List (Option ℤ)) (call : Call) where
   gets_if same false true present e h = ReadsOutput same (λ x. absurd (true_false (sym x))) (sym (same_Some _ _ h))
   gets_if same false false present e h = absurd (cc)
 
-  sets_if : (feed : Feed) → port.role ≡ Input (Some feed) → (events present : Bool) → is_present port values ≡ present → (o : Option ℤ) → fed feed values ≡ o → (if events && present then option_map (λ x. C.Set port.kind port.reference x) o else None) ≡ Some call →
+  sets_if : (feed : Feed) → port.role ≡ Input (Some feed) → (events present : Bool) → is_present port values ≡ present → (o : Option ℤ) → fed port.kind feed values ≡ o → (if events && present then option_map (λ x. C.Set port.kind port.reference x) o else None) ≡ Some call →
       IsAskedInInstant events port values call
   sets_if feed same true true e (Some x) from h = SetsInput feed x same refl e from (sym (same_Some _ _ h))
   sets_if feed same events present e o from h = absurd (cc)
@@ -114,10 +117,10 @@ module _ (port : Port) (values : List (Option ℤ)) (call : Call) where
 
   asked_by : (role : Role) → port.role ≡ role → (events first ticks : Bool) → asks_in_instant role port events first ticks values ≡ Some call → IsAskedInInstant events port values call
   asked_by (Input None) same events first ticks h = absurd (cc)
-  asked_by (Input (Some feed)) same events first ticks h = sets_if feed same events (is_present port values) refl (fed feed values) refl h
+  asked_by (Input (Some feed)) same events first ticks h = sets_if feed same events (is_present port values) refl (fed port.kind feed values) refl h
   asked_by Output same events first ticks h = gets_if same events first (is_present port values) refl h
   asked_by (ClockInput None) same events first ticks h = absurd (cc)
-  asked_by (ClockInput (Some feed)) same events first ticks h = let sets = ticks_if events (is_active (fed feed values)) h in SetsClock feed same sets.0 sets.1
+  asked_by (ClockInput (Some feed)) same events first ticks h = let sets = ticks_if events (is_active (source_value feed values)) h in SetsClock feed same sets.0 sets.1
   asked_by ClockOutput same events first ticks h = AsksClock same (sym (same_Some _ _ h))
   asked_by (TimeClock timing) same events first ticks h = Ticking timing same (ticks_if events ticks h).1
 
@@ -177,10 +180,10 @@ takes_fitting system sound ticks is_first p port values last reply is fits fit =
 
     by : (role : Role) → port.role ≡ role → IfSome (takes_in_instant role port (ticks p) values last reply) (Fits port.kind)
     by (Input None) same = tt
-    by (Input (Some feed)) same = fed_or_fits port.kind (is_present port values) (fed feed values) last (fed_fits system sound values fits p feed.from.0 port is (ap source_of same)) fit
+    by (Input (Some feed)) same = fed_or_fits port.kind (is_present port values) (fed port.kind feed values) last (fed_fits port.kind feed values) fit
     by Output same = seen_fits port last reply fit
     by (ClockInput None) same = tick_fits port.kind (a_clock (ap is_clock_role same)) false
-    by (ClockInput (Some feed)) same = fed_fits system sound values fits p feed.from.0 port is (ap source_of same)
+    by (ClockInput (Some feed)) same = clock_fed_fits system sound values fits p feed.from.0 port is (ap is_clock_role same) (ap source_of same)
     by ClockOutput same = seen_fits port last reply fit
     by (TimeClock timing) same = tick_fits port.kind (a_clock (ap is_clock_role same)) (ticks p)
 
@@ -226,7 +229,7 @@ module _ (shape : Shape) (port : Port) (v : Variable) (active : List Bool) (ther
   turn_active (Input feed) c events first ticks values last reply paired h = absurd (true_false (sym c))
   turn_active Output c events first ticks values last reply paired h = absurd (true_false (sym c))
   turn_active (ClockInput None) c events first ticks values last reply paired h = absurd (true_false (sym h))
-  turn_active (ClockInput (Some feed)) c events first ticks values last reply paired h = by_set (is_active (fed feed values)) h reply paired
+  turn_active (ClockInput (Some feed)) c events first ticks values last reply paired h = by_set (is_active (source_value feed values)) h reply paired
   turn_active ClockOutput c events first ticks values last reply paired h = by_answer last reply paired h
   turn_active (TimeClock timing) c events first ticks values last reply paired h = by_set ticks (is_ticking ticks h) reply paired
 
@@ -349,7 +352,7 @@ module _ (system : System) (sound : IsSound system) (values : List (Option ℤ))
   may_call call (ReadsOutput output present get) = subst (λ (k : Call). MayAsk (Some k) v) (sym get) (may_read output present, refl)
   may_call call (SetsInput feed x input events present from set) =
       subst (λ (k : Call). MayAsk (Some k) v) (sym set)
-      (may_write feed input events present x (subst (λ o. IfSome o (Fits port.kind)) from (fed_fits system sound values fits p feed.from.0 port is (ap source_of input))), refl)
+      (may_write feed input events present x (subst (λ o. IfSome o (Fits port.kind)) from (fed_fits port.kind feed values)), refl)
   may_call call (AsksClock output ask) = subst (λ (k : Call). MayAsk (Some k) v) (sym ask) (may_ask_clock output, refl)
   may_call call (SetsClock feed input active set) = subst (λ (k : Call). MayAsk (Some k) v) (sym set) (may_set_clock (ap is_clock_role input) (ap is_output_role input), refl)
   may_call call (Ticking timing time set) = subst (λ (k : Call). MayAsk (Some k) v) (sym set) (may_set_clock (ap is_clock_role time) (ap is_output_role time), refl)

@@ -35,3 +35,4 @@ pub mod Steps
 pub mod Runs
 pub mod WalkNeeds
 pub mod ByWalk
+pub mod Losing

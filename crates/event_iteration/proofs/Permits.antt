@@ -35,12 +35,12 @@ use Rattle.system_model.specs.declared.system.System.{System}
 use Rattle.system_model.specs.Needs.{is_unclocked, is_unclocked_at}
 use Rattle.system_model.specs.Ports.{is_clock_role, is_output_role, source_of}
 use Rattle.system_model.specs.Sound.{IsSound}
-use Rattle.system_model.proofs.CallerLemmas.{Placed, clock_type_of, is_input_of, is_output_of, place_of, source_at}
+use Rattle.system_model.proofs.CallerLemmas.{Placed, clock_type_of, is_input_of, is_output_of, kind_of_clock, place_of, source_at, within_of_clock}
 use Rattle.system_model.specs.Values.{value}
 use Rattle.run_model.specs.Equations.{fed}
 use Rattle.run_model.specs.Initial.{is_read}
 use Rattle.run_model.specs.Machines.{AreFitting}
-use Rattle.run_model.proofs.CallerLemmas.{both, reply_fits, read_unclocked, unclocked_at-is}
+use Rattle.run_model.proofs.CallerLemmas.{both, fed_fits, reply_fits, read_unclocked, unclocked_at-is}
 use Rattle.slot_calls.specs.Log.{Sent, Talks, Told, part}
 use Rattle.slot_calls.specs.Slots.{reads_or_sets}
 use Rattle.slot_calls.specs.Stage.{IsGoodOf, shapes, shapes_of}
@@ -53,11 +53,11 @@ use Rattle.event_iteration.proofs.Fmus.{part_all}
 
 -- ---- types
 
--- the value of its source fits an input
-pub fed_fits : (system : System) → IsSound system → (values : List (Option ℤ)) → AreFitting system values → (p q : ℕ) (port : Port) → slice_get system.ports p ≡ Some port → source_of port.role ≡ Some q → IfSome (value values q) (Fits port.kind)
-fed_fits system sound values fits p q port is from =
+-- the value of its source fits an input Clock
+pub clock_fed_fits : (system : System) → IsSound system → (values : List (Option ℤ)) → AreFitting system values → (p q : ℕ) (port : Port) → slice_get system.ports p ≡ Some port → is_clock_role port.role ≡ true → source_of port.role ≡ Some q → IfSome (value values q) (Fits port.kind)
+clock_fed_fits system sound values fits p q port is clock from =
     let source = source_at system sound p q port is from in
-    weaken source.source.kind source.feed.types.1 (value values q) (fits q source.source source.is)
+    weaken source.source.kind (within_of_clock source.by source.source port source.feed (kind_of_clock system p port (place_of system sound p port is) clock)) (value values q) (fits q source.source source.is)
   where
     weaken : (kind : PortType) → ((x : ℤ) → Fits kind x → Fits port.kind x) → (o : Option ℤ) → IfSome o (Fits kind) → IfSome o (Fits port.kind)
     weaken kind within None h = tt
@@ -74,7 +74,7 @@ seen_fits port (Some reply) = reply_fits port.kind reply
 pub taken_fits : (system : System) → IsSound system → (values : List (Option ℤ)) → AreFitting system values → (p : ℕ) (port : Port) → slice_get system.ports p ≡ Some port → (role : Role) → port.role ≡ role → (reply : Option Reply) →
     IfSome (takes_initially role system.ports port values reply) (Fits port.kind)
 taken_fits system sound values fits p port is (Input (Some feed)) same reply =
-    if_fits (is_set_from_feed system.ports port feed) port.kind (fed feed values) (fed_fits system sound values fits p feed.from.0 port is (ap source_of same))
+    if_fits (is_set_from_feed system.ports port feed) port.kind (fed port.kind feed values) (fed_fits port.kind feed values)
 taken_fits system sound values fits p port is Output same reply = seen_fits port reply
 taken_fits system sound values fits p port is role same reply = tt
 
@@ -98,7 +98,7 @@ if_some true o x h = (refl, h)
 if_some false o x h = absurd (cc)
 
 pub asks_quietly : (role : Role) (ports : List Port) (read : Bool) (port : Port) (values : List (Option ℤ)) (call : Call) → asks_initially role ports read port values ≡ Some call → reads_or_sets call ≡ true
-asks_quietly (Input (Some feed)) ports read port values call h = option_set port (fed feed values) call (if_some (is_set_from_feed ports port feed) _ call h).1
+asks_quietly (Input (Some feed)) ports read port values call h = option_set port (fed port.kind feed values) call (if_some (is_set_from_feed ports port feed) _ call h).1
 asks_quietly Output ports read port values call h = ap reads_or_sets (sym (same_Some _ _ (if_some read (Some (C.Get port.kind port.reference)) call h).1))
 asks_quietly role ports read port values call h = absurd (cc)
 
@@ -238,12 +238,12 @@ module _ (system : System) (sound : IsSound system) (p : ℕ) (port : Port) (is 
 -- the call of a turn
 module _ (system : System) (sound : IsSound system) (values : List (Option ℤ)) (fits : AreFitting system values) (p : ℕ) (port : Port) (is : slice_get system.ports p ≡ Some port) (v : View) (initializing : IsInitializing v)
     (c : Component) (of : slice_get system.components port.component.0 ≡ Some c) (shape : v.fixed.shape ≡ c.shape) where
-  may_set : (feed : _) → port.role ≡ Input (Some feed) → (b : Bool) → is_set_from_feed system.ports port feed ≡ b → (o : Option ℤ) → fed feed values ≡ o →
+  may_set : (feed : _) → port.role ≡ Input (Some feed) → (b : Bool) → is_set_from_feed system.ports port feed ≡ b → (o : Option ℤ) → fed port.kind feed values ≡ o →
       MayAsk (if b then option_map (λ x. C.Set port.kind port.reference x) o else None) v
   may_set feed same true set None from = tt
   may_set feed same true set (Some x) from = (
     may_write system sound p port is (both (is_unclocked port) (is_unclocked_at system.ports feed.from.0) set).0 v initializing c of shape (ap is_output_role same) x
-        (subst (λ o. IfSome o (Fits port.kind)) from (fed_fits system sound values fits p feed.from.0 port is (ap source_of same))),
+        (subst (λ o. IfSome o (Fits port.kind)) from (fed_fits port.kind feed values)),
     refl,
   )
   may_set feed same false set o from = tt
@@ -254,6 +254,6 @@ module _ (system : System) (sound : IsSound system) (values : List (Option ℤ))
   may_get same false read = tt
 
   pub may_ask : (role : Role) → port.role ≡ role → MayAsk (asks_initially role system.ports (is_read system.ports p) port values) v
-  may_ask (Input (Some feed)) same = may_set feed same (is_set_from_feed system.ports port feed) refl (fed feed values) refl
+  may_ask (Input (Some feed)) same = may_set feed same (is_set_from_feed system.ports port feed) refl (fed port.kind feed values) refl
   may_ask Output same = may_get same (is_read system.ports p) refl
   may_ask role same = tt

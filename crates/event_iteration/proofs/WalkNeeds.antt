@@ -24,9 +24,9 @@ use Rattle.system_model.specs.declared.system.Port.{Port}
 use Rattle.system_model.specs.declared.system.Role.{Role}
 use Rattle.system_model.specs.declared.system.Role.TheVariants.{Input, Output, ClockInput, ClockOutput, TimeClock}
 use Rattle.system_model.specs.declared.system.System.{System}
-use Rattle.run_model.specs.Equations.{fed}
+use Rattle.run_model.specs.Equations.{fed, source_value}
 use Rattle.run_model.specs.Initial.{is_read}
-use Rattle.run_model.proofs.CallerLemmas.{none_in}
+use Rattle.run_model.proofs.CallerLemmas.{fed_same, none_in}
 use Rattle.event_iteration.specs.Initialization.{asks_initially, initially, is_set_from_feed, is_silent_initially, takes_initially}
 use Rattle.event_iteration.specs.Instants.{asks_in_instant, in_instant, is_silent_in_instant, takes_in_instant}
 use Rattle.event_iteration.specs.Waits.{AreTurns, OfClock, OfSource, ReadsOrSets, ReadsPort, StandsBehindReads}
@@ -54,30 +54,33 @@ module _ (system : System) (p : ℕ) (port : Port) (V W : List (Option ℤ)) (is
   present_same : is_present port V ≡ is_present port W
   present_same = ap (λ b. is_clock_role port.role || length port.clocks == 0 || b) (clocks_read port.clocks V W (λ q m. alike q (OfClock port is m)))
 
-  fed_same : (feed : Feed) → source_of port.role ≡ Some feed.from.0 → fed feed V ≡ fed feed W
-  fed_same feed from = alike feed.from.0 (OfSource port is from)
+  source_same : (feed : Feed) → source_of port.role ≡ Some feed.from.0 → source_value feed V ≡ source_value feed W
+  source_same feed from = alike feed.from.0 (OfSource port is from)
+
+  fed_alike : (feed : Feed) → source_of port.role ≡ Some feed.from.0 → fed port.kind feed V ≡ fed port.kind feed W
+  fed_alike feed from = fed_same port.kind feed V W (source_same feed from)
 
   asks_alike : (role : Role) → port.role ≡ role → (events first ticks : Bool) → asks_in_instant role port events first ticks V ≡ asks_in_instant role port events first ticks W
   asks_alike (Input (Some feed)) same events first ticks =
-      ap (λ b. if events && b then option_map (λ x. C.Set port.kind port.reference x) (fed feed V) else None) present_same
-      ∙ ap (λ o. if events && is_present port W then option_map (λ x. C.Set port.kind port.reference x) o else None) (fed_same feed (ap source_of same))
+      ap (λ b. if events && b then option_map (λ x. C.Set port.kind port.reference x) (fed port.kind feed V) else None) present_same
+      ∙ ap (λ o. if events && is_present port W then option_map (λ x. C.Set port.kind port.reference x) o else None) (fed_alike feed (ap source_of same))
   asks_alike Output same events first ticks = ap (λ b. if (if events then b else first) then Some (C.Get port.kind port.reference) else None) present_same
-  asks_alike (ClockInput (Some feed)) same events first ticks = ap (λ o. if is_active o then Some (C.SetClock port.reference) else None) (fed_same feed (ap source_of same))
+  asks_alike (ClockInput (Some feed)) same events first ticks = ap (λ o. if is_active o then Some (C.SetClock port.reference) else None) (source_same feed (ap source_of same))
   asks_alike role same events first ticks = refl
 
   takes_alike : (role : Role) → port.role ≡ role → (ticks : Bool) (last : Option ℤ) (reply : Option Reply) → takes_in_instant role port ticks V last reply ≡ takes_in_instant role port ticks W last reply
   takes_alike (Input (Some feed)) same ticks last reply =
-      ap (λ b. if b then fed feed V else last) present_same ∙ ap (λ o. if is_present port W then o else last) (fed_same feed (ap source_of same))
-  takes_alike (ClockInput (Some feed)) same ticks last reply = fed_same feed (ap source_of same)
+      ap (λ b. if b then fed port.kind feed V else last) present_same ∙ ap (λ o. if is_present port W then o else last) (fed_alike feed (ap source_of same))
+  takes_alike (ClockInput (Some feed)) same ticks last reply = source_same feed (ap source_of same)
   takes_alike role same ticks last reply = refl
 
   asks_first : (role : Role) → port.role ≡ role → (read : Bool) → asks_initially role system.ports read port V ≡ asks_initially role system.ports read port W
   asks_first (Input (Some feed)) same read =
-      if_same (is_set_from_feed system.ports port feed) _ _ (λ set. ap (λ o. option_map (λ x. C.Set port.kind port.reference x) o) (fed_same feed (ap source_of same)))
+      if_same (is_set_from_feed system.ports port feed) _ _ (λ set. ap (λ o. option_map (λ x. C.Set port.kind port.reference x) o) (fed_alike feed (ap source_of same)))
   asks_first role same read = refl
 
   takes_first : (role : Role) → port.role ≡ role → (reply : Option Reply) → takes_initially role system.ports port V reply ≡ takes_initially role system.ports port W reply
-  takes_first (Input (Some feed)) same reply = if_same (is_set_from_feed system.ports port feed) _ _ (λ set. fed_same feed (ap source_of same))
+  takes_first (Input (Some feed)) same reply = if_same (is_set_from_feed system.ports port feed) _ _ (λ set. fed_alike feed (ap source_of same))
   takes_first role same reply = refl
 
 -- ---- a Clock is neither read nor set as a variable is
@@ -94,7 +97,7 @@ plain_in_instant : (role : Role) (port : Port) (events first ticks : Bool) (valu
 plain_in_instant (Input feed) port events first ticks values call clock h = absurd (false≢true clock)
 plain_in_instant Output port events first ticks values call clock h = absurd (false≢true clock)
 plain_in_instant (ClockInput None) port events first ticks values call clock h = absurd (cc)
-plain_in_instant (ClockInput (Some feed)) port events first ticks values call clock h = sets_clock (is_active (fed feed values)) port call h
+plain_in_instant (ClockInput (Some feed)) port events first ticks values call clock h = sets_clock (is_active (source_value feed values)) port call h
 plain_in_instant ClockOutput port events first ticks values call clock h = not_either call K.GetClock (ap kind_of (sym (same_Some (C.GetClock port.reference) call h))) (λ e. absurd (cc)) (λ e. absurd (cc))
 plain_in_instant (TimeClock timing) port events first ticks values call clock h = sets_clock ticks port call h
 
@@ -131,7 +134,7 @@ pub silent_in_instant : (port : Port) (values others : List (Option ℤ)) → ((
 silent_in_instant port values others alike (Input None) events first ticks h = refl
 silent_in_instant port values others alike (Input (Some feed)) events first ticks h =
     let present : is_present port others ≡ is_present port values = ap (λ b. is_clock_role port.role || length port.clocks == 0 || b) (clocks_read port.clocks others values alike) in
-    ap (λ (b : Bool). if b then option_map (λ x. C.Set port.kind port.reference x) (fed feed others) else None) (ap (λ (b : Bool). events && b) present ∙ not_true (events && is_present port values) h)
+    ap (λ (b : Bool). if b then option_map (λ x. C.Set port.kind port.reference x) (fed port.kind feed others) else None) (ap (λ (b : Bool). events && b) present ∙ not_true (events && is_present port values) h)
 silent_in_instant port values others alike Output events first ticks h = absurd (false≢true h)
 silent_in_instant port values others alike (ClockInput feed) events first ticks h = absurd (false≢true h)
 silent_in_instant port values others alike ClockOutput events first ticks h = absurd (false≢true h)
@@ -139,7 +142,7 @@ silent_in_instant port values others alike (TimeClock timing) events first ticks
 
 pub silent_initially : (ports : List Port) (port : Port) (others : List (Option ℤ)) (read : Bool) (role : Role) → is_silent_initially role ports port ≡ true → asks_initially role ports read port others ≡ None
 silent_initially ports port others read (Input None) h = refl
-silent_initially ports port others read (Input (Some feed)) h = ap (λ (b : Bool). if b then option_map (λ x. C.Set port.kind port.reference x) (fed feed others) else None) (not_true (is_set_from_feed ports port feed) h)
+silent_initially ports port others read (Input (Some feed)) h = ap (λ (b : Bool). if b then option_map (λ x. C.Set port.kind port.reference x) (fed port.kind feed others) else None) (not_true (is_set_from_feed ports port feed) h)
 silent_initially ports port others read Output h = absurd (false≢true h)
 silent_initially ports port others read (ClockInput feed) h = absurd (false≢true h)
 silent_initially ports port others read ClockOutput h = absurd (false≢true h)

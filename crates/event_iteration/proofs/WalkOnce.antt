@@ -22,7 +22,7 @@ use Rattle.system_model.specs.Sound.{IsSound}
 use Rattle.system_model.specs.Ports.{is_clock_role, numbers}
 use Rattle.system_model.proofs.CallerLemmas as S
 use Rattle.system_model.proofs.CallerLemmas.{events_of, place_of}
-use Rattle.run_model.specs.Equations.{fed}
+use Rattle.run_model.specs.Equations.{fed, source_value}
 use Rattle.run_model.specs.Initial.{is_read}
 use Rattle.system_model.specs.Values.{value, is_active, is_present}
 use Rattle.slot_calls.specs.Log.{Asking, Sent, asking_of, askings}
@@ -70,7 +70,7 @@ module _ (span : Span) (port : Port) (call : Call) where
 -- ---- by the role of the port
 
 initially_of : (role : Role) (ports : List Port) (read e : Bool) (port : Port) (values : List (Option ℤ)) (call : Call) → asks_initially role ports read port values ≡ Some call → IsOf (initial_span e) port call
-initially_of (Input (Some feed)) ports read e port values call is = of_set (initial_span e) port call (omega arith) (omega arith) (is_set_from_feed ports port feed) (fed feed values) is
+initially_of (Input (Some feed)) ports read e port values call is = of_set (initial_span e) port call (omega arith) (omega arith) (is_set_from_feed ports port feed) (fed port.kind feed values) is
 initially_of Output ports read e port values call is = of_one (initial_span e) port call (C.Get port.kind port.reference) refl (record { from = omega arith; below = omega arith }) read is
 initially_of role ports read e port values call is = absurd (cc)
 
@@ -80,11 +80,11 @@ no_clock h = absurd (let wrong : false ≡ true = h refl in cc)
 
 instant_of : (e : Bool) (role : Role) (port : Port) (is_first ticks : Bool) (values : List (Option ℤ)) (call : Call) → (is_clock_role role ≡ true → e ≡ true) → asks_in_instant role port e is_first ticks values ≡ Some call → IsOf (instant_span is_first e) port call
 instant_of e (Input None) port is_first ticks values call clock is = absurd (cc)
-instant_of true (Input (Some feed)) port is_first ticks values call clock is = of_set (instant_span is_first true) port call (omega arith) (omega arith) (is_present port values) (fed feed values) is
+instant_of true (Input (Some feed)) port is_first ticks values call clock is = of_set (instant_span is_first true) port call (omega arith) (omega arith) (is_present port values) (fed port.kind feed values) is
 instant_of true Output port is_first ticks values call clock is =
     of_one (instant_span is_first true) port call (C.Get port.kind port.reference) refl (record { from = omega arith; below = omega arith }) (is_present port values) is
 instant_of true (ClockInput (Some feed)) port is_first ticks values call clock is =
-    of_one (instant_span is_first true) port call (C.SetClock port.reference) refl (record { from = omega arith; below = omega arith }) (is_active (fed feed values)) is
+    of_one (instant_span is_first true) port call (C.SetClock port.reference) refl (record { from = omega arith; below = omega arith }) (is_active (source_value feed values)) is
 instant_of true ClockOutput port is_first ticks values call clock is = of_one (instant_span is_first true) port call (C.GetClock port.reference) refl (record { from = omega arith; below = omega arith }) true is
 instant_of true (TimeClock timing) port is_first ticks values call clock is = of_one (instant_span is_first true) port call (C.SetClock port.reference) refl (record { from = omega arith; below = omega arith }) ticks is
 instant_of false Output port true ticks values call clock is = of_one (instant_span true false) port call (C.Get port.kind port.reference) refl (record { from = omega arith; below = omega arith }) true is

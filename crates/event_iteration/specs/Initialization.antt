@@ -30,7 +30,7 @@ abbrev pub asks_initially : Role → List Port → Bool → Port → List (Optio
 asks_initially (Input None) ports read port values = None
 asks_initially (Input (Some feed)) ports read port values =
     if is_set_from_feed ports port feed
-    then option_map (λ x. C.Set port.kind port.reference x) (fed feed values) else None
+    then option_map (λ x. C.Set port.kind port.reference x) (fed port.kind feed values) else None
 asks_initially Output ports read port values =
     if read then Some (C.Get port.kind port.reference) else None
 asks_initially (ClockInput feed) ports read port values = None
@@ -49,7 +49,7 @@ is_silent_initially (TimeClock timing) ports port = false
 abbrev pub takes_initially : Role → List Port → Port → List (Option ℤ) → Option Reply → Option ℤ
 takes_initially (Input None) ports port values reply = None
 takes_initially (Input (Some feed)) ports port values reply =
-    if is_set_from_feed ports port feed then fed feed values else None
+    if is_set_from_feed ports port feed then fed port.kind feed values else None
 takes_initially Output ports port values reply = seen port reply
 takes_initially (ClockInput feed) ports port values reply = None
 takes_initially ClockOutput ports port values reply = None

@@ -14,7 +14,7 @@ use Rattle.system_model.specs.declared.system.Role.TheVariants.{Input, Output, C
 use Rattle.system_model.specs.declared.system.Port.{Port}
 use Rattle.system_model.specs.declared.system.System.{System}
 use Rattle.run_model.specs.AfterInstant.{written}
-use Rattle.run_model.specs.Equations.{Solves, fed, value_in}
+use Rattle.run_model.specs.Equations.{Solves, fed, source_value, value_in}
 use Rattle.system_model.specs.Values.{is_active, is_present}
 use Rattle.run_model.specs.Machines.{AreMachines, IsSituation}
 use Rattle.run_model.specs.Run.{Run, Situation}
@@ -33,13 +33,13 @@ abbrev pub asks_in_instant : Role → Port → Bool → Bool → Bool → List (
 asks_in_instant (Input None) port has_event_mode is_first ticks values = None
 asks_in_instant (Input (Some feed)) port has_event_mode is_first ticks values =
     if has_event_mode && is_present port values
-    then option_map (λ x. C.Set port.kind port.reference x) (fed feed values) else None
+    then option_map (λ x. C.Set port.kind port.reference x) (fed port.kind feed values) else None
 asks_in_instant Output port has_event_mode is_first ticks values =
     if is_read_in_instant port has_event_mode is_first values
     then Some (C.Get port.kind port.reference) else None
 asks_in_instant (ClockInput None) port has_event_mode is_first ticks values = None
 asks_in_instant (ClockInput (Some feed)) port has_event_mode is_first ticks values =
-    if is_active (fed feed values) then Some (C.SetClock port.reference) else None
+    if is_active (source_value feed values) then Some (C.SetClock port.reference) else None
 asks_in_instant ClockOutput port has_event_mode is_first ticks values =
     Some (C.GetClock port.reference)
 asks_in_instant (TimeClock timing) port has_event_mode is_first ticks values =
@@ -67,10 +67,10 @@ abbrev pub takes_in_instant : Role → Port → Bool → List (Option ℤ) → O
     Option Reply → Option ℤ
 takes_in_instant (Input None) port ticks values last reply = None
 takes_in_instant (Input (Some feed)) port ticks values last reply =
-    if is_present port values then fed feed values else last
+    if is_present port values then fed port.kind feed values else last
 takes_in_instant Output port ticks values last reply = seen_or port last reply
 takes_in_instant (ClockInput None) port ticks values last reply = Some (pos 0)
-takes_in_instant (ClockInput (Some feed)) port ticks values last reply = fed feed values
+takes_in_instant (ClockInput (Some feed)) port ticks values last reply = source_value feed values
 takes_in_instant ClockOutput port ticks values last reply = seen_or port last reply
 takes_in_instant (TimeClock timing) port ticks values last reply = Some (tick_value ticks)
 

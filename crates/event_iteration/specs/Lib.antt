@@ -11,3 +11,4 @@ pub mod Questions
 pub mod WalkCalls
 pub mod ByLog
 pub mod Waits
+pub mod Lost

@@ -56,19 +56,23 @@ fn clocks_of(alloc: Global, ports: &[Port]) -> Result<Vec<TimeClock>, AllocError
     ensures { IfOk result (λ clocks. clocks.items ≡ map (λ (port : Port). first_clock port.role)
         ports.now) }
 {
-    ports.iter().map(|port| clock_of(port.role)).collect(alloc)
+    let mut clocks = Vec::new(alloc);
+    for port in ports {
+        clocks.push(clock_of(&port.role))?;
+    }
+    Ok(clocks)
 }
 
-fn clock_of(role: Role) -> TimeClock
-    ensures { result ≡ first_clock role }
+fn clock_of(role: &Role) -> TimeClock
+    ensures { result ≡ first_clock role.now }
 {
     match role {
         Role::TimeClock {
             timing: Timing::Periodic { interval, shift },
         } => TimeClock {
             variability: IntervalVariability::Constant,
-            interval: Some(interval),
-            shift: Some(shift),
+            interval: Some(*interval),
+            shift: Some(*shift),
         },
         Role::TimeClock {
             timing: Timing::Answered,
@@ -166,10 +170,10 @@ fn fix_clock<L: Peer>(
         (instances L.view slots.new) result }
 {
     let port = &system.ports.as_slice()[p];
-    if is_changing(port.role) {
+    if is_changing(&port.role) {
         return shift_clock(slots, system, schedule, per_second, start, p);
     }
-    if !is_asked(port.role) {
+    if !is_asked(&port.role) {
         return Ok(());
     }
     let interval = match ask(
@@ -296,8 +300,8 @@ fn whole_counts(fraction: Fraction, per_second: u64) -> u128
 }
 
 // Whether a port is a fixed Clock whose FMU is asked.
-fn is_asked(role: Role) -> bool
-    ensures { result ≡ is_asked role }
+fn is_asked(role: &Role) -> bool
+    ensures { result ≡ is_asked role.now }
 {
     match role {
         Role::TimeClock {
@@ -320,8 +324,8 @@ fn is_asked(role: Role) -> bool
 }
 
 // Whether a port is a changing Clock.
-fn is_changing(role: Role) -> bool
-    ensures { result ≡ is_changing role }
+fn is_changing(role: &Role) -> bool
+    ensures { result ≡ is_changing role.now }
 {
     match role {
         Role::TimeClock {

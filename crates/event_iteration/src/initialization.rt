@@ -4,6 +4,7 @@ ghost use Rattle.system_model.specs.declared.system.Port.{Port};
 ghost use Rattle.system_model.specs.Needs.{is_unclocked};
 ghost use Rattle.system_model.specs.Ports.{numbers};
 ghost use Rattle.system_model.specs.Sound.{IsSound};
+ghost use Rattle.run_model.specs.Equations.{fed};
 ghost use Rattle.run_model.specs.Initial as I;
 ghost use Rattle.run_model.specs.Machines.{AreFitting};
 ghost use Rattle.slot_calls.specs.Slots.{LiveSlot, Stands, instances};
@@ -17,22 +18,34 @@ use crate::walk::{Turns, walk};
 use fmi_calls::{Call, Reply};
 use fmu_peer::{Peer, Slot};
 use slot_calls::{BadAnswer, value_in};
-use system_model::{Feed, Port, Role, System};
+use system_model::{Feed, Port, Role, System, carried};
+use value_types::PortType;
 
 // Whether a port has no Clocks and is none.
 pub(crate) fn is_unclocked(port: &Port) -> bool
     ensures { result ≡ is_unclocked port.now }
 {
-    match port.role {
+    match &port.role {
         Role::Input { .. } | Role::Output => port.clocks.len() == 0,
         Role::ClockInput { .. } | Role::ClockOutput | Role::TimeClock { .. } => false,
     }
 }
 
+// What comes to an input of a type from its source, along its path.
+pub(crate) fn fed(kind: PortType, feed: &Feed, values: &[Option<i128>]) -> Option<i128>
+    requires { feed.now.from.0 < length values.now }
+    ensures { result ≡ fed kind feed.now values.now }
+{
+    match values[feed.from.0 as usize] {
+        Some(value) => carried(feed.changes.as_slice(), kind, value),
+        None => None,
+    }
+}
+
 // Whether Initialization Mode sets an input from its source.
-pub(crate) fn is_set_from(ports: &[Port], port: &Port, feed: Feed) -> bool
-    requires { feed.from.0 < length ports.now }
-    ensures { result ≡ is_set_from_feed ports.now port.now feed }
+pub(crate) fn is_set_from(ports: &[Port], port: &Port, feed: &Feed) -> bool
+    requires { feed.now.from.0 < length ports.now }
+    ensures { result ≡ is_set_from_feed ports.now port.now feed.now }
 {
     is_unclocked(port) && is_unclocked(&ports[feed.from.0 as usize])
 }
@@ -43,10 +56,10 @@ fn call_of(ports: &[Port], port: &Port, is_read: bool, values: &[Option<i128>]) 
     requires values { length values.now ≡ length ports.now }
     ensures { result ≡ asks_initially port.now.role ports.now is_read port.now values.now }
 {
-    match port.role {
+    match &port.role {
         Role::Input { feed: Some(feed) } => {
             if is_set_from(ports, port, feed) {
-                set_call(port, values[feed.from.0 as usize])
+                set_call(port, fed(port.kind, feed, values))
             } else {
                 None
             }
@@ -73,7 +86,7 @@ fn is_silent(ports: &[Port], port: &Port) -> bool
     requires { IsPlaced (length ports.now) port.now }
     ensures { result ≡ is_silent_initially port.now.role ports.now port.now }
 {
-    match port.role {
+    match &port.role {
         Role::Input { feed: Some(feed) } => !is_set_from(ports, port, feed),
         Role::Input { feed: None }
         | Role::Output
@@ -94,10 +107,10 @@ fn value_of(
     requires values { length values.now ≡ length ports.now }
     ensures { result ≡ takes_initially port.now.role ports.now port.now values.now reply.now }
 {
-    match port.role {
+    match &port.role {
         Role::Input { feed: Some(feed) } => {
             if is_set_from(ports, port, feed) {
-                values[feed.from.0 as usize]
+                fed(port.kind, feed, values)
             } else {
                 None
             }

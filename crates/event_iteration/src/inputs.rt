@@ -22,7 +22,7 @@ fn call_of(port: &Port, has_event_mode: bool, value: Option<i128>) -> Option<Cal
     if has_event_mode {
         return None;
     }
-    match port.role {
+    match &port.role {
         Role::Input { feed: Some(_) } => set_call(port, value),
         Role::Input { feed: None }
         | Role::Output

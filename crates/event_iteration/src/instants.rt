@@ -16,7 +16,7 @@ ghost use Rattle.event_iteration.specs.Clocks.{AreTicks, StandsAt, is_due_at, ti
 ghost use Rattle.event_iteration.specs.Intervals.{TellsTicks};
 ghost use Rattle.event_iteration.specs.Questions.{AreActive, modes};
 
-use crate::initialization::set_call;
+use crate::initialization::{fed, set_call};
 use crate::intervals::is_time_clock;
 use crate::turn::has_event_mode;
 use crate::walk::{Turns, walk};
@@ -39,10 +39,10 @@ fn call_of(
     requires clocks { HasPlacedClocks (length values.now) port.now }
     ensures { result ≡ asks_in_instant port.now.role port.now has_event_mode is_first ticks values.now }
 {
-    match port.role {
+    match &port.role {
         Role::Input { feed: Some(feed) } => {
             if has_event_mode && is_present(port, values) {
-                set_call(port, values[feed.from.0 as usize])
+                set_call(port, fed(port.kind, feed, values))
             } else {
                 None
             }
@@ -89,11 +89,11 @@ pub(crate) fn is_active(value: Option<i128>) -> bool
 }
 
 // Whether a port is present: a Clock is always, and so is a port without Clocks; another where one of its Clocks is active.
-fn is_present(port: &Port, values: &[Option<i128>]) -> bool
+pub(crate) fn is_present(port: &Port, values: &[Option<i128>]) -> bool
     requires clocks { HasPlacedClocks (length values.now) port.now }
     ensures { result ≡ is_present port.now values.now }
 {
-    match port.role {
+    match &port.role {
         Role::ClockInput { .. } | Role::ClockOutput | Role::TimeClock { .. } => true,
         Role::Input { .. } | Role::Output => {
             port.clocks.len() == 0 || some_active(port.clocks.as_slice(), values)
@@ -127,7 +127,7 @@ fn is_silent(port: &Port, has_event_mode: bool, values: &[Option<i128>]) -> bool
     requires clocks { HasPlacedClocks (length values.now) port.now }
     ensures { result ≡ is_silent_in_instant port.now.role port.now has_event_mode values.now }
 {
-    match port.role {
+    match &port.role {
         Role::Input { .. } => !(has_event_mode && is_present(port, values)),
         Role::Output | Role::ClockInput { .. } | Role::ClockOutput | Role::TimeClock { .. } =>
             false,
@@ -146,10 +146,10 @@ fn value_of(
     requires clocks { HasPlacedClocks (length values.now) port.now }
     ensures { result ≡ takes_in_instant port.now.role port.now ticks values.now last reply.now }
 {
-    match port.role {
+    match &port.role {
         Role::Input { feed: Some(feed) } => {
             if is_present(port, values) {
-                values[feed.from.0 as usize]
+                fed(port.kind, feed, values)
             } else {
                 last
             }
@@ -188,7 +188,7 @@ impl<'a> InInstant<'a> {
         ensures { result ≡ is_due_at self.now.schedule.now self.now.t p }
     {
         let port = &system.ports.as_slice()[p];
-        if !is_time_clock(port.role) {
+        if !is_time_clock(&port.role) {
             return false;
         }
         plain::due(self.schedule, p, self.t)

@@ -66,7 +66,7 @@ pub fn ask_intervals<L: Peer>(
             Err(bad) => return Err(bad),
         };
         let told = interval_by(&reply);
-        is_armed |= go_on(schedule, ports[p].role, per_second, values[p], t, p, told);
+        is_armed |= go_on(schedule, &ports[p].role, per_second, values[p], t, p, told);
     }
     Ok(is_armed)
 }
@@ -91,7 +91,7 @@ fn ask_interval<L: Peer>(
         (instances L.view slots.new) result }
 {
     let port = &system.ports.as_slice()[p];
-    if !is_asked_after(port.role, value) {
+    if !is_asked_after(&port.role, value) {
         return Ok(None);
     }
     match ask(
@@ -119,15 +119,15 @@ fn interval_by(reply: &Option<Reply>) -> Interval
 // Goes on at one port with what was told of its interval, and tells whether it is a Clock that is armed for the point.
 fn go_on(
     schedule: &mut Schedule,
-    role: Role,
+    role: &Role,
     per_second: u64,
     value: Option<i128>,
     t: u64,
     p: usize,
     interval: Interval,
 ) -> bool
-    requires place { GoesFrom schedule.old role t p value }
-    ensures goes { IsBehind role per_second t p value interval schedule.old schedule.new }
+    requires place { GoesFrom schedule.old role.now t p value }
+    ensures goes { IsBehind role.now per_second t p value interval schedule.old schedule.new }
     ensures armed { IsArmed t p schedule.new result }
 {
     if !is_time_clock(role) {
@@ -144,8 +144,8 @@ fn go_on(
 }
 
 // Whether a port is a time-based Clock.
-pub(crate) fn is_time_clock(role: Role) -> bool
-    ensures { result ≡ is_time_clock role }
+pub(crate) fn is_time_clock(role: &Role) -> bool
+    ensures { result ≡ is_time_clock role.now }
 {
     match role {
         Role::TimeClock { .. } => true,
@@ -154,8 +154,8 @@ pub(crate) fn is_time_clock(role: Role) -> bool
 }
 
 // Whether a port is a countdown Clock.
-fn counts_down(role: Role) -> bool
-    ensures { result ≡ counts_down role }
+fn counts_down(role: &Role) -> bool
+    ensures { result ≡ counts_down role.now }
 {
     match role {
         Role::TimeClock {
@@ -178,8 +178,8 @@ fn counts_down(role: Role) -> bool
 }
 
 // Whether a port that has this value is a countdown Clock, or a changing one that ticks.
-fn is_asked_after(role: Role, value: Option<i128>) -> bool
-    ensures { result ≡ is_asked_after role value }
+fn is_asked_after(role: &Role, value: Option<i128>) -> bool
+    ensures { result ≡ is_asked_after role.now value }
 {
     match role {
         Role::TimeClock {

@@ -65,7 +65,7 @@ fn read_by(ports: &[Port], port: &Port) -> Option<PortId>
     ensures source { option_map (λ q. q.0) result ≡ read_by ports.now port.now.role port.now }
     ensures within { IfSome result (λ q. q.0 < length ports.now) }
 {
-    match port.role {
+    match &port.role {
         Role::Input { feed: Some(feed) } => {
             if is_set_from(ports, port, feed) {
                 Some(feed.from)

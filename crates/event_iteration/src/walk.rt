@@ -203,7 +203,7 @@ impl Waiting {
 fn is_fed(ports: &[u32], port: &Port) -> bool
     ensures { result ≡ is_fed_by ports.now port.now.role }
 {
-    match port.role {
+    match &port.role {
         Role::Input { feed: Some(feed) } => has(ports, feed.from.0),
         Role::Input { feed: None }
         | Role::Output

@@ -35,7 +35,8 @@ rule_at n =
     else (if n == 42 then Flattening f.OtherClass
     else (if n == 43 then Flattening f.EndTwice
     else (if n == 44 then Flattening f.TooWide
-    else (if n == 45 then Flattening f.FedClock else (if n == 47 then SavesNoState else TooManyPorts))))))
+    else (if n == 45 then Flattening f.FedClock else (if n == 47 then SavesNoState
+    else (if n == 58 then Flattening f.OtherChange else TooManyPorts)))))))
 
 told : (t : SystemTree) (shapes : List Shape) (rule : Rule) (node : ℕ) → ViolatesFlattening t shapes rule node → rule_at (number rule) ≡ rule
 unfolding rule_at
@@ -49,6 +50,7 @@ told t shapes (Flattening f.OtherClass) node h = refl
 told t shapes (Flattening f.EndTwice) node h = refl
 told t shapes (Flattening f.TooWide) node h = refl
 told t shapes (Flattening f.FedClock) node h = refl
+told t shapes (Flattening f.OtherChange) node h = refl
 told t shapes Loop node h = absurd h
 told t shapes SavesNoState node h = refl
 told t shapes TooManyPorts node h = refl

@@ -1,9 +1,9 @@
 -- A path of connections over numbered points is one over the points of a tree.
-use Rattle.std.proofs.Common.{◌≡◌, ◌⊎◌, ◌↔◌, ℕ, zero, suc, ◌+◌, ◌<◌, List, [], ◌∷◌, length, map, Option, Some, None, refl, sym, ap, ◌∙◌, subst, inl, inr, arith}
+use Rattle.std.proofs.Common.{◌≡◌, ◌⊎◌, ◌↔◌, ℕ, zero, suc, ◌+◌, ◌<◌, List, [], ◌∷◌, length, map, not, is_some, Option, Some, None, refl, sym, ap, ◌∙◌, subst, inl, inr, arith}
 use Rattle.std.specs.List.{All, Contains, slice_get}
 use Rattle.std.specs.Option.{option_map}
 use Rattle.std.proofs.lemmas.List.{get_or-map, length-map}
-use Rattle.std.proofs.lemmas.List.Elements.{All-map, All-same, All-weaker}
+use Rattle.std.proofs.lemmas.List.Elements.{All-filter, All-map, All-same, All-weaker}
 use Rattle.std.proofs.lemmas.Option.{slice_get_within, get_or_from_slice_get, same_Some}
 use Rattle.value_types.specs.declared.shape.Shape.{Shape}
 use Rattle.connection_paths.specs.declared.point.Point as paths
@@ -14,7 +14,7 @@ use Rattle.ssd_tree.specs.declared.tree.Connector.{Connector}
 use Rattle.ssd_tree.specs.declared.tree.Connection.{Connection}
 use Rattle.ssd_tree.specs.declared.tree.SystemTree.{SystemTree}
 use Rattle.flatten.specs.Points.{Point, OfComponent, Itself, IsOfSystem, named_by, point_for, point_of}
-use Rattle.flatten.specs.Paths.{Joins, Leads}
+use Rattle.flatten.specs.Paths.{Joins, Leads, plain, turned}
 use Rattle.flatten.specs.Given.{AreShapesOf, IsWholeTree}
 use Rattle.flatten.specs.Indexed.{AreNumbered, begin_of, ends_of}
 use Rattle.flatten.proofs.ReachLemmas.{Stands, reaches_carried}
@@ -40,10 +40,27 @@ map_contains f xs y h =
     (e.0, slice_contains xs h.0 e.0 e.1, ap f (sym (get_or_from_slice_get xs h.0 e.0 e.0 e.1)) ∙ sym (get_or-map f xs h.0 e.0 y l) ∙ h.2)
 
 -- both ends of each connection are connectors
+abbrev pub AreInside : SystemTree → Connection → Type 0
+AreInside t k = (k.start < length t.connectors) × (k.end < length t.connectors)
+
+-- of any connections whose ends are
+pub inside_within : (t : SystemTree) (n : ℕ) (connections : List joints.Connection) (ks : List Connection) → All (AreInside t) ks → n ≡ length t.connectors → connections ≡ map ends_of ks → All (numbers.IsWithin n) connections
+inside_within t n connections ks inside len ends =
+    All-same (numbers.IsWithin n) connections (map ends_of ks) ends (All-map (numbers.IsWithin n) ends_of ks
+    (All-weaker (AreInside t) (λ (k : Connection). numbers.IsWithin n (ends_of k)) (λ k h. (let a = h.0 in omega (arith, a, len), let b = h.1 in omega (arith, b, len))) ks inside))
+
 pub ends_within : (t : SystemTree) (n : ℕ) (connections : List joints.Connection) → IsWholeTree t → n ≡ length t.connectors → connections ≡ map ends_of t.connections → All (numbers.IsWithin n) connections
-ends_within t n connections whole len ends =
-    All-same (numbers.IsWithin n) connections (map ends_of t.connections) ends (All-map (numbers.IsWithin n) ends_of t.connections
-    (All-weaker (λ (k : Connection). (k.start < length t.connectors) × (k.end < length t.connectors)) (λ (k : Connection). numbers.IsWithin n (ends_of k)) (λ k h. (let a = h.0 in omega (arith, a, len), let b = h.1 in omega (arith, b, len))) t.connections whole.ends))
+ends_within t n connections whole len ends = inside_within t n connections t.connections whole.ends len ends
+
+-- those without a transformation, and those turned round
+pub plain_within : (t : SystemTree) (n : ℕ) (connections : List joints.Connection) → IsWholeTree t → n ≡ length t.connectors → connections ≡ map ends_of (plain t).connections → All (numbers.IsWithin n) connections
+plain_within t n connections whole len ends =
+    inside_within t n connections (plain t).connections (All-filter (λ (k : Connection). not (is_some k.change)) (AreInside t) t.connections whole.ends) len ends
+
+pub turned_within : (t : SystemTree) (n : ℕ) (connections : List joints.Connection) → IsWholeTree t → n ≡ length t.connectors → connections ≡ map ends_of (turned t).connections → All (numbers.IsWithin n) connections
+turned_within t n connections whole len ends =
+    let round = λ (k : Connection). record k { start = k.end; end = k.start } in
+    inside_within t n connections (turned t).connections (All-map (AreInside t) round t.connections (All-weaker (AreInside t) (λ (k : Connection). AreInside t (round k)) (λ k h. (h.1, h.0)) t.connections whole.ends)) len ends
 
 -- ---- what stands where
 
@@ -89,7 +106,7 @@ module _ (t : SystemTree) (shapes : List Shape) (points : List paths.Point) (con
   same_point : (c d : ℕ) (p : paths.Point) → slice_get points c ≡ Some p → slice_get points d ≡ Some p → point_of t shapes c ≡ point_of t shapes d
   same_point c d p ep eq = point_by_number t shapes points sound c d p p (sort c (number_within c p ep)) (sort d (number_within d p eq)) ep eq refl
 
-  same_number : (c d : ℕ) (p : Point) → point_of t shapes c ≡ Some p → point_of t shapes d ≡ Some p → slice_get points c ≡ slice_get points d
+  pub same_number : (c d : ℕ) (p : Point) → point_of t shapes c ≡ Some p → point_of t shapes d ≡ Some p → slice_get points c ≡ slice_get points d
   same_number c d p ep eq = numbered_by_point t shapes points sound c d p (sort c (point_within t shapes c p ep)) (sort d (point_within t shapes d p eq)) ep eq
 
   pub system_there : (c : ℕ) (n : paths.Point) (p : Point) → slice_get points c ≡ Some n → point_of t shapes c ≡ Some p → numbers.IsOfSystem n ↔ IsOfSystem t p

@@ -107,6 +107,18 @@ end_here t points connections count i n e whole len ends l read tells =
     let p = at_place points k.0.end (omega (arith, w, len)) in
     (k.0, k.1, (p.0, p.1, sym (tells p.0 (ap (λ (z : joints.Connection). slice_get points z.end) same ∙ p.1))))
 
+-- a connection as it is read from the tree
+pub of_tree : {xs lent : List Connection} (i : ℕ) {e : Connection} → lent ≡ xs → e ≡ get_or lent i e → e ≡ get_or xs i e
+of_tree {xs} {lent} i {e} same read = read ∙ ap (λ (z : List Connection). get_or z i e) same
+
+pub read_is : (xs : List Connection) (i : ℕ) {e k : Connection} → e ≡ get_or xs i e → slice_get xs i ≡ Some k → e ≡ k
+read_is xs i {e} {k} read at = read ∙ get_or_from_slice_get xs i k e at
+
+-- both its ends are connectors
+pub ends_there : (t : SystemTree) (i : ℕ) (e : Connection) → IsWholeTree t → i < length t.connections → e ≡ get_or t.connections i e → (e.start < length t.connectors) × (e.end < length t.connectors)
+ends_there t i e whole l read =
+    All-contains (λ (z : Connection). (z.start < length t.connectors) × (z.end < length t.connectors)) t.connections e whole.ends (i, l, sym read)
+
 -- both ends of a connection of the table are connectors
 pub ends_in : (t : SystemTree) (connections : List joints.Connection) (e : joints.Connection) → IsWholeTree t → connections ≡ map ends_of t.connections → Contains connections e → (e.start < length t.connectors) × (e.end < length t.connectors)
 ends_in t connections e whole ends is = All-contains (numbers.IsWithin (length t.connectors)) connections e (ends_within t (length t.connectors) connections whole refl ends) is
@@ -208,22 +220,23 @@ module _ (t : SystemTree) (shapes : List Shape) (points : List paths.Point) (sou
       by None none = let un = sym (ap (option_and_then (λ (z : Connection). point_of t shapes z.end)) none) ∙ e in cc
       by (Some k) some = (k, some, sym (ap (option_and_then (λ (z : Connection). point_of t shapes z.end)) some) ∙ e)
 
+  end_of : (j : ℕ) (k : Connection) → slice_get t.connections j ≡ Some k → end_at t shapes j ≡ point_of t shapes k.end
+  end_of j k at = ap (option_and_then (λ (z : Connection). point_of t shapes z.end)) at
+
+  -- an end that a connection before it has is repeated
+  pub ends_repeated : (i n : ℕ) → EndsWith t points (length (all_variables shapes)) i n → (j : ℕ) × (j < i) × EndsWith t points (length (all_variables shapes)) j n → IsRepeated (end_at t shapes) i
+  ends_repeated i n ends h =
+      let k = ends.0 in
+      let k' = h.2.0 in
+      let x = point_at t shapes k.end (end_within k (slice_contains t.connections i k ends.1)) in
+      let y = point_at t shapes k'.end (end_within k' (slice_contains t.connections h.0 k' h.2.1)) in
+      let same = point_by_number t shapes points sound k'.end k.end h.2.2.0 ends.2.0 (kind_of t shapes points sound are k'.end y.0 y.1) (kind_of t shapes points sound are k.end x.0 x.1) h.2.2.1 ends.2.1 (h.2.2.2 ∙ sym ends.2.2) in
+      (x.0, end_of i k ends.1 ∙ x.1, (h.0, h.1, end_of h.0 k' h.2.1 ∙ same ∙ x.1))
+
   -- the number of an end is taken just where the end is repeated
   pub taken_repeats : (i n : ℕ) (taken : List Bool) → EndsWith t points (length (all_variables shapes)) i n → AreTaken t points (length (all_variables shapes)) i taken → IsMarked taken n ↔ IsRepeated (end_at t shapes) i
-  taken_repeats i n taken ends was = (λ h. repeats ((was n).0 h), λ h. (was n).1 (taken_by h))
+  taken_repeats i n taken ends was = (λ h. ends_repeated i n ends ((was n).0 h), λ h. (was n).1 (taken_by h))
     where
-      end_of : (j : ℕ) (k : Connection) → slice_get t.connections j ≡ Some k → end_at t shapes j ≡ point_of t shapes k.end
-      end_of j k at = ap (option_and_then (λ (z : Connection). point_of t shapes z.end)) at
-
-      repeats : (j : ℕ) × (j < i) × EndsWith t points (length (all_variables shapes)) j n → IsRepeated (end_at t shapes) i
-      repeats h =
-          let k = ends.0 in
-          let k' = h.2.0 in
-          let x = point_at t shapes k.end (end_within k (slice_contains t.connections i k ends.1)) in
-          let y = point_at t shapes k'.end (end_within k' (slice_contains t.connections h.0 k' h.2.1)) in
-          let same = point_by_number t shapes points sound k'.end k.end h.2.2.0 ends.2.0 (kind_of t shapes points sound are k'.end y.0 y.1) (kind_of t shapes points sound are k.end x.0 x.1) h.2.2.1 ends.2.1 (h.2.2.2 ∙ sym ends.2.2) in
-          (x.0, end_of i k ends.1 ∙ x.1, (h.0, h.1, end_of h.0 k' h.2.1 ∙ same ∙ x.1))
-
       taken_by : IsRepeated (end_at t shapes) i → (j : ℕ) × (j < i) × EndsWith t points (length (all_variables shapes)) j n
       taken_by h =
           let k = ends.0 in

@@ -7,7 +7,7 @@ use Rattle.value_types.specs.declared.shape.Variable.{Variable}
 use Rattle.doc_tree.specs.declared.rule.Rule.{Rule}
 use Rattle.doc_tree.specs.declared.rule.Rule.TheVariants.{Document, Description, System, Nesting, Flattening, Loop, SavesNoState, TooManyPorts, Parameters}
 use Rattle.doc_tree.specs.declared.rule.FlatteningRule.{FlatteningRule}
-use Rattle.doc_tree.specs.declared.rule.FlatteningRule.TheVariants.{NoSuchVariable, OtherCausality, OtherClass, EndTwice, TooWide, FedClock}
+use Rattle.doc_tree.specs.declared.rule.FlatteningRule.TheVariants.{NoSuchVariable, OtherCausality, OtherClass, EndTwice, TooWide, FedClock, OtherChange}
 use Rattle.doc_tree.specs.Rules.{number}
 use Rattle.ssd_tree.specs.declared.tree.SystemTree.{SystemTree}
 use Rattle.doc_tables.specs.Violations.{FindsLeast, earlier_violation}
@@ -32,21 +32,22 @@ least_either P Q R (Some a) (Some b) each p q f g = (by (cases_lt b a), λ n l r
 
 module _ (t : SystemTree) (shapes : List Shape) where
   -- an element breaks the rule as a connector or as a connection
-  broken_either : (rule : FlatteningRule) → (rule ≡ EndTwice → ⊥) → (node : ℕ) → Breaks t shapes rule node → IsBrokenConnector t shapes rule node ⊎ IsBrokenConnection t shapes rule node
-  broken_either NoSuchVariable other node h = inl (h.0, (h.1.0, h.1.1, (h.1.2, h.1.3)))
-  broken_either OtherCausality other node h = inl (of_connector h)
+  broken_either : (rule : FlatteningRule) → (rule ≡ EndTwice → ⊥) → (rule ≡ OtherChange → ⊥) → (node : ℕ) → Breaks t shapes rule node → IsBrokenConnector t shapes rule node ⊎ IsBrokenConnection t shapes rule node
+  broken_either NoSuchVariable other more node h = inl (h.0, (h.1.0, h.1.1, (h.1.2, h.1.3)))
+  broken_either OtherCausality other more node h = inl (of_connector h)
     where
       of_connector : Breaks t shapes OtherCausality node → IsBrokenConnector t shapes OtherCausality node
       of_connector h =
           let Q = λ (o : Option Variable). IsSomeAnd o (HasOtherCausality h.1.0) in
           (h.0, (h.1.0, h.1.1.1, subst Q (sym h.1.1.2) h.1.1.3))
-  broken_either OtherClass other node (inl h) =
+  broken_either OtherClass other more node (inl h) =
       let Q = λ (o : Option Variable). IsSomeAnd o (HasOtherType h.1.0) in
       inl (h.0, (h.1.0, h.1.1.1, subst Q (sym h.1.1.2) h.1.1.3))
-  broken_either OtherClass other node (inr h) = inr h
-  broken_either EndTwice other node h = absurd (other refl)
-  broken_either TooWide other node h = inr h
-  broken_either FedClock other node h = inr h
+  broken_either OtherClass other more node (inr h) = inr h
+  broken_either EndTwice other more node h = absurd (other refl)
+  broken_either TooWide other more node h = inr h
+  broken_either FedClock other more node h = inr h
+  broken_either OtherChange other more node h = absurd (more refl)
 
   connector_breaks : (rule : FlatteningRule) (node : ℕ) → IsBrokenConnector t shapes rule node → Breaks t shapes rule node
   connector_breaks NoSuchVariable node h = (h.0, (h.1.0, h.1.1, h.1.2.0, h.1.2.1))
@@ -59,6 +60,7 @@ module _ (t : SystemTree) (shapes : List Shape) where
   connector_breaks EndTwice node h = absurd h.1.2
   connector_breaks TooWide node h = absurd h.1.2
   connector_breaks FedClock node h = absurd h.1.2
+  connector_breaks OtherChange node h = absurd h.1.2
 
   connection_breaks : (rule : FlatteningRule) (node : ℕ) → IsBrokenConnection t shapes rule node → Breaks t shapes rule node
   connection_breaks NoSuchVariable node h = absurd h.2.1.1.1.1.2
@@ -67,9 +69,10 @@ module _ (t : SystemTree) (shapes : List Shape) where
   connection_breaks EndTwice node h = absurd h.2.1.1.1.1.2
   connection_breaks TooWide node h = h
   connection_breaks FedClock node h = h
+  connection_breaks OtherChange node h = absurd h.2.1.1.1.1.2
 
-  pub least_broken : (rule : FlatteningRule) (a b : Option ℕ) → (rule ≡ EndTwice → ⊥) → FindsLeast (IsBrokenConnector t shapes rule) a → FindsLeast (IsBrokenConnection t shapes rule) b → FindsLeast (Breaks t shapes rule) (earlier a b)
-  least_broken rule a b other = least_either (IsBrokenConnector t shapes rule) (IsBrokenConnection t shapes rule) (Breaks t shapes rule) a b (broken_either rule other) (connector_breaks rule) (connection_breaks rule)
+  pub least_broken : (rule : FlatteningRule) (a b : Option ℕ) → (rule ≡ EndTwice → ⊥) → (rule ≡ OtherChange → ⊥) → FindsLeast (IsBrokenConnector t shapes rule) a → FindsLeast (IsBrokenConnection t shapes rule) b → FindsLeast (Breaks t shapes rule) (earlier a b)
+  least_broken rule a b other more = least_either (IsBrokenConnector t shapes rule) (IsBrokenConnection t shapes rule) (Breaks t shapes rule) a b (broken_either rule other more) (connector_breaks rule) (connection_breaks rule)
 
 -- ---- rule after rule
 
@@ -138,7 +141,7 @@ module _ (V : Rule → ℕ → Type 0) where
 -- ---- all rules
 
 -- a rule that an element may break stands in the list
-rule_listed : (t : SystemTree) (shapes : List Shape) (rule : Rule) (node : ℕ) → ViolatesFlattening t shapes rule node → (k : ℕ) × (k < 8) × (rule_at k ≡ rule)
+rule_listed : (t : SystemTree) (shapes : List Shape) (rule : Rule) (node : ℕ) → ViolatesFlattening t shapes rule node → (k : ℕ) × (k < 9) × (rule_at k ≡ rule)
 rule_listed t shapes (Flattening NoSuchVariable) node h = (0, lit< tt, refl)
 rule_listed t shapes (Flattening OtherCausality) node h = (1, lit< tt, refl)
 rule_listed t shapes (Flattening OtherClass) node h = (2, lit< tt, refl)
@@ -147,6 +150,7 @@ rule_listed t shapes (Flattening TooWide) node h = (4, lit< tt, refl)
 rule_listed t shapes (Flattening FedClock) node h = (5, lit< tt, refl)
 rule_listed t shapes SavesNoState node h = (6, lit< tt, refl)
 rule_listed t shapes TooManyPorts node h = (7, lit< tt, refl)
+rule_listed t shapes (Flattening OtherChange) node h = (8, lit< tt, refl)
 rule_listed t shapes (Document rule) node h = absurd h
 rule_listed t shapes (Description rule) node h = absurd h
 rule_listed t shapes (System rule) node h = absurd h
@@ -155,7 +159,7 @@ rule_listed t shapes Loop node h = absurd h
 rule_listed t shapes (Parameters rule) node h = absurd h
 
 -- their numbers rise
-next_above : (k : ℕ) → k < 7 → number (rule_at k) < number (rule_at (suc k))
+next_above : (k : ℕ) → k < 8 → number (rule_at k) < number (rule_at (suc k))
 next_above zero l = lit< tt
 next_above (suc zero) l = lit< tt
 next_above (suc (suc zero)) l = lit< tt
@@ -163,9 +167,10 @@ next_above (suc (suc (suc zero))) l = lit< tt
 next_above (suc (suc (suc (suc zero)))) l = lit< tt
 next_above (suc (suc (suc (suc (suc zero))))) l = lit< tt
 next_above (suc (suc (suc (suc (suc (suc zero)))))) l = lit< tt
-next_above (suc (suc (suc (suc (suc (suc (suc k))))))) l = absurd (omega (arith, l))
+next_above (suc (suc (suc (suc (suc (suc (suc zero))))))) l = lit< tt
+next_above (suc (suc (suc (suc (suc (suc (suc (suc k)))))))) l = absurd (omega (arith, l))
 
-rising : (j k : ℕ) → j ≤ k → k < 8 → number (rule_at j) ≤ number (rule_at k)
+rising : (j k : ℕ) → j ≤ k → k < 9 → number (rule_at j) ≤ number (rule_at k)
 rising j zero l b = let same : 0 ≡ j = omega (arith, l) in subst (λ z. number (rule_at z) ≤ number (rule_at 0)) same (omega arith)
 rising j (suc k) l b = by (cases_lt j (suc k)) (λ less. rising j k (omega (arith, less)) (omega (arith, b)))
   where
@@ -173,7 +178,7 @@ rising j (suc k) l b = by (cases_lt j (suc k)) (λ less. rising j k (omega (arit
     by (inl less) rest = let step = next_above k (omega (arith, b)) in let so_far = rest less in omega (arith, step, so_far)
     by (inr more) rest = let same : j ≡ suc k = omega (arith, l, more) in subst (λ z. number (rule_at j) ≤ number (rule_at z)) same (omega arith)
 
-pub all_first : (t : SystemTree) (shapes : List Shape) (i : ℕ) (found : Option (ℕ × Rule)) → 8 ≤ i → i ≤ 8 → FindsFirst (ViolatesFlattening t shapes) i found
+pub all_first : (t : SystemTree) (shapes : List Shape) (i : ℕ) (found : Option (ℕ × Rule)) → 9 ≤ i → i ≤ 9 → FindsFirst (ViolatesFlattening t shapes) i found
     → MatchOption found (IsFitting t shapes) (λ violation. IsFirstFlatteningViolation t shapes violation.0 violation.1)
 all_first t shapes i None past most f = λ rule node h.
     let k = rule_listed t shapes rule node h in
@@ -190,7 +195,7 @@ all_first t shapes i (Some one) past most f = record {
       f.first k.0 node (let b = k.1 in omega (arith, b, past)) lower (subst (λ z. ViolatesFlattening t shapes z node) (sym k.2) h);
 }
   where
-    earlier_place : (k : ℕ) → k < 8 → number (rule_at k) < number one.1 → k < f.place
+    earlier_place : (k : ℕ) → k < 9 → number (rule_at k) < number one.1 → k < f.place
     earlier_place k l lower = by (cases_lt k f.place)
       where
         by : (k < f.place) ⊎ (f.place ≤ k) → k < f.place

@@ -1,13 +1,14 @@
--- A path has a last connection.
+-- A path has a last connection, and the path by which an output feeds an input is one of connections.
 use Rattle.std.proofs.Common.{◌≡◌, ◌⊎◌, List, [], ◌∷◌, refl, subst, inl, inr, All}
 use Rattle.std.proofs.lemmas.List.Elements.{All-head, All-tail, All-nil, All-cons}
 use Rattle.value_types.specs.declared.shape.Shape.{Shape}
 use Rattle.dependency_order.specs.Graph.{Leads}
 use Rattle.dependency_order.specs.Paths.{Reaches}
+use Rattle.parameter_values.specs.declared.change.Change.{Change}
 use Rattle.ssd_tree.specs.declared.tree.Connection.{Connection}
 use Rattle.ssd_tree.specs.declared.tree.SystemTree.{SystemTree}
 use Rattle.flatten.specs.Points.{Point, IsOfSystem}
-use Rattle.flatten.specs.Paths.{Joins, Feeds, EndsBy}
+use Rattle.flatten.specs.Paths.{Joins, LeadsBy, Feeds, EndsBy}
 
 module _ {A : Type 0} (Link : A → A → Type 0) (Through : A → Type 0) where
   -- the last link of a path, and the path up to it
@@ -29,15 +30,23 @@ module _ {A : Type 0} (Link : A → A → Type 0) (Through : A → Type 0) where
   pub last_of : (a b : A) → Reaches Link Through a b → HasLast a b
   last_of a b path = last_link a path.between b path.through path.leads
 
+-- connections one after the other make a path
+pub reaches_by : (t : SystemTree) (shapes : List Shape) (p : Point) (ks : List Connection) (q : Point) → LeadsBy t shapes p ks q → Reaches (Joins t shapes) (IsOfSystem t) p q
+reaches_by t shapes p [] q h = absurd h
+reaches_by t shapes p (k ∷ []) q h = record { between = []; through = All-nil (IsOfSystem t); leads = (k, h) }
+reaches_by t shapes p (k ∷ (l ∷ ks)) q h =
+    let more : Reaches (Joins t shapes) (IsOfSystem t) h.0 q = reaches_by t shapes h.0 (l ∷ ks) q h.3 in
+    record { between = h.0 ∷ more.between; through = All-cons (IsOfSystem t) h.0 more.between h.2 more.through; leads = ((k, h.1), more.leads) }
+
 -- the last connection of the path by which an output feeds an input
-pub record EndsAt (t : SystemTree) (shapes : List Shape) (p q : Point) (feeds : Feeds t shapes p q) : Type 0 where
+pub record EndsAt (t : SystemTree) (shapes : List Shape) (p : Point) (changes : List Change) (q : Point) (feeds : Feeds t shapes p changes q) : Type 0 where
   pub connection : Connection
   pub start : Point
   pub ends : EndsBy t shapes connection p start q feeds.output feeds.input
 
-pub ends_at : (t : SystemTree) (shapes : List Shape) (p q : Point) (feeds : Feeds t shapes p q) → EndsAt t shapes p q feeds
-ends_at t shapes p q feeds =
-    let last = last_of (Joins t shapes) (IsOfSystem t) p q feeds.path in
+pub ends_at : (t : SystemTree) (shapes : List Shape) (p : Point) (changes : List Change) (q : Point) (feeds : Feeds t shapes p changes q) → EndsAt t shapes p changes q feeds
+ends_at t shapes p changes q feeds =
+    let last = last_of (Joins t shapes) (IsOfSystem t) p q (reaches_by t shapes p feeds.path q feeds.leads) in
     record {
       connection = last.link.0;
       start = last.start;

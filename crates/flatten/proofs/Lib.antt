@@ -1,5 +1,8 @@
+pub mod AloneLemmas
+pub mod AlongLemmas
 pub mod AnswerLemmas
 pub mod BridgeLemmas
+pub mod ChangeLemmas
 pub mod ClockLemmas
 pub mod ComponentLemmas
 pub mod ConnectorLemmas
@@ -7,6 +10,7 @@ pub mod CountLemmas
 pub mod EndLemmas
 pub mod FeedLemmas
 pub mod FirstLemmas
+pub mod JoinedLemmas
 pub mod LabelLemmas
 pub mod LastLemmas
 pub mod LeastLemmas
@@ -23,5 +27,8 @@ pub mod RuleLemmas
 pub mod SameLemmas
 pub mod SoundLemmas
 pub mod StandsLemmas
+pub mod TreeForLemmas
+pub mod TurnedLemmas
 pub mod UnsavedLemmas
+pub mod WayLemmas
 pub mod WholeLemmas

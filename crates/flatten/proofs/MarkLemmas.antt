@@ -1,12 +1,12 @@
 -- Marks of connectors, one after another, and what leads up to marked ones.
-use Rattle.std.proofs.Common.{◌≡◌, ◌⊎◌, ◌↔◌, ℕ, ◌+◌, ◌<◌, ◌≤◌, Bool, true, false, List, [], ◌∷◌, ◌++◌, length, get_or, map, Option, Some, None, refl, sym, ap, ◌∙◌, subst, inl, inr, arith}
+use Rattle.std.proofs.Common.{◌≡◌, ◌≢◌, ◌⊎◌, ◌↔◌, ℕ, ◌+◌, ◌<◌, ◌≤◌, Bool, true, false, List, [], ◌∷◌, ◌++◌, length, get_or, map, Option, Some, None, Result, Ok, Err, IfOk, refl, sym, ap, ◌∙◌, subst, inl, inr, arith}
 use Rattle.std.specs.List.{All, Contains, slice_get}
 use Rattle.std.specs.Option.{IsSome, IsSomeAnd}
 use Rattle.std.proofs.lemmas.Bool.{cases_lt, false≢true}
 use Rattle.std.proofs.lemmas.List.{get_or_append_left, get_or_push, get_or_past, length_push}
 use Rattle.std.proofs.lemmas.List.Elements.{All-from_get_or, Contains-get_or, Contains-push, Contains-push_cases, Contains-append_left}
 use Rattle.dependency_order.specs.Paths.{IsMarked}
-use Rattle.value_types.specs.declared.shape.Causality.TheVariants.{Output}
+use Rattle.value_types.specs.declared.shape.Causality.TheVariants.{Input, Output}
 use Rattle.value_types.specs.declared.shape.Variable.{Variable}
 use Rattle.value_types.specs.declared.shape.Shape.{Shape}
 use Rattle.value_types.specs.declared.joint.Class.{Class}
@@ -19,7 +19,7 @@ use Rattle.flatten.specs.Paths.{Leads, LeadsUpTo}
 use Rattle.flatten.specs.Rules.{class_at}
 use Rattle.flatten.specs.Given.{AreShapesOf}
 use Rattle.flatten.specs.Indexed.{AreNumbered, ends_of}
-use Rattle.flatten.specs.Marks.{AreLedTo, AreMarked, AreShared, IsLedTo, IsOfClass, NamesOutput}
+use Rattle.flatten.specs.Marks.{AreLedTo, AreMarked, AreShared, IsInputBeside, IsLedTo, IsOfClass, NamesOutput}
 use Rattle.flatten.proofs.BridgeLemmas.{FindsFrom, finds_from, point_at, point_within}
 use Rattle.flatten.proofs.PathLemmas.{system_itself, itself_there, one_variable}
 
@@ -88,6 +88,11 @@ listed_within marks all n len lists =
 -- it is a start, or a System's that something was found for
 abbrev pub IsFound : SystemTree → List Bool → List (Option ℕ) → ℕ → Type 0
 IsFound t starts found c = IsMarked starts c ⊎ (IsOfSystem t (Itself c) × IsSome (get_or found c None))
+
+-- what holds of a value holds otherwise too
+pub if_ok : {X E : Type 0} (P Q : X → Type 0) (r : Result X E) → ((x : X) → P x → Q x) → IfOk r P → IfOk r Q
+if_ok P Q (Ok x) f h = f x h
+if_ok P Q (Err e) f h = tt
 
 module _ (t : SystemTree) (shapes : List Shape) (points : List paths.Point) (sound : AreShapesOf t shapes) (are : AreNumbered t shapes points) where
   module _ (connections : List joints.Connection) (ends : connections ≡ map ends_of t.connections) (starts : List Bool) (begins : List ℕ) (found : List (Option ℕ))
@@ -170,3 +175,11 @@ module _ (t : SystemTree) (shapes : List Shape) (points : List paths.Point) (sou
           let one : Itself c ≡ Itself d = sym here ∙ there in
           let same : c ≡ d = cc in
           subst (IsOfClass t shapes class) same (inr passes)
+
+  pub beside_shared : (class : Class) (marks : List Bool) → AreMarked t (IsInputBeside class t shapes) marks → AreShared t shapes marks
+  beside_shared class marks = shared_by (IsInputBeside class t shapes) marks kept
+    where
+      kept : (c d : ℕ) (p : Point) → point_of t shapes c ≡ Some p → point_of t shapes d ≡ Some p → IsInputBeside class t shapes c → IsInputBeside class t shapes d
+      kept c d p e h names =
+          let Q = λ (o : Option Variable). IsSomeAnd o (λ (x : Variable). (x.causality ≡ Input) × (class_at x ≢ Some class)) in
+          subst Q (one_variable t shapes points sound are c d p e h) names

@@ -19,11 +19,12 @@ use Rattle.system_model.specs.declared.system.Feed.{Feed}
 use Rattle.system_model.specs.declared.system.Port.{Port}
 use Rattle.system_model.specs.declared.system.Role.{Role}
 use Rattle.system_model.specs.declared.system.Role.TheVariants.{Input, Output, ClockInput, ClockOutput, TimeClock}
-use Rattle.system_model.specs.Ports.{Label, label_of, source_of}
+use Rattle.system_model.specs.Ports.{Label, label_of, feed_of}
 use Rattle.system_model.specs.Shapes.{IsSoundShape}
 use Rattle.system_model.specs.Sound.{HasSoundPorts, IsRole, IsUnder}
 use Rattle.system_model.proofs.CallerLemmas.{all_at, found_under, IsLabel, labelled}
 use Rattle.port_orders.specs.Outcome.{unordered}
+use Rattle.parameter_values.specs.declared.change.Change.{Change}
 use Rattle.ssd_tree.specs.declared.tree.SystemTree.{SystemTree}
 use Rattle.flatten.specs.declared.ports.PortTable.{PortTable}
 use Rattle.flatten.specs.Points.{Point, OfComponent, variable_at_point}
@@ -47,39 +48,30 @@ zip_map R S f (x ∷ xs) (y ∷ ys) zip = (f x y zip.0, zip_map R S f xs ys zip.
 
 -- ---- sources
 
--- the source of a role is that of its variable
-pub record HasFeed (feed : Option Feed) (q : ℕ) : Type 0 where
-  pub fed : Feed
-  pub is : feed ≡ Some fed
-  pub from : fed.from.0 ≡ q
-
-feed_of : (fed feed : Option Feed) (q : ℕ) → fed ≡ feed → option_map (λ (f : Feed). f.from.0) fed ≡ Some q → HasFeed feed q
-feed_of None feed q same is = absurd (none_some _ is)
-feed_of (Some f) feed q same is = record { fed = f; is = sym same; from = same_Some _ _ is }
-
-source_feed : (shape : Shape) (x : Variable) (feed : Option Feed) (role : Role) (q : ℕ) → IsSourceWith shape x feed role → source_of role ≡ Some q → HasFeed feed q
-source_feed shape x feed (Input fed) q same is = feed_of fed feed q same is
-source_feed shape x feed Output q same is = absurd (none_some _ is)
-source_feed shape x feed (ClockInput fed) q same is = feed_of fed feed q same is
-source_feed shape x feed ClockOutput q same is = absurd (none_some _ is)
-source_feed shape x feed (TimeClock timing) q same is = absurd (none_some _ is)
+-- what feeds a role is what feeds its variable
+source_feed : (shape : Shape) (x : Variable) (feed : Option Feed) (role : Role) (f : Feed) → IsSourceWith shape x feed role → feed_of role ≡ Some f → feed ≡ Some f
+source_feed shape x feed (Input fed) f same is = sym same ∙ is
+source_feed shape x feed Output f same is = absurd (none_some _ is)
+source_feed shape x feed (ClockInput fed) f same is = sym same ∙ is
+source_feed shape x feed ClockOutput f same is = absurd (none_some _ is)
+source_feed shape x feed (TimeClock timing) f same is = absurd (none_some _ is)
 
 apart : c.Input ≡ c.Output → ⊥
 apart e = cc
 
 feed_source : (shape : Shape) (x : Variable) (feed : Option Feed) (role : Role) (f : Feed) → IsRole shape x role → IsSourceWith shape x feed role → x.causality ≡ c.Input
-    → (IsSomeAnd (timing_at shape.clocks x.reference) (λ (clock : ClockTiming). clock.variability ≡ Triggered → ⊥) → ⊥) → feed ≡ Some f → source_of role ≡ Some f.from.0
-feed_source shape x feed (Input fed) f role same input unfed is = ap (option_map (λ (g : Feed). g.from.0)) (same ∙ is)
+    → (IsSomeAnd (timing_at shape.clocks x.reference) (λ (clock : ClockTiming). clock.variability ≡ Triggered → ⊥) → ⊥) → feed ≡ Some f → feed_of role ≡ Some f
+feed_source shape x feed (Input fed) f role same input unfed is = same ∙ is
 feed_source shape x feed Output f role same input unfed is = absurd (apart (sym input ∙ role.0))
-feed_source shape x feed (ClockInput fed) f role same input unfed is = ap (option_map (λ (g : Feed). g.from.0)) (same ∙ is)
+feed_source shape x feed (ClockInput fed) f role same input unfed is = same ∙ is
 feed_source shape x feed ClockOutput f role same input unfed is = absurd (apart (sym input ∙ role.0))
 feed_source shape x feed (TimeClock timing) f role same input unfed is = absurd (unfed same)
 
 -- a time-based Clock isn't fed where no rule is broken
-unfed_clock : (t : SystemTree) (shapes : List Shape) → IsFitting t shapes → (p : Point) (i r : ℕ) → Feeds t shapes p (OfComponent i r) → (shape : Shape) → slice_get shapes i ≡ Some shape
+unfed_clock : (t : SystemTree) (shapes : List Shape) → IsFitting t shapes → (p : Point) (changes : List Change) (i r : ℕ) → Feeds t shapes p changes (OfComponent i r) → (shape : Shape) → slice_get shapes i ≡ Some shape
     → IsSomeAnd (timing_at shape.clocks r) (λ (clock : ClockTiming). clock.variability ≡ Triggered → ⊥) → ⊥
-unfed_clock t shapes fitting p i r feeds shape of timed =
-    let end = ends_at t shapes p (OfComponent i r) feeds in
+unfed_clock t shapes fitting p changes i r feeds shape of timed =
+    let end = ends_at t shapes p changes (OfComponent i r) feeds in
     fitting (Flattening FedClock) end.connection.node (
       end.connection,
       refl,
@@ -206,15 +198,15 @@ module _ (t : SystemTree) (shapes : List Shape) (table : PortTable) (ports : Lis
     point = ap (OfComponent port.component.0) m.reference;
   }
 
-  fed_by : (p q : ℕ) (target : Port) → slice_get ports p ≡ Some target → source_of target.role ≡ Some q → IsSomeAnd (slice_get ports q) (λ (source : Port). Feeds t shapes (point_of_port source) (point_of_port target))
-  fed_by p q target at source =
+  fed_by : (p : ℕ) (target : Port) (feed : Feed) → slice_get ports p ≡ Some target → feed_of target.role ≡ Some feed
+      → IsSomeAnd (slice_get ports feed.from.0) (λ (source : Port). Feeds t shapes (point_of_port source) feed.changes (point_of_port target))
+  fed_by p target feed at source =
       let m = made_at p target at in
-      let feed = source_feed m.1.shape m.1.variable m.1.feed target.role q m.1.source source in
       let n = begin_of shapes target.component.0 + m.0 in
-      let fed : slice_get table.feeds.items n ≡ Some (Some feed.fed) = m.1.fed ∙ ap Some feed.is in
-      let from = is.feeds.none n feed.fed fed in
-      let y = element_there (all_variables shapes) from.0 (omega (arith, slice_get_within table.numbers.items from.0 (Some feed.fed.from) from.1, is.numbers.len)) in
-      let is_number = numbered_port shapes from.0 y.0 feed.fed.from (same_Some _ _ (sym (is.numbers.each from.0 y.0 y.1) ∙ from.1)) in
+      let fed : slice_get table.feeds.items n ≡ Some (Some feed) = m.1.fed ∙ ap Some (source_feed m.1.shape m.1.variable m.1.feed target.role feed m.1.source source) in
+      let from = is.feeds.none n feed fed in
+      let y = element_there (all_variables shapes) from.0 (omega (arith, slice_get_within table.numbers.items from.0 (Some feed.from) from.1, is.numbers.len)) in
+      let is_number = numbered_port shapes from.0 y.0 feed.from (same_Some _ _ (sym (is.numbers.each from.0 y.0 y.1) ∙ from.1)) in
       let stands : Numbered shapes from.0 y.0 = numbered shapes from.0 y.0 y.1 in
       let found : Found stands.component stands.place y.0 = port_found stands.component stands.shape stands.place y.0 stands.of stands.at is_number.0 in
       let number : IsNumberOf shapes from.0 (point_of_port found.port) = record {
@@ -227,31 +219,32 @@ module _ (t : SystemTree) (shapes : List Shape) (table : PortTable) (ports : Lis
         number = stands.number;
         point = ap (λ k. OfComponent k found.port.reference) found.component ∙ ap (OfComponent stands.component) found.reference;
       } in
-      let feeds = (is.feeds.each from.0 n (point_of_port found.port) (point_of_port target) feed.fed.from number (number_of_port target m.0 m.1) from.1).0 fed in
-      let from_is : feed.fed.from.0 ≡ ports_before shapes (begin_of shapes stands.component + stands.place) = is_number.1 ∙ ap (ports_before shapes) stands.number in
-      let place : q ≡ ports_before shapes (begin_of shapes stands.component + stands.place) = sym feed.from ∙ from_is in
-      let there : slice_get ports q ≡ Some found.port = ap (slice_get ports) place ∙ found.at in
-      some_at (slice_get ports q) (λ (source : Port). Feeds t shapes (point_of_port source) (point_of_port target)) found.port there feeds
+      let feeds = (is.feeds.each from.0 n (point_of_port found.port) (point_of_port target) feed number (number_of_port target m.0 m.1) from.1).0 fed in
+      let from_is : feed.from.0 ≡ ports_before shapes (begin_of shapes stands.component + stands.place) = is_number.1 ∙ ap (ports_before shapes) stands.number in
+      let there : slice_get ports feed.from.0 ≡ Some found.port = ap (slice_get ports) from_is ∙ found.at in
+      some_at (slice_get ports feed.from.0) (λ (source : Port). Feeds t shapes (point_of_port source) feed.changes (point_of_port target)) found.port there feeds
 
-  feeds_it : IsFitting t shapes → (p q : ℕ) (target : Port) → slice_get ports p ≡ Some target → IsSomeAnd (slice_get ports q) (λ (source : Port). Feeds t shapes (point_of_port source) (point_of_port target)) → source_of target.role ≡ Some q
-  feeds_it fitting p q target at some =
-      let source = some_of (slice_get ports q) (λ (source : Port). Feeds t shapes (point_of_port source) (point_of_port target)) some in
-      let feeds : Feeds t shapes (point_of_port source.0) (point_of_port target) = source.2 in
+  feeds_it : IsFitting t shapes → (p : ℕ) (target : Port) (feed : Feed) → slice_get ports p ≡ Some target
+      → IsSomeAnd (slice_get ports feed.from.0) (λ (source : Port). Feeds t shapes (point_of_port source) feed.changes (point_of_port target)) → feed_of target.role ≡ Some feed
+  feeds_it fitting p target feed at some =
+      let source = some_of (slice_get ports feed.from.0) (λ (source : Port). Feeds t shapes (point_of_port source) feed.changes (point_of_port target)) some in
+      let feeds : Feeds t shapes (point_of_port source.0) feed.changes (point_of_port target) = source.2 in
       let m = made_at p target at in
-      let o = made_at q source.0 source.1 in
+      let o = made_at feed.from.0 source.0 source.1 in
       let k = begin_of shapes source.0.component.0 + o.0 in
       let n = begin_of shapes target.component.0 + m.0 in
       let there = variable_at_number shapes source.0.component.0 o.1.shape o.0 o.1.variable o.1.of o.1.at in
-      let number : slice_get table.numbers.items k ≡ Some (Some (as_port (ports_before shapes k))) = is.numbers.each k o.1.variable there ∙ ap Some (port_numbered shapes k o.1.variable o.1.is) in
-      let fed = (is.feeds.each k n (point_of_port source.0) (point_of_port target) (as_port (ports_before shapes k)) (number_of_port source.0 o.0 o.1) (number_of_port target m.0 m.1) number).1 feeds in
-      let feed : m.1.feed ≡ Some (record { from = as_port (ports_before shapes k) }) = same_Some _ _ (sym m.1.fed ∙ fed) in
+      let here : as_port (ports_before shapes k) ≡ feed.from = ap as_port (sym (place_of feed.from.0 source.0 source.1 o.0 o.1)) in
+      let number : slice_get table.numbers.items k ≡ Some (Some feed.from) =
+      is.numbers.each k o.1.variable there ∙ ap Some (port_numbered shapes k o.1.variable o.1.is) ∙ ap (λ (z : PortId). Some (Some z)) here in
+      let fed = (is.feeds.each k n (point_of_port source.0) (point_of_port target) feed (number_of_port source.0 o.0 o.1) (number_of_port target m.0 m.1) number).1 feeds in
+      let feed_is : m.1.feed ≡ Some feed = same_Some _ _ (sym m.1.fed ∙ fed) in
       let own : variable_at_point shapes (point_of_port target) ≡ Some m.1.variable =
       ap (option_and_then (λ (s : Shape). variable_at s.variables target.reference)) m.1.of ∙ own_variable target m.0 m.1 in
       let input : m.1.variable.causality ≡ c.Input = ap (λ (v : Variable). v.causality) (same_Some _ _ (sym own ∙ feeds.to.0)) ∙ feeds.to.1 in
-      feed_source m.1.shape m.1.variable m.1.feed target.role (record { from = as_port (ports_before shapes k) }) m.1.role m.1.source input
-      (λ timed. unfed_clock t shapes fitting (point_of_port source.0) target.component.0 target.reference feeds m.1.shape m.1.of
-      (subst (λ r. IsSomeAnd (timing_at m.1.shape.clocks r) (λ (clock : ClockTiming). clock.variability ≡ Triggered → ⊥)) (sym m.1.reference) timed)) feed
-      ∙ ap Some (sym (place_of q source.0 source.1 o.0 o.1))
+      feed_source m.1.shape m.1.variable m.1.feed target.role feed m.1.role m.1.source input
+      (λ timed. unfed_clock t shapes fitting (point_of_port source.0) feed.changes target.component.0 target.reference feeds m.1.shape m.1.of
+      (subst (λ r. IsSomeAnd (timing_at m.1.shape.clocks r) (λ (clock : ClockTiming). clock.variability ≡ Triggered → ⊥)) (sym m.1.reference) timed)) feed_is
 
   pub has_feeds : IsFitting t shapes → HasFeeds t shapes ports
-  has_feeds fitting = λ p q target at. (fed_by p q target at, feeds_it fitting p q target at)
+  has_feeds fitting = λ p target feed at. (fed_by p target feed at, feeds_it fitting p target feed at)

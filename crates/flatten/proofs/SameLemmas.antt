@@ -27,7 +27,7 @@ use Rattle.system_model.specs.declared.system.Timing.{Timing}
 use Rattle.system_model.specs.declared.system.Timing.TheVariants.{Periodic, Answered, Countdown, Changing}
 use Rattle.system_model.specs.declared.system.System.{System}
 use Rattle.system_model.specs.Needs.{DependsOn, Needs, NeedsInitially, ByFeed, ByClock, ByDependency, InitiallyByFeed, InitiallyByDependency, is_unclocked_at}
-use Rattle.system_model.specs.Ports.{Label, label_of, labels_from, numbers, source_of}
+use Rattle.system_model.specs.Ports.{Label, label_of, labels_from, numbers, feed_of}
 use Rattle.system_model.specs.Shapes.{is_described}
 use Rattle.system_model.specs.Sound.{IsRole, IsTiming, IsUnder}
 use Rattle.system_model.proofs.CallerLemmas.{true_false, labels_apart, Placed}
@@ -133,15 +133,10 @@ untimed : (per_second : ℕ) (o : Option ClockTiming) (t : Timing) → IsSomeAnd
 untimed per_second None t a b = a
 untimed per_second (Some clock) t a b = untimed_at per_second clock t a b
 
-same_feed : (f g : Feed) → f.from.0 ≡ g.from.0 → f ≡ g
-same_feed f g e = λ i. record { from = record { 0 = e i } }
-
-same_fed : (f g : Option Feed) → ((q : ℕ) → option_map (λ (k : Feed). k.from.0) f ≡ Some q → option_map (λ (k : Feed). k.from.0) g ≡ Some q)
-    → ((q : ℕ) → option_map (λ (k : Feed). k.from.0) g ≡ Some q → option_map (λ (k : Feed). k.from.0) f ≡ Some q) → f ≡ g
+same_fed : (f g : Option Feed) → ((h : Feed) → f ≡ Some h → g ≡ Some h) → ((h : Feed) → g ≡ Some h → f ≡ Some h) → f ≡ g
 same_fed None None to from = refl
-same_fed None (Some g) to from = absurd (none_some _ (from g.from.0 refl))
-same_fed (Some f) None to from = absurd (none_some _ (to f.from.0 refl))
-same_fed (Some f) (Some g) to from = ap Some (same_feed f g (same_Some _ _ (from g.from.0 refl)))
+same_fed None (Some g) to from = absurd (none_some _ (from g refl))
+same_fed (Some f) g to from = sym (to f refl)
 
 two_causalities : (x : Variable) → x.causality ≡ c.Input → x.causality ≡ c.Output → ⊥
 two_causalities x input output = let e : c.Input ≡ c.Output = sym input ∙ output in cc
@@ -149,7 +144,7 @@ two_causalities x input output = let e : c.Input ≡ c.Output = sym input ∙ ou
 two_tests : (b : Bool) → b ≡ true → b ≡ false → ⊥
 two_tests b here other = true_false (sym here ∙ other)
 
-same_role : (shape : Shape) (x : Variable) (r s : Role) → IsRole shape x r → IsRole shape x s → ((q : ℕ) → source_of r ≡ Some q → source_of s ≡ Some q) → ((q : ℕ) → source_of s ≡ Some q → source_of r ≡ Some q) → r ≡ s
+same_role : (shape : Shape) (x : Variable) (r s : Role) → IsRole shape x r → IsRole shape x s → ((f : Feed) → feed_of r ≡ Some f → feed_of s ≡ Some f) → ((f : Feed) → feed_of s ≡ Some f → feed_of r ≡ Some f) → r ≡ s
 same_role shape x (Input f) (Input g) is_r is_s to from = ap Input (same_fed f g to from)
 same_role shape x (Input f) Output is_r is_s to from = absurd (two_causalities x is_r.0 is_s.0)
 same_role shape x (Input f) (ClockInput g) is_r is_s to from = absurd (two_tests (is_clock x) is_s.1 is_r.1)
@@ -232,14 +227,15 @@ module _ (t : SystemTree) (shapes : List Shape) (a b : System) (given : AreShape
       (record { component = x.2.0 ∙ sym y.2.0; reference = x.2.1 ∙ sym y.2.1 }))
 
   -- what feeds a port of the one feeds that of the other
-  same_source : (p q : ℕ) (x y : Port) → slice_get a.ports p ≡ Some x → slice_get b.ports p ≡ Some y → source_of x.role ≡ Some q → source_of y.role ≡ Some q
-  same_source p q x y at_x at_y fed =
-      let source = some_of (slice_get a.ports q) (λ (s : Port). Feeds t shapes (point_of_port s) (point_of_port x)) ((is_a.feeds p q x at_x).0 fed) in
+  same_source : (p : ℕ) (feed : Feed) (x y : Port) → slice_get a.ports p ≡ Some x → slice_get b.ports p ≡ Some y → feed_of x.role ≡ Some feed → feed_of y.role ≡ Some feed
+  same_source p feed x y at_x at_y fed =
+      let q = feed.from.0 in
+      let source = some_of (slice_get a.ports q) (λ (s : Port). Feeds t shapes (point_of_port s) feed.changes (point_of_port x)) ((is_a.feeds p x feed at_x).0 fed) in
       let other = other_port q source.0 source.1 in
       let from : point_of_port source.0 ≡ point_of_port other.0 = ap (λ (z : Label). OfComponent z.component z.reference) (same_label q source.0 other.0 source.1 other.1) in
       let to : point_of_port x ≡ point_of_port y = ap (λ (z : Label). OfComponent z.component z.reference) (same_label p x y at_x at_y) in
-      (is_b.feeds p q y at_y).1 (some_at (slice_get b.ports q) (λ (s : Port). Feeds t shapes (point_of_port s) (point_of_port y)) other.0 other.1
-      (subst (λ z. Feeds t shapes (point_of_port other.0) z) to (subst (λ z. Feeds t shapes z (point_of_port x)) from source.2)))
+      (is_b.feeds p y feed at_y).1 (some_at (slice_get b.ports q) (λ (s : Port). Feeds t shapes (point_of_port s) feed.changes (point_of_port y)) other.0 other.1
+      (subst (λ z. Feeds t shapes (point_of_port other.0) feed.changes z) to (subst (λ z. Feeds t shapes z feed.changes (point_of_port x)) from source.2)))
 
 same_port_at : (t : SystemTree) (shapes : List Shape) (a b : System) → AreShapesOf t shapes → IsFlat t shapes a → IsFlat t shapes b
     → (p : ℕ) (x y : Port) → slice_get a.ports p ≡ Some x → slice_get b.ports p ≡ Some y → x ≡ y
@@ -258,8 +254,8 @@ same_port_at t shapes a b given is_a is_b p x y at_x at_y =
     let clocks_b : AllZip (IsUnder b i) l.variable.clocks y.clocks = subst (λ (z : Label). AllZip (IsUnder b z.component) l.variable.clocks y.clocks) (sym label) (is_b.ports.clocks p y l.component l.variable l.is) in
     same_port x y label
     (same_role l.component.shape l.variable x.role y.role role l.role
-    (λ q. same_source t shapes a b given is_a is_b p q x y at_x at_y)
-    (λ q. same_source t shapes b a given is_b is_a p q y x at_y at_x))
+    (λ f. same_source t shapes a b given is_a is_b p f x y at_x at_y)
+    (λ f. same_source t shapes b a given is_b is_a p f y x at_y at_x))
     (zip_same (IsUnder a i) (IsUnder b i) (λ r u w. one_under t shapes a b given is_a is_b i r u w) l.variable.clocks x.clocks y.clocks clocks_a clocks_b)
 
 pub same_parts : (t : SystemTree) (shapes : List Shape) (a b : System) → AreShapesOf t shapes → IsFlat t shapes a → IsFlat t shapes b → (a.components ≡ b.components) × (a.ports ≡ b.ports)

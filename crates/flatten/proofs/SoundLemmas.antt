@@ -7,25 +7,28 @@ use Rattle.std.specs.List.{AllZip}
 use Rattle.std.specs.Option.{option_map, option_and_then}
 use Rattle.std.proofs.lemmas.Option.{none-some as none_some, same_Some, slice_get_within, slice_get-map}
 use Rattle.sim_base.specs.declared.numbers.PortId.{PortId}
-use Rattle.value_types.specs.Joint.{Joins, IsWithin, class_of}
+use Rattle.value_types.specs.Joint.{IsWithin, class_of}
 use Rattle.value_types.specs.Values.{greatest_of, least_of}
 use Rattle.value_types.specs.Shape.{variable_at}
 use Rattle.value_types.specs.declared.joint.Class.{Class}
 use Rattle.value_types.specs.declared.joint.Class.TheVariants as class
-use Rattle.value_types.specs.declared.joint.Joint.TheVariants.{Fit}
 use Rattle.value_types.specs.declared.values.PortType.{PortType}
 use Rattle.value_types.specs.declared.shape.Causality.TheVariants as c
 use Rattle.value_types.specs.declared.shape.Variable.{Variable}
 use Rattle.value_types.specs.declared.shape.Shape.{Shape}
 use Rattle.doc_tree.specs.declared.rule.Rule.TheVariants.{Flattening, SavesNoState}
-use Rattle.doc_tree.specs.declared.rule.FlatteningRule.TheVariants.{OtherClass, TooWide}
+use Rattle.doc_tree.specs.declared.rule.FlatteningRule.TheVariants.{OtherClass, TooWide, OtherChange}
+use Rattle.parameter_values.specs.declared.change.Change.{Change}
+use Rattle.parameter_values.specs.declared.change.Change.TheVariants as change
+use Rattle.system_model.specs.Carried.{IsOn}
 use Rattle.system_model.specs.EarlyReturn.{early_count}
 use Rattle.system_model.specs.declared.system.Component.{Component}
+use Rattle.system_model.specs.declared.system.Feed.{Feed}
 use Rattle.system_model.specs.declared.system.Port.{Port}
 use Rattle.system_model.specs.declared.system.Role.{Role}
 use Rattle.system_model.specs.declared.system.Role.TheVariants.{Input, Output, ClockInput, ClockOutput, TimeClock}
 use Rattle.system_model.specs.declared.system.System.{System}
-use Rattle.system_model.specs.Ports.{label_of, labels_from, source_of, is_output_role}
+use Rattle.system_model.specs.Ports.{label_of, labels_from, feed_of, source_of, is_output_role}
 use Rattle.system_model.specs.Shapes.{IsSoundShape}
 use Rattle.system_model.specs.Sound.{HasSoundComponents, HasSoundFeeds, HasSoundPorts, IsFeed, IsPort, IsRole, IsSound, IsUnder}
 use Rattle.system_model.proofs.CallerLemmas.{Early, all_at, all_by_place, counts_two, found_under, two_early, Labels, label_found, Placed}
@@ -34,10 +37,11 @@ use Rattle.port_orders.specs.Placed.{ArePlaced, IsPlaced}
 use Rattle.ssd_tree.specs.declared.tree.ComponentPart.{ComponentPart}
 use Rattle.ssd_tree.specs.declared.tree.SystemTree.{SystemTree}
 use Rattle.flatten.specs.Points.{Point, variable_at_point}
-use Rattle.flatten.specs.Paths.{Feeds}
-use Rattle.flatten.specs.Rules.{IsFitting}
+use Rattle.flatten.specs.Paths.{Feeds, plain}
+use Rattle.flatten.specs.Rules.{IsFitting, Suits}
 use Rattle.flatten.specs.Flat.{AreComponentsOf, Flattens, IsFlat, point_of_port}
 use Rattle.flatten.specs.Given.{AreShapesOf, IsWholeTree}
+use Rattle.flatten.proofs.AlongLemmas.{along, plain_feeds, plain_input, plain_output}
 use Rattle.flatten.proofs.LastLemmas.{EndsAt, ends_at}
 use Rattle.flatten.proofs.RoleLemmas.{some_at, some_of}
 
@@ -186,72 +190,106 @@ class_if class.Clock class.Boolean h = absurd (h (λ e. cc))
 class_if class.Clock class.Enumeration h = absurd (h (λ e. cc))
 class_if class.Clock class.Clock h = refl
 
+suits_if : (c : Class) (change : Change) → ((IsOn c change → ⊥) → ⊥) → IsOn c change
+suits_if c (change.Linear factor offset) h = class_if c class.Integer (λ no. h (λ e. no (ap Some e)))
+suits_if c (change.Integers pairs) h = class_if c class.Integer (λ no. h (λ e. no (ap Some e)))
+suits_if c (change.Booleans pairs) h = class_if c class.Boolean (λ no. h (λ e. no (ap Some e)))
+
 some_kind : (P : PortType → Type 0) (o : Option PortType) (kind : PortType) → o ≡ Some kind → P kind → IsSomeAnd o P
 some_kind P o kind e h = subst (λ z. IsSomeAnd z P) (sym e) h
 
-fit : (t : SystemTree) (shapes : List Shape) → IsFitting t shapes → (p q : Point) (feeds : Feeds t shapes p q) (from to : PortType) → feeds.output.kind ≡ Some from → feeds.input.kind ≡ Some to → Joins from to Fit
-fit t shapes fitting p q feeds from to output input =
-    let end : EndsAt t shapes p q feeds = ends_at t shapes p q feeds in
-    let same : class_of from ≡ class_of to = class_if (class_of from) (class_of to) (λ other.
-    fitting (Flattening OtherClass) end.connection.node (inr (
-      end.connection,
-      refl,
-      (
-        p,
+-- where no rule is broken, what feeds an input is of its class, its changes are for that class, and without any its values are values of the input
+module _ (t : SystemTree) (shapes : List Shape) (fitting : IsFitting t shapes) (p : Point) (changes : List Change) (q : Point) (feeds : Feeds t shapes p changes q)
+    (from to : PortType) (output : feeds.output.kind ≡ Some from) (input : feeds.input.kind ≡ Some to) where
+  one_class : class_of from ≡ class_of to
+  one_class =
+      let end : EndsAt t shapes p changes q feeds = ends_at t shapes p changes q feeds in
+      class_if (class_of from) (class_of to) (λ other.
+      fitting (Flattening OtherClass) end.connection.node (inr (
+        end.connection,
+        refl,
         (
-          end.start,
+          p,
           (
-            q,
+            end.start,
             (
-              feeds.output,
+              q,
               (
-                feeds.input,
-                end.ends,
-                inr (inl (λ e. other (sym (ap (option_map class_of) output) ∙ e ∙ ap (option_map class_of) input))),
+                feeds.output,
+                (
+                  feeds.input,
+                  end.ends,
+                  inr (inl (λ e. other (sym (ap (option_map class_of) output) ∙ e ∙ ap (option_map class_of) input))),
+                ),
               ),
             ),
           ),
         ),
-      ),
-    ))) in
-    let within : IsWithin from to = within_if from to (λ wide.
-    fitting (Flattening TooWide) end.connection.node (
-      end.connection,
-      refl,
-      (
-        p,
+      )))
+
+  in_range : changes ≡ [] → IsWithin from to
+  in_range none =
+      let flat : Feeds (plain t) shapes p changes q = plain_feeds t shapes p changes q feeds none in
+      let out : flat.output.kind ≡ Some from = ap (λ (v : Variable). v.kind) (plain_output t shapes p changes q feeds none) ∙ output in
+      let inp : flat.input.kind ≡ Some to = ap (λ (v : Variable). v.kind) (plain_input t shapes p changes q feeds none) ∙ input in
+      let end : EndsAt (plain t) shapes p changes q flat = ends_at (plain t) shapes p changes q flat in
+      within_if from to (λ wide.
+      fitting (Flattening TooWide) end.connection.node (
+        end.connection,
+        refl,
         (
-          end.start,
+          p,
           (
-            q,
+            end.start,
             (
-              feeds.output,
+              q,
               (
-                feeds.input,
-                end.ends,
-                some_at feeds.output.kind (λ (a : PortType). IsSomeAnd feeds.input.kind (λ (b : PortType). (class_of a ≡ class_of b) × (IsWithin a b → ⊥))) from output
-                    (some_at feeds.input.kind (λ (b : PortType). (class_of from ≡ class_of b) × (IsWithin from b → ⊥)) to input (same, wide)),
+                flat.output,
+                (
+                  flat.input,
+                  end.ends,
+                  some_at flat.output.kind (λ (a : PortType). IsSomeAnd flat.input.kind (λ (b : PortType). (class_of a ≡ class_of b) × (IsWithin a b → ⊥))) from out
+                      (some_at flat.input.kind (λ (b : PortType). (class_of from ≡ class_of b) × (IsWithin from b → ⊥)) to inp (one_class, wide)),
+                ),
               ),
             ),
           ),
         ),
-      ),
-    ))
-    in (same, within)
+      ))
+
+  suited : All (IsOn (class_of to)) changes
+  suited = along t shapes (IsOn (class_of to)) p changes q feeds (λ k change is among before. suits_if (class_of to) change (λ other.
+      fitting (Flattening OtherChange) k.node (
+        k,
+        among,
+        refl,
+        (
+          change,
+          is,
+          (
+            feeds.input,
+            before,
+            λ suits. other (subst (Suits change) (ap (option_map class_of) input) suits),
+          ),
+        ),
+      )))
 
 pub sound_feeds : (t : SystemTree) (shapes : List Shape) (system : System) → IsFitting t shapes → AreShapesOf t shapes → IsFlat t shapes system → HasSoundFeeds system
-sound_feeds t shapes system fitting given flat = λ p q port at fed.
-    let source = some_of (slice_get system.ports q) (λ (s : Port). Feeds t shapes (point_of_port s) (point_of_port port)) ((flat.feeds p q port at).0 fed) in
-    let feeds : Feeds t shapes (point_of_port source.0) (point_of_port port) = source.2 in
+sound_feeds t shapes system fitting given flat = λ p port feed at fed.
+    let source = some_of (slice_get system.ports feed.from.0) (λ (s : Port). Feeds t shapes (point_of_port s) feed.changes (point_of_port port)) ((flat.feeds p port feed at).0 fed) in
+    let feeds : Feeds t shapes (point_of_port source.0) feed.changes (point_of_port port) = source.2 in
     let sound = component_shapes t shapes system.components given flat.components in
-    let a : Placed system q source.0 = placed_in system sound flat.ports q source.0 source.1 in
+    let a : Placed system feed.from.0 source.0 = placed_in system sound flat.ports feed.from.0 source.0 source.1 in
     let b : Placed system p port = placed_in system sound flat.ports p port at in
-    let output : a.variable ≡ feeds.output = same_Some _ _ (sym (own_variable t shapes system flat.components q source.0 a) ∙ feeds.from.0) in
+    let output : a.variable ≡ feeds.output = same_Some _ _ (sym (own_variable t shapes system flat.components feed.from.0 source.0 a) ∙ feeds.from.0) in
     let input : b.variable ≡ feeds.input = same_Some _ _ (sym (own_variable t shapes system flat.components p port b) ∙ feeds.to.0) in
-    some_at (slice_get system.ports q) (λ (s : Port). IsFeed s port) source.0 source.1 (record {
+    let out_kind : feeds.output.kind ≡ Some source.0.kind = ap (λ (v : Variable). v.kind) (sym output) ∙ a.kind in
+    let in_kind : feeds.input.kind ≡ Some port.kind = ap (λ (v : Variable). v.kind) (sym input) ∙ b.kind in
+    some_at (slice_get system.ports feed.from.0) (λ (s : Port). IsFeed feed s port) source.0 source.1 (record {
       output = output_role a.component.shape a.variable source.0.role a.role (ap (λ (v : Variable). v.causality) output ∙ feeds.from.1);
-      types = fit t shapes fitting (point_of_port source.0) (point_of_port port) feeds source.0.kind port.kind
-          (ap (λ (v : Variable). v.kind) (sym output) ∙ a.kind) (ap (λ (v : Variable). v.kind) (sym input) ∙ b.kind);
+      same_class = one_class t shapes fitting (point_of_port source.0) feed.changes (point_of_port port) feeds source.0.kind port.kind out_kind in_kind;
+      changes = suited t shapes fitting (point_of_port source.0) feed.changes (point_of_port port) feeds source.0.kind port.kind out_kind in_kind;
+      range = in_range t shapes fitting (point_of_port source.0) feed.changes (point_of_port port) feeds source.0.kind port.kind out_kind in_kind;
     })
 
 -- ---- the whole
@@ -274,9 +312,16 @@ zip_right R S f (x ∷ xs) [] zip k y at = absurd zip
 zip_right R S f (x ∷ xs) (z ∷ ys) zip zero y at = subst S (same_Some _ _ at) (f x z zip.0)
 zip_right R S f (x ∷ xs) (z ∷ ys) zip (suc k) y at = zip_right R S f xs ys zip.1 k y at
 
-source_within : (ports : List Port) (o : Option ℕ) → ((q : ℕ) → o ≡ Some q → q < length ports) → IfSome o (λ q. q < length ports)
-source_within ports None h = tt
-source_within ports (Some q) h = h q refl
+feed_within : (ports : List Port) (o : Option Feed) → ((f : Feed) → o ≡ Some f → f.from.0 < length ports) → IfSome (option_map (λ (f : Feed). f.from.0) o) (λ q. q < length ports)
+feed_within ports None h = tt
+feed_within ports (Some f) h = h f refl
+
+source_within : (ports : List Port) (role : Role) → ((f : Feed) → feed_of role ≡ Some f → f.from.0 < length ports) → IfSome (source_of role) (λ q. q < length ports)
+source_within ports (Input feed) h = feed_within ports feed h
+source_within ports Output h = tt
+source_within ports (ClockInput feed) h = feed_within ports feed h
+source_within ports ClockOutput h = tt
+source_within ports (TimeClock timing) h = tt
 
 pub are_placed : (t : SystemTree) (shapes : List Shape) (components : List Component) (ports : List Port) → IsWholeTree t → AreShapesOf t shapes → IsFlat t shapes (unordered components ports) → ArePlaced components ports
 are_placed t shapes components ports whole given flat =
@@ -289,9 +334,9 @@ are_placed t shapes components ports whole given flat =
           let placed : Placed system p port = placed_in system sound flat.ports p port at in
           record {
             component = slice_get_within components port.component.0 placed.component placed.is.of;
-            source = source_within ports (source_of port.role) (λ q fed.
-                let source = some_of (slice_get ports q) (λ (s : Port). Feeds t shapes (point_of_port s) (point_of_port port)) ((flat.feeds p q port at).0 fed) in
-                slice_get_within ports q source.0 source.1);
+            source = source_within ports port.role (λ f fed.
+                let source = some_of (slice_get ports f.from.0) (λ (s : Port). Feeds t shapes (point_of_port s) f.changes (point_of_port port)) ((flat.feeds p port f at).0 fed) in
+                slice_get_within ports f.from.0 source.0 source.1);
             clocks = all_by_place (λ (clock : PortId). clock.0 < length ports) port.clocks (zip_right (IsUnder system port.component.0) (λ (clock : PortId). clock.0 < length ports)
                 (λ r clock u. let there = some_of (slice_get ports clock.0) (λ (o : Port). (o.component.0 ≡ port.component.0) × (o.reference ≡ r)) u in slice_get_within ports clock.0 there.0 there.1)
                 placed.variable.clocks port.clocks (flat.ports.clocks p port placed.component placed.variable placed.is));

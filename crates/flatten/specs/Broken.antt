@@ -12,13 +12,13 @@ use Rattle.dependency_order.specs.Paths.{IsMarked}
 use Rattle.flatten.specs.declared.marks.ClassMarks.{ClassMarks}
 use Rattle.flatten.specs.declared.marks.TypeMarks.{TypeMarks}
 use Rattle.doc_tree.specs.declared.rule.FlatteningRule.{FlatteningRule}
-use Rattle.doc_tree.specs.declared.rule.FlatteningRule.TheVariants.{NoSuchVariable, OtherCausality, OtherClass, EndTwice, TooWide, FedClock}
+use Rattle.doc_tree.specs.declared.rule.FlatteningRule.TheVariants.{NoSuchVariable, OtherCausality, OtherClass, EndTwice, TooWide, FedClock, OtherChange}
 use Rattle.connection_paths.specs.declared.point.Point as paths
 use Rattle.connection_paths.specs.declared.point.Point.TheVariants.{Variable as Numbered, OfSystem}
 use Rattle.ssd_tree.specs.declared.tree.Connector.{Connector}
 use Rattle.ssd_tree.specs.declared.tree.SystemTree.{SystemTree}
 use Rattle.flatten.specs.Points.{Point, is_of_system, variable_of, point_of, IsVariable}
-use Rattle.flatten.specs.Paths.{LeadsUpTo}
+use Rattle.flatten.specs.Paths.{LeadsUpTo, plain}
 use Rattle.flatten.specs.Rules.{PathFault, IsConnectorAt, EndsPath, HasOtherCausality, HasOtherType, IsOtherClass, IsTooWide, IsTimeBased}
 
 -- the connector breaks the rule by itself
@@ -31,6 +31,7 @@ ConnectorBreaks t shapes OtherClass c k = IsSomeAnd (variable_of t shapes c) (Ha
 ConnectorBreaks t shapes EndTwice c k = ⊥
 ConnectorBreaks t shapes TooWide c k = ⊥
 ConnectorBreaks t shapes FedClock c k = ⊥
+ConnectorBreaks t shapes OtherChange c k = ⊥
 
 abbrev pub IsBrokenConnector : SystemTree → List Shape → FlatteningRule → ℕ → Type 0
 IsBrokenConnector t shapes rule node =
@@ -44,9 +45,21 @@ path_fault t shapes OtherClass p s q output input = IsOtherClass t shapes p s q 
 path_fault t shapes EndTwice p s q output input = ⊥
 path_fault t shapes TooWide p s q output input = IsTooWide p s q output input
 path_fault t shapes FedClock p s q output input = IsTimeBased shapes p s q output input
+path_fault t shapes OtherChange p s q output input = ⊥
+
+-- the tree whose paths the rule is about
+abbrev pub tree_for : FlatteningRule → SystemTree → SystemTree
+tree_for NoSuchVariable t = t
+tree_for OtherCausality t = t
+tree_for OtherClass t = t
+tree_for EndTwice t = t
+tree_for TooWide t = plain t
+tree_for FedClock t = t
+tree_for OtherChange t = t
 
 abbrev pub IsBrokenConnection : SystemTree → List Shape → FlatteningRule → ℕ → Type 0
-IsBrokenConnection t shapes rule node = EndsPath (path_fault t shapes rule) t shapes node
+IsBrokenConnection t shapes rule node =
+    EndsPath (path_fault t shapes rule) (tree_for rule t) shapes node
 
 -- ---- one connection, by the connectors that it joins
 

@@ -6,7 +6,11 @@ use Rattle.value_types.specs.declared.shape.Variable.{Variable}
 use Rattle.connection_paths.specs.declared.point.Point as paths
 use Rattle.connection_paths.specs.declared.point.Point.TheVariants.{Variable as Numbered, OfSystem}
 use Rattle.flatten.specs.declared.connectors.FlatTree.{FlatTree}
-use Rattle.flatten.specs.Points.{variable_of}
+use Rattle.ssd_tree.specs.declared.tree.Connection.{Connection}
+use Rattle.system_model.specs.declared.system.Feed.{Feed}
+use Rattle.flatten.specs.Marks.{IsOutputAt}
+use Rattle.flatten.specs.Paths.{LeadsBy, changes_along}
+use Rattle.flatten.specs.Points.{Point, point_of, variable_of}
 
 -- the number of a point that isn't a System's
 abbrev pub number_in : paths.Point → Option ℕ
@@ -25,7 +29,21 @@ HasPort f numbers c port =
     (n : ℕ) × (slice_get f.points.items c ≡ Some (Numbered n)) ×
     (slice_get numbers n ≡ Some (Some port))
 
--- from this port the input of this number is fed, where the source of the connector is the other one
-abbrev pub FeedsFrom : FlatTree → List (Option PortId) → ℕ → ℕ → ℕ → PortId → Type 0
-FeedsFrom f numbers connector source n from =
-    IsInputWith f connector n × HasPort f numbers source from
+-- the point of the connector is fed so: from the port of an output, along a path with these changes
+pub record FeedsFrom (f : FlatTree) (numbers : List (Option PortId)) (connector : ℕ)
+    (feed : Feed) : Type 0 where
+  pub source : ℕ
+  pub from : Point
+  pub to : Point
+  pub path : List Connection
+  pub output : IsOutputAt f.tree.now f.shapes.now source
+  pub port : HasPort f numbers source feed.from
+  pub begins : point_of f.tree.now f.shapes.now source ≡ Some from
+  pub ends : point_of f.tree.now f.shapes.now connector ≡ Some to
+  pub leads : LeadsBy f.tree.now f.shapes.now from path to
+  pub makes : feed.changes ≡ changes_along path
+
+-- what feeds the point of the connector, where an output does
+abbrev pub FindsFeed : FlatTree → List (Option PortId) → ℕ → Option Feed → Type 0
+FindsFeed f numbers connector None = (feed : Feed) → FeedsFrom f numbers connector feed → ⊥
+FindsFeed f numbers connector (Some feed) = FeedsFrom f numbers connector feed

@@ -13,7 +13,7 @@ use Rattle.system_model.specs.declared.system.Port.{Port}
 use Rattle.system_model.specs.declared.system.Role.{Role}
 use Rattle.system_model.specs.declared.system.Role.TheVariants.{Input, Output, ClockInput, ClockOutput, TimeClock}
 use Rattle.system_model.specs.declared.system.System.{System}
-use Rattle.system_model.specs.Ports.{source_of}
+use Rattle.system_model.specs.Ports.{feed_of}
 use Rattle.system_model.specs.Sound.{HasSoundPorts}
 use Rattle.port_orders.specs.Outcome.{HasOrders}
 use Rattle.ssd_tree.specs.declared.tree.ComponentPart.{ComponentPart}
@@ -48,12 +48,13 @@ pub record AreComponentsOf (parts : List ComponentPart) (shapes : List Shape)
 abbrev pub point_of_port : Port → Point
 point_of_port port = OfComponent port.component.0 port.reference
 
--- the port q is the source of p exactly where its output feeds p
+-- a port is fed from another, by these changes, exactly where the output of that feeds it along a path with these changes
 abbrev pub HasFeeds : SystemTree → List Shape → List Port → Type 0
-HasFeeds t shapes ports = (p q : ℕ) (target : Port) → slice_get ports p ≡ Some target →
-    (source_of target.role ≡ Some q) ↔
-    IsSomeAnd (slice_get ports q) (λ (source : Port).
-    Feeds t shapes (point_of_port source) (point_of_port target))
+HasFeeds t shapes ports =
+    (p : ℕ) (target : Port) (feed : Feed) → slice_get ports p ≡ Some target →
+    (feed_of target.role ≡ Some feed) ↔
+    IsSomeAnd (slice_get ports feed.from.0) (λ (source : Port).
+    Feeds t shapes (point_of_port source) feed.changes (point_of_port target))
 
 -- ---- the whole
 

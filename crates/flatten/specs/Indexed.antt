@@ -19,6 +19,7 @@ use Rattle.doc_tables.specs.Places.{found_in}
 use Rattle.doc_tables.specs.Tables.{IsTable}
 use Rattle.flatten.specs.Points.{has_name}
 use Rattle.flatten.specs.Given.{AreShapesOf, IsWholeTree}
+use Rattle.flatten.specs.Paths.{plain}
 
 -- ---- variables, by component and place in its description
 
@@ -116,6 +117,12 @@ pub record AreNumbered (t : SystemTree) (shapes : List Shape)
 abbrev pub ends_of : Connection → joints.Connection
 ends_of k = record { start = k.start; end = k.end }
 
+-- the tree with other connections between its connectors
+abbrev pub joined : SystemTree → List Connection → SystemTree
+joined t ks = record t {
+  connections = ks;
+}
+
 -- ---- the whole
 
 pub record IsIndexed (f : FlatTree) : Type 0 where
@@ -124,3 +131,4 @@ pub record IsIndexed (f : FlatTree) : Type 0 where
   pub variables : AreVariables f.shapes.now f.variables
   pub points : AreNumbered f.tree.now f.shapes.now f.points.items
   pub connections : f.connections.items ≡ map ends_of f.tree.now.connections
+  pub plain : f.plain.items ≡ map ends_of (plain f.tree.now).connections

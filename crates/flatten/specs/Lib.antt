@@ -9,3 +9,4 @@ pub mod Marks
 pub mod Ports
 pub mod Broken
 pub mod Fed
+pub mod Ways

@@ -1,12 +1,15 @@
 -- What leads up to a connector: from some connectors, from outputs of a class, and from outputs of a type.
-use Rattle.std.specs.Prelude.{◌≡◌, ◌⊎◌, ◌↔◌, ℕ, ◌<◌, Bool, List, length, slice_get, Option, Some, IsSomeAnd}
+use Rattle.std.specs.Prelude.{◌≡◌, ◌≢◌, ◌⊎◌, ◌↔◌, ℕ, ◌<◌, Bool, List, length, slice_get, Option, Some, IsSomeAnd}
 use Rattle.std.specs.List.{AllZip}
 use Rattle.dependency_order.specs.Paths.{IsMarked}
-use Rattle.value_types.specs.declared.shape.Causality.TheVariants.{Output}
+use Rattle.value_types.specs.declared.shape.Causality.TheVariants.{Input, Output}
 use Rattle.value_types.specs.declared.shape.Variable.{Variable}
 use Rattle.value_types.specs.declared.shape.Shape.{Shape}
 use Rattle.value_types.specs.declared.values.PortType.{PortType}
 use Rattle.value_types.specs.declared.joint.Class.{Class}
+use Rattle.value_types.specs.declared.joint.Class.TheVariants as class
+use Rattle.parameter_values.specs.declared.change.Change.{Change}
+use Rattle.parameter_values.specs.declared.change.Change.TheVariants.{Linear, Integers, Booleans}
 use Rattle.ssd_tree.specs.declared.tree.Connector.{Connector}
 use Rattle.ssd_tree.specs.declared.tree.TypeChild.{TypeChild}
 use Rattle.ssd_tree.specs.declared.tree.SystemTree.{SystemTree}
@@ -15,7 +18,7 @@ use Rattle.flatten.specs.declared.marks.TypeMarks.{TypeMarks}
 use Rattle.flatten.specs.declared.marks.Marks.{Marks}
 use Rattle.flatten.specs.declared.marks.TheConstants.{CLASSES, INTEGER_TYPES}
 use Rattle.flatten.specs.Points.{Point, Itself, point_of, variable_of, IsOfSystem}
-use Rattle.flatten.specs.Paths.{LeadsUpTo}
+use Rattle.flatten.specs.Paths.{LeadsUpTo, plain, turned}
 use Rattle.flatten.specs.Rules.{class_at, child_class}
 
 -- ---- from marked connectors
@@ -83,8 +86,27 @@ abbrev pub AreTypeMarks : SystemTree → List Shape → PortType → TypeMarks �
 AreTypeMarks t shapes kind marks =
     (marks.kind ≡ kind) × AreLedTo t shapes (IsOfType t shapes kind) marks.reached.items
 
--- the marks of any output, of all classes, and of the types that have several ranges in one class
+-- the connector names an input whose class the changes of this class aren't for
+abbrev pub IsInputBeside : Class → SystemTree → List Shape → ℕ → Type 0
+IsInputBeside class t shapes c =
+    IsSomeAnd (variable_of t shapes c) (λ (x : Variable).
+    (x.causality ≡ Input) × (class_at x ≢ Some class))
+
+-- just the connectors are marked that lead on to such an input: along the connections turned round it leads up to them
+abbrev pub AreLeadingOn : Class → SystemTree → List Shape → List Bool → Type 0
+AreLeadingOn class t shapes marks =
+    AreLedTo (turned t) shapes (IsInputBeside class t shapes) marks
+
+-- the marks of any output, of all classes, of the types that have several ranges in one class, along paths without transformations, and of what leads on to inputs that are no integers or no Booleans
 pub record HasMarks (t : SystemTree) (shapes : List Shape) (marks : Marks) : Type 0 where
   pub fed : AreLedTo t shapes (IsOutputAt t shapes) marks.fed.items
   pub classes : AllZip (AreClassMarks t shapes) CLASSES marks.classes.items
-  pub types : AllZip (AreTypeMarks t shapes) INTEGER_TYPES marks.types.items
+  pub types : AllZip (AreTypeMarks (plain t) shapes) INTEGER_TYPES marks.types.items
+  pub no_integers : AreLeadingOn class.Integer t shapes marks.no_integers.items
+  pub no_booleans : AreLeadingOn class.Boolean t shapes marks.no_booleans.items
+
+-- of what leads on, that to inputs of other classes than the change is for
+abbrev pub beside_marks : Marks → Change → List Bool
+beside_marks marks (Linear factor offset) = marks.no_integers.items
+beside_marks marks (Integers pairs) = marks.no_integers.items
+beside_marks marks (Booleans pairs) = marks.no_booleans.items

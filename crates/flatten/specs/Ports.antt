@@ -39,13 +39,13 @@ pub record IsNumberOf (shapes : List Shape) (n : ℕ) (p : Point) : Type 0 where
   pub number : n ≡ begin_of shapes component + place
   pub point : p ≡ OfComponent component variable.reference
 
--- for each input just the port of the output that feeds it
+-- for each input just the port of the output that feeds it, with the changes of the path
 pub record AreFeeds (t : SystemTree) (shapes : List Shape) (numbers : List (Option PortId))
     (feeds : List (Option Feed)) : Type 0 where
   pub len : length feeds ≡ length (all_variables shapes)
-  pub each : (m n : ℕ) (p q : Point) (from : PortId) → IsNumberOf shapes m p →
-      IsNumberOf shapes n q → slice_get numbers m ≡ Some (Some from) →
-      (slice_get feeds n ≡ Some (Some (record { from = from }))) ↔ Feeds t shapes p q
+  pub each : (m n : ℕ) (p q : Point) (f : Feed) → IsNumberOf shapes m p →
+      IsNumberOf shapes n q → slice_get numbers m ≡ Some (Some f.from) →
+      (slice_get feeds n ≡ Some (Some f)) ↔ Feeds t shapes p f.changes q
   pub none : (n : ℕ) (f : Feed) → slice_get feeds n ≡ Some (Some f) → (m : ℕ) ×
       (slice_get numbers m ≡ Some (Some f.from))
 

@@ -1,5 +1,5 @@
 -- The rules of connectors and connections together with the variables that they name (SSP 1.0, 5.3.2 and 5.3.3; and narrowings of this profile), each a statement about a tree of systems, the shapes of its components, and an element of the document.
-use Rattle.std.specs.Prelude.{◌≡◌, ◌≢◌, ◌⊎◌, ℕ, ◌+◌, ◌<◌, false, List, Option, Some, None, IsSomeAnd, option_and_then, slice_get, take, map, min, sum, count_by}
+use Rattle.std.specs.Prelude.{◌≡◌, ◌≢◌, ◌⊎◌, ℕ, ◌+◌, ◌<◌, false, List, Option, Some, None, IsSomeAnd, option_and_then, slice_get, take, map, min, sum, count_by, Contains}
 use Rattle.std.specs.Option.{option_map}
 use Rattle.value_types.specs.declared.shape.Causality.{Causality}
 use Rattle.value_types.specs.declared.shape.Causality.TheVariants as causality
@@ -31,7 +31,9 @@ use Rattle.ssd_tree.specs.declared.tree.ComponentPart.{ComponentPart}
 use Rattle.ssd_tree.specs.declared.tree.SystemTree.{SystemTree}
 use Rattle.system_model.specs.EarlyReturn.{early_count}
 use Rattle.flatten.specs.Points.{Point, OfComponent, Itself, is_of_system, variable_of, point_of}
-use Rattle.flatten.specs.Paths.{EndsBy, IsOn}
+use Rattle.parameter_values.specs.declared.change.Change.{Change}
+use Rattle.system_model.specs.Carried.{IsOn as IsFor}
+use Rattle.flatten.specs.Paths.{EndsBy, IsBefore, IsOn, plain}
 
 -- ---- classes: of a foreign variable, and of a type that none but a foreign variable has, there is none
 
@@ -114,6 +116,17 @@ IsTooWide p s q output input =
     IsSomeAnd output.kind (λ (from : PortType).
     IsSomeAnd input.kind (λ (to : PortType). types.Joins from to WrongRange))
 
+-- the change is for values of the class, where there is one
+abbrev pub Suits : Change → Option Class → Type 0
+Suits change None = ⊥
+Suits change (Some c) = IsFor c change
+
+-- the connection has a transformation, and stands on a path from an output to an input whose class has others
+abbrev pub HasOtherChange : SystemTree → List Shape → Connection → Type 0
+HasOtherChange t shapes k =
+    (change : Change) × (k.change ≡ Some change) × ((input : Variable) ×
+    IsBefore t shapes k input × (Suits change (class_at input) → ⊥))
+
 -- the input is a Clock of any variability but triggered
 abbrev pub IsTimeBased : List Shape → PathFault
 IsTimeBased shapes p s (OfComponent component reference) output input =
@@ -172,10 +185,13 @@ Breaks t shapes f.OtherClass node =
     IsOfConnector HasOtherType t shapes node ⊎ EndsPath (IsOtherClass t shapes) t shapes node
 -- 43: the second of two connections with one end
 Breaks t shapes f.EndTwice node = RepeatsEnd t shapes node
--- 44: the last connection of a path to an input that can't hold each value of the output
-Breaks t shapes f.TooWide node = EndsPath IsTooWide t shapes node
+-- 44: the last connection of a path without transformations to an input that can't hold each value of the output
+Breaks t shapes f.TooWide node = EndsPath IsTooWide (plain t) shapes node
 -- 45: the last connection of a path to a time-based Clock
 Breaks t shapes f.FedClock node = EndsPath (IsTimeBased shapes) t shapes node
+-- 58: a connection with a linear transformation or a mapping of integers on a path to an input that isn't of that class, or with a mapping of Booleans on one to an input that is no Boolean
+Breaks t shapes f.OtherChange node =
+    (k : Connection) × Contains t.connections k × (k.node ≡ node) × HasOtherChange t shapes k
 
 -- the element breaks the rule; other rules aren't tested here
 abbrev pub ViolatesFlattening : SystemTree → List Shape → Rule → ℕ → Type 0

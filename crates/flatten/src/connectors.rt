@@ -3,6 +3,7 @@ ghost use Rattle.std.specs.Prelude.{◌≡◌, ◌↔◌, ◌<◌, ◌^◌, List
 ghost use Rattle.value_types.specs.declared.shape.Shape.{Shape};
 ghost use Rattle.flatten.specs.Given.{AreShapesOf, IsWholeTree};
 ghost use Rattle.flatten.specs.Indexed.{AreNumbered, AreVariables, IsIndexed, IsPlaceIn, ends_of, number_for, place_by};
+ghost use Rattle.flatten.specs.Paths.{plain, turned};
 ghost use Rattle.flatten.specs.Points.{IsOfSystem, Itself, variable_of};
 
 use crate::names::VariableNames;
@@ -28,6 +29,8 @@ pub(crate) struct FlatTree<'a> {
     /// for each connector what it stands for: a variable by its number, with further numbers for those that name none
     pub(crate) points: Vec<Point>,
     pub(crate) connections: Vec<Connection>,
+    /// those without a transformation alone
+    pub(crate) plain: Vec<Connection>,
 }
 
 // How many variables there are.
@@ -115,6 +118,22 @@ fn connections(alloc: Global, tree: &SystemTree) -> Result<Vec<Connection>, Allo
     Ok(connections)
 }
 
+// The connections without a transformation.
+fn plain_connections(alloc: Global, tree: &SystemTree) -> Result<Vec<Connection>, AllocError>
+    ensures { IfOk result (λ all. all.items ≡ map ends_of (plain tree.now).connections) }
+{
+    let mut connections = Vec::new(alloc);
+    for connection in tree.connections.as_slice() {
+        if connection.change.is_none() {
+            connections.push(Connection {
+                start: connection.start,
+                end: connection.end,
+            })?;
+        }
+    }
+    Ok(connections)
+}
+
 impl<'a> FlatTree<'a> {
     /// The tree with its connectors as points.
     pub(crate) fn new(
@@ -131,13 +150,30 @@ impl<'a> FlatTree<'a> {
         let variables = make_variables(alloc, shapes)?;
         let points = points(alloc, tree, shapes, &variables)?;
         let connections = connections(alloc, tree)?;
+        let plain = plain_connections(alloc, tree)?;
         Ok(FlatTree {
             tree,
             shapes,
             variables,
             points,
             connections,
+            plain,
         })
+    }
+
+    /// The connections turned round: from where each ends to where it begins.
+    pub(crate) fn turned(&self, alloc: Global) -> Result<Vec<Connection>, AllocError>
+        requires indexed { IsIndexed self.now }
+        ensures { IfOk result (λ all. all.items ≡ map ends_of (turned self.now.tree.now).connections) }
+    {
+        let mut connections = Vec::with_capacity(alloc, self.tree.connections.len())?;
+        for connection in self.tree.connections.as_slice() {
+            connections.push(Connection {
+                start: connection.end,
+                end: connection.start,
+            })?;
+        }
+        Ok(connections)
     }
 
     /// The variable that a connector names.

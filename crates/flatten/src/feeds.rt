@@ -1,16 +1,19 @@
 //! The ports that variables are, and the outputs that feed them.
-ghost use Rattle.std.specs.Prelude.{◌≡◌, ◌↔◌, ◌⊎◌, ℕ, ◌<◌, ◌≤◌, Contains, IfOk, Some, count_by, length, slice_get};
+ghost use Rattle.std.specs.Prelude.{◌≡◌, ◌↔◌, ℕ, ◌<◌, ◌≤◌, All, IfOk, Some, count_by, length, reverse};
+ghost use Rattle.std.specs.List.{filter_map};
+ghost use Rattle.system_model.specs.declared.system.Feed.{Feed};
 ghost use Rattle.sim_base.specs.declared.numbers.PortId.{PortId};
 ghost use Rattle.value_types.specs.Shape.{is_port};
-ghost use Rattle.flatten.specs.Fed.{FeedsFrom, HasPort, IsInputWith, number_in};
+ghost use Rattle.flatten.specs.Fed.{FindsFeed, HasPort, IsInputWith, number_in};
+ghost use Rattle.flatten.specs.Ways.{AreLast, FindsWay, change_at};
 ghost use Rattle.flatten.specs.Indexed.{IsIndexed, all_variables};
-ghost use Rattle.flatten.specs.Marks.{IsOutputAt};
 ghost use Rattle.flatten.specs.Ports.{AreFeeds, ArePortNumbers};
 ghost use Rattle.flatten.specs.Rules.{IsFitting};
 
 use crate::connectors::FlatTree;
-use connection_paths::{Point, sources_of};
-use sim_base::PortId;
+use connection_paths::Point;
+use parameter_values::Change;
+use sim_base::{Items, PortId};
 use std::alloc::{AllocError, Global};
 use system_model::Feed;
 use value_types::Causality;
@@ -22,6 +25,13 @@ fn variable_number(point: Point) -> Option<usize>
         Point::Variable(number) => Some(number),
         Point::OfSystem(_) => None,
     }
+}
+
+/// The way of a path back from its end: its connections, the last first, and the connector of the output where it begins.
+#[derive(Drop)]
+struct Way {
+    source: usize,
+    back: Vec<usize>,
 }
 
 impl<'a> FlatTree<'a> {
@@ -42,22 +52,6 @@ impl<'a> FlatTree<'a> {
             }
         }
         Ok(numbers)
-    }
-
-    // The connectors that name outputs.
-    fn output_connectors(&self, alloc: Global) -> Result<Vec<usize>, AllocError>
-        requires indexed { IsIndexed self.now }
-        ensures { IfOk result (λ outputs. (c : ℕ) →
-            Contains outputs.items c ↔ ((c < length self.now.tree.now.connectors) ×
-            IsOutputAt self.now.tree.now self.now.shapes.now c)) }
-    {
-        let mut outputs = Vec::new(alloc);
-        for connector in 0..self.tree.connectors.len() {
-            if self.is_output(connector) {
-                outputs.push(connector)?;
-            }
-        }
-        Ok(outputs)
     }
 
     // The number of the input that a connector names.
@@ -89,33 +83,93 @@ impl<'a> FlatTree<'a> {
         }
     }
 
-    // Notes the port that feeds the input of a connector, whose source the other one is.
-    fn note_feed(
-        &self,
-        numbers: &[Option<PortId>],
-        feeds: &mut [Option<Feed>],
-        connector: usize,
-        source: usize,
-    )
+    // For each point the connection that ends there; no two connections end at one point.
+    fn last_connections(&self, alloc: Global) -> Result<Vec<Option<usize>>, AllocError>
         requires indexed { IsIndexed self.now }
-        requires connector { connector < length self.now.tree.now.connectors }
-        requires source { source < length self.now.tree.now.connectors }
-        requires len { length feeds.old ≡ length (all_variables self.now.shapes.now) }
-        ensures len { length feeds.new ≡ length feeds.old }
-        ensures noted { (n : ℕ) (from : PortId) →
-            FeedsFrom self.now numbers.now connector source n from →
-            slice_get feeds.new n ≡ Some (Some (record { from = from })) }
-        ensures only { (n : ℕ) → (slice_get feeds.new n ≡ slice_get feeds.old n) ⊎
-            ((from : PortId) × FeedsFrom self.now numbers.now connector source n from ×
-            (slice_get feeds.new n ≡ Some (Some (record { from = from })))) }
+        requires fitting { IsFitting self.now.tree.now self.now.shapes.now }
+        ensures { IfOk result (λ last. AreLast self.now last.items) }
     {
-        if let Some(from) = self.port_at(numbers, source) {
-            if let Some(input) = self.input_number(connector) {
-                if input < feeds.len() {
-                    feeds[input] = Some(Feed { from });
-                }
+        let mut last = vec![in alloc; None; self.variables.all.len() + self.points.len()]?;
+        for connection in 0..self.connections.len() {
+            let point = self.point_number(self.connections[connection].end);
+            last[point] = Some(connection);
+        }
+        Ok(last)
+    }
+
+    // The way to a connector: back from connection to connection, through connectors of systems, up to an output. Each
+    // connection stands on it once, so there are at most as many as in the tree.
+    fn way_to(
+        &self,
+        alloc: Global,
+        last: &[Option<usize>],
+        connector: usize,
+    ) -> Result<Option<Way>, AllocError>
+        requires indexed { IsIndexed self.now }
+        requires fitting { IsFitting self.now.tree.now self.now.shapes.now }
+        requires connector { connector < length self.now.tree.now.connectors }
+        requires last { AreLast self.now last.now }
+        ensures { IfOk result (FindsWay self.now connector) }
+    {
+        let mut back = Vec::new(alloc);
+        let mut at = connector;
+        while back.len() < self.connections.len() {
+            let Some(connection) = last[self.point_number(at)] else {
+                return Ok(None);
+            };
+            back.push(connection)?;
+            at = self.connections[connection].start;
+            if self.is_output(at) {
+                return Ok(Some(Way { source: at, back }));
+            }
+            if !self.is_of_system(at) {
+                return Ok(None);
             }
         }
+        Ok(None)
+    }
+
+    // The changes of these connections, the last connection first.
+    fn changes_of(&self, alloc: Global, back: &[usize]) -> Result<Items<Change>, AllocError>
+        requires indexed { IsIndexed self.now }
+        requires back { All (λ k. k < length self.now.tree.now.connections) back.now }
+        ensures { IfOk result (λ changes. changes ≡
+            filter_map (change_at self.now.tree.now) (reverse back.now)) }
+    {
+        let mut changes = Vec::with_capacity(alloc, back.len())?;
+        for i in 0..back.len() {
+            let connection = back[back.len() - 1 - i];
+            if let Some(change) = &self.tree.connections.as_slice()[connection].change {
+                changes.push(change.copy(alloc)?)?;
+            }
+        }
+        Ok(Items::from_vec(changes))
+    }
+
+    // The port that feeds the point of a connector, and what its path does to values.
+    fn feed_to(
+        &self,
+        alloc: Global,
+        numbers: &[Option<PortId>],
+        last: &[Option<usize>],
+        connector: usize,
+    ) -> Result<Option<Feed>, AllocError>
+        requires indexed { IsIndexed self.now }
+        requires fitting { IsFitting self.now.tree.now self.now.shapes.now }
+        requires connector { connector < length self.now.tree.now.connectors }
+        requires last { AreLast self.now last.now }
+        ensures { IfOk result (FindsFeed self.now numbers.now connector) }
+    {
+        let Some(way) = self.way_to(alloc, last, connector)? else {
+            return Ok(None);
+        };
+        let Some(from) = self.port_at(numbers, way.source) else {
+            return Ok(None);
+        };
+        Ok(Some(Feed {
+            from,
+            changes: self.changes_of(alloc, way.back.as_slice())?,
+        }))
     }
 
     /// For each variable the port that feeds it.
@@ -130,17 +184,16 @@ impl<'a> FlatTree<'a> {
         ensures { IfOk result (λ feeds. AreFeeds self.now.tree.now self.now.shapes.now numbers.now
             feeds.items) }
     {
-        let outputs = self.output_connectors(alloc)?;
-        let found = sources_of(
-            alloc,
-            self.points.as_slice(),
-            self.connections.as_slice(),
-            outputs.as_slice(),
-        )?;
-        let mut feeds = vec![in alloc; None; self.variables.all.len()]?;
-        for connector in 0..found.len() {
-            if let Some(source) = found[connector] {
-                self.note_feed(numbers, feeds.as_mut_slice(), connector, source);
+        let last = self.last_connections(alloc)?;
+        let mut feeds = Vec::with_capacity(alloc, self.variables.all.len())?;
+        while feeds.len() < self.variables.all.len() {
+            feeds.push(None)?;
+        }
+        for connector in 0..self.points.len() {
+            if let Some(input) = self.input_number(connector) {
+                if let Some(feed) = self.feed_to(alloc, numbers, last.as_slice(), connector)? {
+                    feeds[input] = Some(feed);
+                }
             }
         }
         Ok(feeds)

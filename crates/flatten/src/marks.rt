@@ -1,15 +1,18 @@
 //! What leads to where connections begin: a few passes over all connections, each from many connectors at once.
-ghost use Rattle.std.specs.Prelude.{◌≡◌, ◌<◌, ◌↔◌, ℕ, Contains, IfOk, IsSome, IsTrue, Some, length};
+ghost use Rattle.std.specs.Prelude.{◌≡◌, ◌<◌, ◌↔◌, ℕ, All, Contains, IfOk, IsSome, IsTrue, List, Some, length, map};
 ghost use Rattle.std.specs.Option.{option_map};
 ghost use Rattle.dependency_order.specs.Paths.{IsMarked};
 ghost use Rattle.value_types.specs.Joint.{class_of};
-ghost use Rattle.flatten.specs.Indexed.{IsIndexed};
-ghost use Rattle.flatten.specs.Marks.{AreClassMarks, AreLedTo, AreMarked, AreShared, AreTypeMarks, GivesClass, HasMarks, IsOfClass, IsOutputAt, NamesOutput};
+ghost use Rattle.connection_paths.specs.Paths.{IsWithin};
+ghost use Rattle.ssd_tree.specs.declared.tree.Connection as sides;
+ghost use Rattle.flatten.specs.Indexed.{IsIndexed, ends_of, joined};
+ghost use Rattle.flatten.specs.Marks.{AreClassMarks, AreLeadingOn, AreLedTo, AreMarked, AreShared, AreTypeMarks, GivesClass, HasMarks, IsInputBeside, IsOfClass, IsOutputAt, NamesOutput};
+ghost use Rattle.flatten.specs.Paths.{plain};
 ghost use Rattle.flatten.specs.Points.{IsOfSystem, Itself};
 ghost use Rattle.flatten.specs.Rules.{child_class, class_at};
 
 use crate::connectors::FlatTree;
-use connection_paths::sources_of;
+use connection_paths::{Connection, sources_of};
 use ssd_tree::TypeChild;
 use std::alloc::{AllocError, Global};
 use value_types::{Causality, Class, PortType, class_of};
@@ -78,8 +81,12 @@ pub(crate) struct Marks {
     pub(crate) fed: Vec<bool>,
     /// for each class the outputs of this class, and the connectors of systems with a type of it that are fed
     pub(crate) classes: Vec<ClassMarks>,
-    /// for each integer type the outputs of this type
+    /// for each integer type the outputs of this type, along connections without a transformation alone
     pub(crate) types: Vec<TypeMarks>,
+    /// what leads on to an input that is no integer
+    pub(crate) no_integers: Vec<bool>,
+    /// what leads on to an input that is no Boolean
+    pub(crate) no_booleans: Vec<bool>,
 }
 
 fn marked_connectors(alloc: Global, marks: &[bool]) -> Result<Vec<usize>, AllocError>
@@ -95,19 +102,28 @@ fn marked_connectors(alloc: Global, marks: &[bool]) -> Result<Vec<usize>, AllocE
 }
 
 impl<'a> FlatTree<'a> {
-    // For each connector whether a path from one of the starts leads up to it: it is a start, or a System's and reached.
-    fn reached_marks(&self, alloc: Global, starts: Vec<bool>) -> Result<Vec<bool>, AllocError>
+    // For each connector whether a path of these connections from one of the starts leads up to it: it is a start, or a
+    // System's and reached.
+    fn reached_marks(
+        &self,
+        alloc: Global,
+        connections: &[Connection],
+        starts: Vec<bool>,
+    ) -> Result<Vec<bool>, AllocError>
         requires indexed { IsIndexed self.now }
         requires len { length starts.items ≡ length self.now.tree.now.connectors }
         requires shared { AreShared self.now.tree.now self.now.shapes.now starts.items }
-        ensures { IfOk result (λ reached. AreLedTo self.now.tree.now self.now.shapes.now
-            (IsMarked starts.items) reached.items) }
+        requires ends { All (IsWithin (length self.now.tree.now.connectors)) connections.now }
+        ensures { IfOk result (λ reached. (ks : List sides.Connection) →
+            connections.now ≡ map ends_of ks →
+            AreLedTo (joined self.now.tree.now ks) self.now.shapes.now (IsMarked starts.items)
+            reached.items) }
     {
         let begins = marked_connectors(alloc, starts.as_slice())?;
         let found = sources_of(
             alloc,
             self.points.as_slice(),
-            self.connections.as_slice(),
+            connections,
             begins.as_slice(),
         )?;
         let mut reached = Vec::with_capacity(alloc, starts.len())?;
@@ -206,7 +222,7 @@ impl<'a> FlatTree<'a> {
         }
         Ok(ClassMarks {
             class,
-            reached: self.reached_marks(alloc, starts)?,
+            reached: self.reached_marks(alloc, self.connections.as_slice(), starts)?,
         })
     }
 
@@ -227,7 +243,7 @@ impl<'a> FlatTree<'a> {
 
     fn type_marks(&self, alloc: Global, kind: PortType) -> Result<TypeMarks, AllocError>
         requires indexed { IsIndexed self.now }
-        ensures { IfOk result (AreTypeMarks self.now.tree.now self.now.shapes.now kind) }
+        ensures { IfOk result (AreTypeMarks (plain self.now.tree.now) self.now.shapes.now kind) }
     {
         let mut starts = Vec::with_capacity(alloc, self.points.len())?;
         for connector in 0..self.points.len() {
@@ -235,8 +251,37 @@ impl<'a> FlatTree<'a> {
         }
         Ok(TypeMarks {
             kind,
-            reached: self.reached_marks(alloc, starts)?,
+            reached: self.reached_marks(alloc, self.plain.as_slice(), starts)?,
         })
+    }
+
+    // Whether the connector names an input whose class isn't this one.
+    fn is_input_beside(&self, connector: usize, class: Class) -> bool
+        requires indexed { IsIndexed self.now }
+        requires connector { connector < length self.now.tree.now.connectors }
+        ensures { IsTrue result ↔ IsInputBeside class self.now.tree.now self.now.shapes.now
+            connector }
+    {
+        match self.variable(connector) {
+            Some(variable) => {
+                variable.causality == Causality::Input && class_at(variable.kind) != Some(class)
+            }
+            None => false,
+        }
+    }
+
+    // For each connector whether it leads on to an input whose class isn't this one.
+    fn leading_on(&self, alloc: Global, class: Class) -> Result<Vec<bool>, AllocError>
+        requires indexed { IsIndexed self.now }
+        ensures { IfOk result (λ marks. AreLeadingOn class self.now.tree.now self.now.shapes.now
+            marks.items) }
+    {
+        let mut ends = Vec::with_capacity(alloc, self.points.len())?;
+        for connector in 0..self.points.len() {
+            ends.push(self.is_input_beside(connector, class))?;
+        }
+        let turned = self.turned(alloc)?;
+        self.reached_marks(alloc, turned.as_slice(), ends)
     }
 
     /// For each connector what leads to it.
@@ -245,7 +290,7 @@ impl<'a> FlatTree<'a> {
         ensures { IfOk result (HasMarks self.now.tree.now self.now.shapes.now) }
     {
         let outputs = self.outputs(alloc)?;
-        let fed = self.reached_marks(alloc, outputs)?;
+        let fed = self.reached_marks(alloc, self.connections.as_slice(), outputs)?;
         let mut classes = Vec::new(alloc);
         for class in CLASSES {
             classes.push(self.class_marks(alloc, fed.as_slice(), class)?)?;
@@ -258,6 +303,8 @@ impl<'a> FlatTree<'a> {
             fed,
             classes,
             types,
+            no_integers: self.leading_on(alloc, Class::Integer)?,
+            no_booleans: self.leading_on(alloc, Class::Boolean)?,
         })
     }
 }

@@ -113,7 +113,10 @@ impl<'a> FlatTree<'a> {
     {
         let shape: &Shape = &self.shapes[component];
         let variable: &Variable = &shape.variables.as_slice()[place];
-        let feed = table.feeds[self.number_at(component, place)];
+        let feed = match &table.feeds[self.number_at(component, place)] {
+            Some(feed) => Some(feed.copy(alloc)?),
+            None => None,
+        };
         Ok(Port {
             component: CompId(component as u32),
             name: variable.name.copy(alloc)?,

@@ -1,5 +1,5 @@
 //! The first element that breaks a rule of connectors, connections, saved states and ports.
-ghost use Rattle.std.specs.Prelude.{◌≡◌, ◌≢◌, ◌↔◌, ℕ, ◌+◌, ◌<◌, Contains, IfOk, IsSomeAnd, IsTrue, MatchOption, Some, false, length, option_copied, slice_get};
+ghost use Rattle.std.specs.Prelude.{◌≡◌, ◌≢◌, ◌↔◌, ℕ, ◌+◌, ◌<◌, Contains, IfOk, IsSomeAnd, IsTrue, MatchOption, Some, false, length, option_copied, slice_get, slice_index_or};
 ghost use Rattle.connection_paths.specs.declared.point.Point.{Point};
 ghost use Rattle.ssd_tree.specs.declared.tree.Connection as sides;
 ghost use Rattle.value_types.specs.Joint as types;
@@ -11,16 +11,18 @@ ghost use Rattle.value_types.specs.declared.shape.Shape.{Shape};
 ghost use Rattle.value_types.specs.declared.values.PortType.{PortType};
 ghost use Rattle.system_model.specs.EarlyReturn.{early_count};
 ghost use Rattle.doc_tables.specs.Violations.{FindsLeast, earlier_violation};
-ghost use Rattle.flatten.specs.Broken.{ConnectorBreaks, IsBrokenConnection, IsBrokenConnector, IsReachedAt, IsReachedBy, TellsOther, TellsTooWide, input_of, number_of, path_fault};
+ghost use Rattle.flatten.specs.Broken.{ConnectorBreaks, IsBrokenConnection, IsBrokenConnector, IsReachedAt, IsReachedBy, TellsOther, TellsTooWide, input_of, number_of, path_fault, tree_for};
 ghost use Rattle.flatten.specs.Indexed.{IsIndexed, ends_of};
-ghost use Rattle.flatten.specs.Marks.{HasMarks};
+ghost use Rattle.flatten.specs.Marks.{HasMarks, beside_marks};
+ghost use Rattle.flatten.specs.Paths.{plain};
 ghost use Rattle.flatten.specs.Points.{variable_of};
-ghost use Rattle.flatten.specs.Rules.{Breaks, earlier, GivesOther, HasNoSavedState, HasOtherCausality, HasOtherType, HasTooManyPorts, IsFirstFlatteningViolation, IsFitting, IsForOther, IsLastOf, IsOtherClass, IsTimeBased, IsTooWide, IsUnsaved, RepeatsEnd, ViolatesFlattening, ports_in};
+ghost use Rattle.flatten.specs.Rules.{Breaks, earlier, GivesOther, HasNoSavedState, HasOtherChange, HasOtherCausality, HasOtherType, HasTooManyPorts, IsFirstFlatteningViolation, IsFitting, IsForOther, IsLastOf, IsOtherClass, IsTimeBased, IsTooWide, IsUnsaved, RepeatsEnd, ViolatesFlattening, ports_in};
 
 use crate::connectors::FlatTree;
 use crate::marks::{ClassMarks, Marks, TypeMarks, child_class, class_at};
-use connection_paths::{Connection, Point};
+use connection_paths::Point;
 use doc_tree::{FlatteningRule, Rule};
+use parameter_values::Change;
 use ssd_tree::{ConnectorKind, Owner, TypeChild};
 use std::alloc::{AllocError, Global};
 use value_types::{
@@ -31,7 +33,7 @@ use value_types::{
 pub const MOST_PORTS: usize = 65_536;
 
 /// The rules that elements are tested for, in the order of their numbers.
-const ELEMENT_RULES: [Rule; 8] = [
+const ELEMENT_RULES: [Rule; 9] = [
     Rule::Flattening(FlatteningRule::NoSuchVariable),
     Rule::Flattening(FlatteningRule::OtherCausality),
     Rule::Flattening(FlatteningRule::OtherClass),
@@ -40,6 +42,7 @@ const ELEMENT_RULES: [Rule; 8] = [
     Rule::Flattening(FlatteningRule::FedClock),
     Rule::SavesNoState,
     Rule::TooManyPorts,
+    Rule::Flattening(FlatteningRule::OtherChange),
 ];
 
 // The lesser of two elements, where there are both.
@@ -164,6 +167,19 @@ fn is_unsaved(shapes: &[Shape], early: usize, component: usize) -> bool
     early > 1 && !shapes[component].can_save_state
 }
 
+// Whether the connector leads on to an input whose class has other changes.
+fn leads_to_other(marks: &Marks, change: &Change, connector: usize) -> bool
+    requires integers { connector < length marks.now.no_integers.items }
+    requires booleans { connector < length marks.now.no_booleans.items }
+    ensures { result ≡ slice_index_or (beside_marks marks.now change.now) connector false }
+{
+    match change {
+        Change::Linear { .. } => marks.no_integers[connector],
+        Change::Integers { .. } => marks.no_integers[connector],
+        Change::Booleans { .. } => marks.no_booleans[connector],
+    }
+}
+
 impl<'a> FlatTree<'a> {
     fn names_no_variable(&self, connector: usize) -> bool
         requires indexed { IsIndexed self.now }
@@ -221,7 +237,10 @@ impl<'a> FlatTree<'a> {
             FlatteningRule::NoSuchVariable => self.names_no_variable(connector),
             FlatteningRule::OtherCausality => self.has_other_causality(connector),
             FlatteningRule::OtherClass => self.has_other_type(connector),
-            FlatteningRule::EndTwice | FlatteningRule::TooWide | FlatteningRule::FedClock => false,
+            FlatteningRule::EndTwice
+            | FlatteningRule::TooWide
+            | FlatteningRule::FedClock
+            | FlatteningRule::OtherChange => false,
         }
     }
 
@@ -280,8 +299,8 @@ impl<'a> FlatTree<'a> {
         requires indexed { IsIndexed self.now }
         requires marks { HasMarks self.now.tree.now self.now.shapes.now marks.now }
         requires start { start < length self.now.tree.now.connectors }
-        ensures { IsTrue result ↔ IsReachedBy IsTooWide self.now.tree.now self.now.shapes.now start
-            input.now }
+        ensures { IsTrue result ↔ IsReachedBy IsTooWide (plain self.now.tree.now)
+            self.now.shapes.now start input.now }
     {
         for other in &marks.types {
             if tells_too_wide(other, input.kind, start) {
@@ -309,25 +328,29 @@ impl<'a> FlatTree<'a> {
     }
 
     // Whether the connection is the last of a path that breaks the rule.
-    fn connection_breaks(&self, marks: &Marks, rule: FlatteningRule, ends: Connection) -> bool
+    fn connection_breaks(&self, marks: &Marks, rule: FlatteningRule, connection: usize) -> bool
         requires indexed { IsIndexed self.now }
         requires marks { HasMarks self.now.tree.now self.now.shapes.now marks.now }
-        requires connection { Contains self.now.connections.items ends }
-        ensures { (k : sides.Connection) → Contains self.now.tree.now.connections k →
-            ends ≡ ends_of k → (IsTrue result ↔ IsLastOf
-            (path_fault self.now.tree.now self.now.shapes.now rule) self.now.tree.now
-            self.now.shapes.now k) }
+        requires connection { connection < length self.now.tree.now.connections }
+        ensures { (k : sides.Connection) →
+            slice_get self.now.tree.now.connections connection ≡ Some k → (IsTrue result ↔ IsLastOf
+            (path_fault self.now.tree.now self.now.shapes.now rule)
+            (tree_for rule self.now.tree.now) self.now.shapes.now k) }
     {
+        let ends = &self.tree.connections.as_slice()[connection];
         let Some(input) = self.input_at(ends.end) else {
             return false;
         };
         match rule {
             FlatteningRule::OtherClass => self.is_other_class(marks, ends.start, input),
-            FlatteningRule::TooWide => self.is_end_too_wide(marks, ends.start, input),
+            FlatteningRule::TooWide => {
+                ends.change.is_none() && self.is_end_too_wide(marks, ends.start, input)
+            }
             FlatteningRule::FedClock => self.is_fed_clock(marks, ends.start, ends.end, input),
             FlatteningRule::NoSuchVariable
             | FlatteningRule::OtherCausality
-            | FlatteningRule::EndTwice => false,
+            | FlatteningRule::EndTwice
+            | FlatteningRule::OtherChange => false,
         }
     }
 
@@ -341,7 +364,40 @@ impl<'a> FlatTree<'a> {
         let mut first = None;
         let connections = self.tree.connections.as_slice();
         for connection in 0..connections.len() {
-            if self.connection_breaks(marks, rule, self.connections[connection]) {
+            if self.connection_breaks(marks, rule, connection) {
+                first = earlier(first, Some(connections[connection].node));
+            }
+        }
+        first
+    }
+
+    // Whether a transformation stands on a path to an input of another class.
+    fn has_other_change(&self, marks: &Marks, connection: usize) -> bool
+        requires indexed { IsIndexed self.now }
+        requires marks { HasMarks self.now.tree.now self.now.shapes.now marks.now }
+        requires connection { connection < length self.now.tree.now.connections }
+        ensures { (k : sides.Connection) →
+            slice_get self.now.tree.now.connections connection ≡ Some k →
+            (IsTrue result ↔ HasOtherChange self.now.tree.now self.now.shapes.now k) }
+    {
+        let ends = &self.tree.connections.as_slice()[connection];
+        let Some(change) = &ends.change else {
+            return false;
+        };
+        marks.fed[ends.start] && leads_to_other(marks, change, ends.end)
+    }
+
+    // The first connection with a transformation on a path to an input of another class.
+    fn first_other_change(&self, marks: &Marks) -> Option<usize>
+        requires indexed { IsIndexed self.now }
+        requires marks { HasMarks self.now.tree.now self.now.shapes.now marks.now }
+        ensures { FindsLeast (Breaks self.now.tree.now self.now.shapes.now
+            FlatteningRule.OtherChange) result }
+    {
+        let mut first = None;
+        let connections = self.tree.connections.as_slice();
+        for connection in 0..connections.len() {
+            if self.has_other_change(marks, connection) {
                 first = earlier(first, Some(connections[connection].node));
             }
         }
@@ -349,7 +405,7 @@ impl<'a> FlatTree<'a> {
     }
 
     // A number for what a connector stands for: no other point has it.
-    fn point_number(&self, connector: usize) -> usize
+    pub(crate) fn point_number(&self, connector: usize) -> usize
         requires indexed { IsIndexed self.now }
         requires connector { connector < length self.now.tree.now.connectors }
         ensures number { (point : Point) → slice_get self.now.points.items connector ≡ Some point →
@@ -427,6 +483,7 @@ impl<'a> FlatTree<'a> {
     {
         match rule {
             FlatteningRule::EndTwice => self.first_repeated_end(alloc),
+            FlatteningRule::OtherChange => Ok(self.first_other_change(marks)),
             _ => Ok(earlier(
                 self.first_connector(rule),
                 self.first_connection(marks, rule),

@@ -55,12 +55,12 @@ ports_more seed k = blocks_more (block (drawn_for seed)) 0 k ∙ ap (λ i. (gene
 
 -- what feeds a component is found among the outputs of those before it
 fed_right : (seed k : ℕ) (feeder : Option ℕ) (outputs : List PortId) → feeder ≡ (drawn_for seed k).feeder → outputs ≡ map (output_of (drawn_for seed)) (range_with_len 0 k) → fed_by outputs feeder ≡ feed_of (drawn_for seed) k
-fed_right seed k None outputs is are = ap (option_map (λ j. record { from = output_of (drawn_for seed) j })) is
+fed_right seed k None outputs is are = ap (option_map (λ j. record { from = output_of (drawn_for seed) j; changes = [] })) is
 fed_right seed k (Some j) outputs is are =
     let before : j < k = (are_drawn seed).feeders k j (sym is) in
     let there : slice_get outputs j ≡ Some (output_of (drawn_for seed) (0 + j)) = ap (λ xs. slice_get xs j) are ∙ at_mapped (output_of (drawn_for seed)) 0 k j before in
     let same : 0 + j ≡ j = omega arith in
-    ap (option_map (λ (p : PortId). record { from = p })) (there ∙ ap (λ i. Some (output_of (drawn_for seed) i)) same) ∙ ap (option_map (λ i. record { from = output_of (drawn_for seed) i })) is
+    ap (option_map (λ (p : PortId). record { from = p; changes = [] })) (there ∙ ap (λ i. Some (output_of (drawn_for seed) i)) same) ∙ ap (option_map (λ i. record { from = output_of (drawn_for seed) i; changes = [] })) is
 
 components_right : (seed k : ℕ) (drawn : Drawn) (old new : List Component) → drawn ≡ drawn_for seed k → old ≡ (generated_system seed k).components → new ≡ old ++ component_of k drawn.machine ∷ [] →
     new ≡ (generated_system seed (k + 1)).components

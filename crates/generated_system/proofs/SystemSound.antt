@@ -10,8 +10,10 @@ use Rattle.std.proofs.lemmas.List.FromFn.{length-map-range_with_len}
 use Rattle.std.proofs.lemmas.Map.Keys.{IsDistinct-cons}
 use Rattle.std.proofs.lemmas.Int.{ints}
 use Rattle.sim_base.specs.declared.numbers.PortId.{PortId}
+use Rattle.value_types.specs.Joint.{IsWithin, class_of}
 use Rattle.value_types.specs.Values.{Fits}
 use Rattle.value_types.specs.Shape.{variable_at, is_at, is_clock, is_declared, is_output_port, is_port}
+use Rattle.value_types.specs.declared.values.PortType.{PortType}
 use Rattle.value_types.specs.declared.values.PortType.TheVariants as T
 use Rattle.value_types.specs.declared.shape.Causality.{Causality}
 use Rattle.value_types.specs.declared.shape.Causality.TheVariants as V
@@ -20,10 +22,13 @@ use Rattle.value_types.specs.declared.shape.Shape.{Shape}
 use Rattle.system_model.specs.declared.bound.BoundValue.{BoundValue}
 use Rattle.system_model.specs.declared.system.Component.{Component}
 use Rattle.system_model.specs.declared.system.Feed.{Feed}
-use Rattle.system_model.specs.declared.system.Role.TheVariants.{Input, Output}
+use Rattle.system_model.specs.declared.system.Role.{Role}
+use Rattle.system_model.specs.declared.system.Role.TheVariants.{Input, Output, ClockInput, ClockOutput, TimeClock}
 use Rattle.system_model.specs.declared.system.Port.{Port}
 use Rattle.system_model.specs.Bounds.{AreParameterValues, BindsParameters, IsParameterValue}
+use Rattle.system_model.specs.Carried.{IsOn}
 use Rattle.system_model.specs.Ports.{numbers, source_of, is_output_role}
+use Rattle.system_model.specs.Ports as fed
 use Rattle.system_model.specs.Needs.{Needs, ByFeed, ByClock, ByDependency, NeedsInitially, InitiallyByFeed, InitiallyByDependency, DependsOn, is_unclocked, is_unclocked_at}
 use Rattle.system_model.specs.Shapes.{IsSoundClock, IsSoundDependency, IsSoundShape, HasFittingStart, HasNames, NamesClocks}
 use Rattle.system_model.specs.Sound.{IsSound, IsPort, IsRole, IsUnder, IsFeed, HasSoundComponents, HasSoundPorts}
@@ -32,7 +37,7 @@ use Rattle.generated_system.specs.declared.drawn.DrawnMachine.{DrawnMachine}
 use Rattle.generated_system.specs.declared.drawn.DrawnMachine.TheVariants.{Counter, Gain, Alarm}
 use Rattle.generated_system.specs.declared.drawn.Drawn.{Drawn}
 use Rattle.generated_system.specs.Shapes.{dependencies_of, known_to_output, output_reference, shape_of, variable, variables_of}
-use Rattle.generated_system.specs.Generated.{bound_from, component_of, feed_of, first_port, port_count, port_of, system_from}
+use Rattle.generated_system.specs.Generated.{bound_from, component_of, feed_of, first_port, output_of, port_count, port_of, system_from}
 use Rattle.generated_system.specs.Suited.{SuitsBuiltIns}
 use Rattle.generated_system.proofs.Blocks.{ends_before}
 use Rattle.generated_system.proofs.ByNumber.{numbers_of, order_of_smaller}
@@ -198,7 +203,7 @@ fed_by : (drawn : ℕ → Drawn) → AreDrawn drawn → (n i q : ℕ) (machine :
 fed_by drawn are n i q machine k port (OwnOutput last eq) e = absurd (none_some q (ap (λ (x : Port). source_of x.role) (sym eq) ∙ e))
 fed_by drawn are n i q machine k port (OwnInput is first eq) e =
     (elim (drawn i).feeder as (λ o. (drawn i).feeder ≡ o →
-    option_map (λ (f : Feed). f.from.0) (option_map (λ j. record { from = record { 0 = first_port drawn (suc j) - 1 } }) o) ≡ Some q → IsFedBy drawn n i q) [
+    option_map (λ (f : Feed). f.from.0) (option_map (λ j. record { from = record { 0 = first_port drawn (suc j) - 1 }; changes = [] }) o) ≡ Some q → IsFedBy drawn n i q) [
       | None ↦ λ o h. absurd (none_some q h)
       | Some j ↦ λ o h. record { feeder = j; before = are.feeders i j o; is = sym (same_Some _ _ h) }
     ]) refl (ap (λ (x : Port). source_of x.role) (sym eq) ∙ e)
@@ -222,18 +227,40 @@ is_input : (i : ℕ) (machine : DrawnMachine) (feed : Option Feed) (k q : ℕ) (
 is_input i machine feed k q port (OwnInput is first eq) e = eq
 is_input i machine feed k q port (OwnOutput last eq) e = absurd (none_some q (ap (λ (x : Port). source_of x.role) (sym eq) ∙ e))
 
-sound_feed : (drawn : ℕ → Drawn) → AreDrawn drawn → (n p q : ℕ) (port : Port) → slice_get (system_from drawn n).ports p ≡ Some port → source_of port.role ≡ Some q →
-    IsSomeAnd (slice_get (system_from drawn n).ports q) (λ (source : Port). IsFeed source port)
-sound_feed drawn are n p q port at e =
+no_changes : (drawn : ℕ → Drawn) (o : Option ℕ) (feed : Feed) → option_map (λ j. record { from = output_of drawn j; changes = [] }) o ≡ Some feed → feed.changes ≡ []
+no_changes drawn None feed e = absurd (none_some feed e)
+no_changes drawn (Some j) feed e = ap (λ (f : Feed). f.changes) (sym (same_Some (record { from = output_of drawn j; changes = [] }) feed e))
+
+-- a feed without changes between ports of one type
+plain_feed : (feed : Feed) (source target : Port) → feed.changes ≡ [] → is_output_role source.role ≡ true → source.kind ≡ T.Int32 → target.kind ≡ T.Int32 → IsFeed feed source target
+plain_feed feed source target none output from to = record {
+  output = output;
+  same_class = ap class_of (from ∙ sym to);
+  changes = subst (All (IsOn (class_of target.kind))) (sym none) (All-nil (IsOn (class_of target.kind)));
+  range = λ e. subst (λ (k : PortType). IsWithin source.kind k) (from ∙ sym to) (λ x h. h);
+}
+
+source_by : (role : Role) (feed : Feed) → fed.feed_of role ≡ Some feed → source_of role ≡ Some feed.from.0
+source_by (Input given) feed e = ap (option_map (λ (f : Feed). f.from.0)) e
+source_by Output feed e = absurd (none_some feed e)
+source_by (ClockInput given) feed e = ap (option_map (λ (f : Feed). f.from.0)) e
+source_by ClockOutput feed e = absurd (none_some feed e)
+source_by (TimeClock timing) feed e = absurd (none_some feed e)
+
+sound_feed : (drawn : ℕ → Drawn) → AreDrawn drawn → (n p : ℕ) (port : Port) (feed : Feed) → slice_get (system_from drawn n).ports p ≡ Some port → fed.feed_of port.role ≡ Some feed →
+    IsSomeAnd (slice_get (system_from drawn n).ports feed.from.0) (λ (source : Port). IsFeed feed source port)
+sound_feed drawn are n p port feed at e =
+    let q = feed.from.0 in
+    let from : source_of port.role ≡ Some q = source_by port.role feed e in
     let of : IsOf drawn n p port = of_port drawn n p port at in
-    let by : IsFedBy drawn n of.number q = fed_at drawn are n p q port of e in
+    let by : IsFedBy drawn n of.number q = fed_at drawn are n p q port of from in
     let before : by.feeder < of.number = by.before in
     let within : of.number < n = of.within in
     let y = port_of by.feeder (codes "y") (output_reference (drawn by.feeder).machine) Output in
     let there : slice_get (system_from drawn n).ports q ≡ Some y = ap (slice_get (system_from drawn n).ports) by.is ∙ output_at drawn n by.feeder (omega (arith, before, within)) in
-    let is : port ≡ port_of of.number (codes "u") 2 (Input (feed_of drawn of.number)) = is_input of.number (drawn of.number).machine (feed_of drawn of.number) of.place q port of.own e in
-    let plain : IsFeed y (port_of of.number (codes "u") 2 (Input (feed_of drawn of.number))) = record { output = refl; types = (refl, λ x h. h) } in
-    subst (λ o. IsSomeAnd o (λ (source : Port). IsFeed source port)) (sym there) (subst (λ x. IsFeed y x) (sym is) plain)
+    let is : port ≡ port_of of.number (codes "u") 2 (Input (feed_of drawn of.number)) = is_input of.number (drawn of.number).machine (feed_of drawn of.number) of.place q port of.own from in
+    let none : feed.changes ≡ [] = no_changes drawn (drawn of.number).feeder feed (sym (ap (λ (x : Port). fed.feed_of x.role) is) ∙ e) in
+    subst (λ o. IsSomeAnd o (λ (source : Port). IsFeed feed source port)) (sym there) (plain_feed feed y port none refl refl (ap (λ (x : Port). x.kind) is))
 
 -- ---- dependencies
 
@@ -330,7 +357,7 @@ pub system_sound : (drawn : ℕ → Drawn) → AreDrawn drawn → (n : ℕ) → 
 system_sound drawn are n few = record {
   components = sound_components drawn n few;
   ports = sound_ports drawn n few;
-  feeds = λ p q port at from. sound_feed drawn are n p q port at from;
+  feeds = λ p port feed at from. sound_feed drawn are n p port feed at from;
   instant_order = order_of_smaller (length (system_from drawn n).ports) (λ p. p < length (system_from drawn n).ports) (Needs (system_from drawn n)) (numbers (system_from drawn n).instant_order) (by_number drawn n)
       (λ p h. h) (λ p h. h) (needs_before drawn are n);
   initial_order = order_of_smaller (length (system_from drawn n).ports) (λ p. is_unclocked_at (system_from drawn n).ports p ≡ true) (NeedsInitially (system_from drawn n)) (numbers (system_from drawn n).initial_order) (by_number drawn n)

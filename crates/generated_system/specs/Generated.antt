@@ -65,7 +65,7 @@ abbrev pub output_of : (ℕ → Drawn) → ℕ → PortId
 output_of drawn i = record { 0 = first_port drawn (suc i) - 1 }
 
 abbrev pub feed_of : (ℕ → Drawn) → ℕ → Option Feed
-feed_of drawn i = option_map (λ j. record { from = output_of drawn j }) (drawn i).feeder
+feed_of drawn i = option_map (λ j. record { from = output_of drawn j; changes = [] }) (drawn i).feeder
 
 -- ---- the whole
 

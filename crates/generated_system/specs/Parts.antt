@@ -13,7 +13,7 @@ use Rattle.generated_system.specs.Generated.{component_of, generated_bound, gene
 -- the feed from the output of a component, where there is such a component
 abbrev pub fed_by : List PortId → Option ℕ → Option Feed
 fed_by outputs None = None
-fed_by outputs (Some j) = option_map (λ (p : PortId). record { from = p }) (slice_get outputs j)
+fed_by outputs (Some j) = option_map (λ (p : PortId). record { from = p; changes = [] }) (slice_get outputs j)
 
 -- one more component stands behind the others, by what is drawn for it
 pub record Adds (drawn : Drawn) (old new : Parts) : Type 0 where

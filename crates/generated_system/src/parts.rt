@@ -29,7 +29,7 @@ impl Parts {
     {
         let number = self.components.len();
         let made = component(alloc, number, drawn.machine)?;
-        let feed = feed_by(self.outputs.as_slice(), drawn.feeder);
+        let feed = feed_by(alloc, self.outputs.as_slice(), drawn.feeder);
         let value = first_value(alloc, drawn.parameter)?;
         let output = push_ports(
             alloc,
@@ -65,12 +65,12 @@ pub(crate) fn made_parts(alloc: Global, seed: u32, n: usize) -> Result<Parts, Al
 }
 
 // What feeds the input of a component, by the outputs of those before it.
-fn feed_by(outputs: &[PortId], feeder: Option<usize>) -> Option<Feed>
+fn feed_by(alloc: Global, outputs: &[PortId], feeder: Option<usize>) -> Option<Feed>
     ensures { result ≡ fed_by outputs.now feeder }
 {
     match feeder {
         Some(number) => match outputs.get(number) {
-            Some(from) => Some(Feed { from: *from }),
+            Some(from) => Some(Feed::plain(alloc, *from)),
             None => None,
         },
         None => None,

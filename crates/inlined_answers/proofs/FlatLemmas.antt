@@ -1,6 +1,7 @@
 -- Trees that are the same but for the numbers of elements are flattened alike.
-use Rattle.std.proofs.Common.{◌≡◌, ◌∙◌, inl, inr, ℕ, true, false, List, map, length, Option, Some, refl, sym, ap, subst, get_or, slice_get}
+use Rattle.std.proofs.Common.{◌≡◌, ◌∙◌, inl, inr, ℕ, Bool, true, false, cond, not, is_some, List, [], ◌∷◌, map, filter, length, Option, Some, refl, sym, ap, subst, get_or, slice_get}
 use Rattle.std.specs.Prelude.{IsSomeAnd}
+use Rattle.std.specs.List.{cons_option}
 use Rattle.std.proofs.lemmas.List.{length-map}
 use Rattle.value_types.specs.declared.joint.Class.{Class}
 use Rattle.value_types.specs.declared.shape.Shape.{Shape}
@@ -9,6 +10,7 @@ use Rattle.doc_tree.specs.declared.rule.FlatteningRule.{FlatteningRule}
 use Rattle.doc_tree.specs.declared.rule.FlatteningRule.TheVariants as f
 use Rattle.doc_tree.specs.declared.rule.Rule.{Rule}
 use Rattle.doc_tree.specs.declared.rule.Rule.TheVariants.{Document, Description, System as OfSystem, Nesting, Flattening, Loop, SavesNoState, TooManyPorts, Parameters}
+use Rattle.parameter_values.specs.declared.change.Change.{Change}
 use Rattle.system_model.specs.declared.system.Component.{Component}
 use Rattle.system_model.specs.declared.system.Port.{Port}
 use Rattle.system_model.specs.declared.system.System.{System}
@@ -20,11 +22,43 @@ use Rattle.ssd_tree.specs.declared.tree.Owner.{Owner}
 use Rattle.ssd_tree.specs.declared.tree.SystemTree.{SystemTree}
 use Rattle.ssd_tree.specs.declared.tree.TypeChild.{TypeChild}
 use Rattle.flatten.specs.Flat.{AreComponentsOf, Flattens, IsComponentOf, point_of_port, source_at}
-use Rattle.flatten.specs.Paths.{EndsBy, Feeds, IsOn, Joins, JoinsBy, Leads, LeadsUpTo}
+use Rattle.flatten.specs.Paths.{EndsBy, Feeds, IsBefore, IsOn, Joins, JoinsBy, Leads, LeadsBy, LeadsOnTo, LeadsUpTo, changes_along, plain}
 use Rattle.flatten.specs.Points.{IsOfSystem, Itself, OfComponent, Point, is_of_system, named_by, point_for, point_of, variable_of}
 use Rattle.flatten.specs.Rules.{Breaks, EndsPath, GivesOther, HasNoSavedState, HasOtherCausality, HasOtherType, HasTooManyPorts, IsFitting, IsForOther, IsOfConnector, IsOtherClass, IsTimeBased, IsTooWide, NamesNoVariable, PassesOther, PathFault, RepeatsEnd, ViolatesFlattening, class_at, end_at}
 use Rattle.inlined_answers.specs.Alike.{plain_component, plain_connection, plain_connector, without_numbers}
 use Rattle.inlined_answers.proofs.ListLemmas.{found_alike, held_there, leads_along, mapped_at, read_alike, some_then, some_there, there}
+
+-- ---- connections without a transformation
+
+abbrev has_none : Connection → Bool
+has_none k = not (is_some k.change)
+
+kept_alike : (b : Bool) (k : Connection) (ks ms : List Connection) → map plain_connection ks ≡ ms → map plain_connection (cond b (k ∷ ks) ks) ≡ cond b (plain_connection k ∷ ms) ms
+kept_alike true k ks ms e = ap (λ (zs : List Connection). plain_connection k ∷ zs) e
+kept_alike false k ks ms e = e
+
+kept_plain : (ks : List Connection) → map plain_connection (filter has_none ks) ≡ filter has_none (map plain_connection ks)
+kept_plain [] = refl
+kept_plain (k ∷ ks) = kept_alike (has_none k) k (filter has_none ks) (filter has_none (map plain_connection ks)) (kept_plain ks)
+
+plain_same : (t u : SystemTree) → without_numbers t ≡ without_numbers u → without_numbers (plain t) ≡ without_numbers (plain u)
+plain_same t u same =
+    ap (λ (ks : List Connection). record (without_numbers t) { connections = ks }) (kept_plain t.connections)
+    ∙ ap (λ (x : SystemTree). record x { connections = filter has_none x.connections }) same
+    ∙ ap (λ (ks : List Connection). record (without_numbers u) { connections = ks }) (sym (kept_plain u.connections))
+
+change_first : (k m : Connection) (ks ms : List Connection) → k.change ≡ m.change → changes_along ks ≡ changes_along ms → changes_along (k ∷ ks) ≡ changes_along (m ∷ ms)
+change_first k m ks ms e f = ap (λ (o : Option Change). cons_option o (changes_along ks)) e ∙ ap (cons_option m.change) f
+
+onward : (u : SystemTree) (shapes : List Shape) (m : Connection) (p s q : Point) (ms : List Connection) → JoinsBy u shapes m p s → IsOfSystem u s → LeadsBy u shapes s ms q → LeadsBy u shapes p (m ∷ ms) q
+onward u shapes m p s q [] joins through h = absurd h
+onward u shapes m p s q (l ∷ ls) joins through h = (s, joins, through, h)
+
+-- a path with the changes of another
+record IsAlong (u : SystemTree) (shapes : List Shape) (p : Point) (ks : List Connection) (q : Point) : Type 0 where
+  pub path : List Connection
+  pub leads : LeadsBy u shapes p path q
+  pub makes : changes_along ks ≡ changes_along path
 
 module _ (t u : SystemTree) (same : without_numbers t ≡ without_numbers u) (shapes : List Shape) where
   components_same : map plain_component t.components ≡ map plain_component u.components
@@ -66,7 +100,7 @@ module _ (t u : SystemTree) (same : without_numbers t ≡ without_numbers u) (sh
 
   -- ---- paths
 
-  joins_by : (k : Connection) (p q : Point) → JoinsBy t shapes k p q → (m : Connection) × JoinsBy u shapes m p q
+  joins_by : (k : Connection) (p q : Point) → JoinsBy t shapes k p q → (m : Connection) × JoinsBy u shapes m p q × (k.change ≡ m.change)
   joins_by k p q j =
       let m = held_there plain_connection t.connections u.connections connections_same k j.is in
       let start_is : m.0.start ≡ k.start = sym (ap (λ (x : Connection). x.start) m.2) in
@@ -77,10 +111,11 @@ module _ (t u : SystemTree) (same : without_numbers t ≡ without_numbers u) (sh
           start = ap (point_of u shapes) start_is ∙ (sym (points_same k.start) ∙ j.start);
           end = ap (point_of u shapes) end_is ∙ (sym (points_same k.end) ∙ j.end);
         },
+        ap (λ (x : Connection). x.change) m.2,
       )
 
   joins : (p q : Point) → Joins t shapes p q → Joins u shapes p q
-  joins p q j = joins_by j.0 p q j.1
+  joins p q j = let m = joins_by j.0 p q j.1 in (m.0, m.1)
 
   leads : (p q : Point) → Leads t shapes p q → Leads u shapes p q
   leads p q l = record {
@@ -92,8 +127,25 @@ module _ (t u : SystemTree) (same : without_numbers t ≡ without_numbers u) (sh
   leads_upto : (p s : Point) → LeadsUpTo t shapes p s → LeadsUpTo u shapes p s
   leads_upto p s h = elim h [ inl e ↦ inl e | inr l ↦ inr (of_system s l.0, leads p s l.1) ]
 
-  feeds : (p q : Point) → Feeds t shapes p q → Feeds u shapes p q
-  feeds p q x = record { output = x.output; input = x.input; from = x.from; to = x.to; path = leads p q x.path }
+  leads_onto : (e q : Point) → LeadsOnTo t shapes e q → LeadsOnTo u shapes e q
+  leads_onto e q h = elim h [ inl same ↦ inl same | inr l ↦ inr (of_system e l.0, leads e q l.1) ]
+
+  along : (p : Point) (ks : List Connection) (q : Point) → LeadsBy t shapes p ks q → IsAlong u shapes p ks q
+  along p [] q h = absurd h
+  along p (k ∷ []) q h = let m = joins_by k p q h in record { path = m.0 ∷ []; leads = m.1; makes = change_first k m.0 [] [] m.2 refl }
+  along p (k ∷ (l ∷ ks)) q h =
+      let m = joins_by k p h.0 h.1 in
+      let more = along h.0 (l ∷ ks) q h.3 in
+      record {
+        path = m.0 ∷ more.path;
+        leads = onward u shapes m.0 p h.0 q more.path m.1 (of_system h.0 h.2) more.leads;
+        makes = change_first k m.0 (l ∷ ks) more.path m.2 more.makes;
+      }
+
+  feeds : (p : Point) (changes : List Change) (q : Point) → Feeds t shapes p changes q → Feeds u shapes p changes q
+  feeds p changes q x =
+      let a = along p x.path q x.leads in
+      record { output = x.output; input = x.input; from = x.from; to = x.to; path = a.path; leads = a.leads; makes = x.makes ∙ a.makes }
 
   ends_by : (k : Connection) (p s q : Point) (output input : Variable) → EndsBy t shapes k p s q output input → (m : Connection) × EndsBy u shapes m p s q output input
   ends_by k p s q output input x =
@@ -177,35 +229,31 @@ module _ (t u : SystemTree) (same : without_numbers t ≡ without_numbers u) (sh
       let d = component_there h.0 h.1.0 h.1.1 in
       (d.0.node, (h.0, (d.0, d.1, refl, h.1.3)))
 
-  breaks : (rule : FlatteningRule) (node : ℕ) → Breaks t shapes rule node → (other : ℕ) × Breaks u shapes rule other
-  breaks f.NoSuchVariable node h = no_variable node h
-  breaks f.OtherCausality node h = of_connector HasOtherCausality other_causality node h
-  breaks f.OtherClass node h = elim h [
-    | inl at ↦ let o = of_connector HasOtherType other_type node at in (o.0, inl o.1)
-    | inr ends ↦ let o = ends_path (IsOtherClass t shapes) (IsOtherClass u shapes) other_class node ends in (o.0, inr o.1)
-  ]
-  breaks f.EndTwice node h = repeats_end node h
-  breaks f.TooWide node h = ends_path IsTooWide IsTooWide (λ p s q output input fault. fault) node h
-  breaks f.FedClock node h = ends_path (IsTimeBased shapes) (IsTimeBased shapes) (λ p s q output input fault. fault) node h
-
-  pub violates : (rule : Rule) (node : ℕ) → ViolatesFlattening t shapes rule node → (other : ℕ) × ViolatesFlattening u shapes rule other
-  violates (Document rule) node h = absurd h
-  violates (Description rule) node h = absurd h
-  violates (OfSystem rule) node h = absurd h
-  violates (Nesting rule) node h = absurd h
-  violates (Flattening rule) node h = breaks rule node h
-  violates Loop node h = absurd h
-  violates SavesNoState node h = no_saved_state node h
-  violates TooManyPorts node h = too_many_ports node h
-  violates (Parameters rule) node h = absurd h
+  other_change : (node : ℕ) → Breaks t shapes f.OtherChange node → (other : ℕ) × Breaks u shapes f.OtherChange other
+  other_change node h =
+      let b = h.3.2.1 in
+      let m = joins_by h.0 b.s b.e b.is in
+      let before : IsBefore u shapes m.0 h.3.2.0 = record {
+        output = b.output;
+        p = b.p;
+        s = b.s;
+        e = b.e;
+        q = b.q;
+        from = b.from;
+        upto = leads_upto b.p b.s b.upto;
+        is = m.1;
+        on = leads_onto b.e b.q b.on;
+        to = b.to;
+      } in
+      (m.0.node, (m.0, m.1.is, refl, (h.3.0, sym m.2 ∙ h.3.1, (h.3.2.0, before, h.3.2.2))))
 
   -- ---- the flattened system
 
-  pub feeds_some : (port : Option Port) (target : Port) → IsSomeAnd port (λ (source : Port). Feeds t shapes (point_of_port source) (point_of_port target)) →
-      IsSomeAnd port (λ (source : Port). Feeds u shapes (point_of_port source) (point_of_port target))
-  feeds_some port target h =
-      some_then (λ (source : Port). Feeds t shapes (point_of_port source) (point_of_port target)) (λ (source : Port). Feeds u shapes (point_of_port source) (point_of_port target))
-      (λ source x. feeds (point_of_port source) (point_of_port target) x) port h
+  pub feeds_some : (port : Option Port) (changes : List Change) (target : Port) → IsSomeAnd port (λ (source : Port). Feeds t shapes (point_of_port source) changes (point_of_port target)) →
+      IsSomeAnd port (λ (source : Port). Feeds u shapes (point_of_port source) changes (point_of_port target))
+  feeds_some port changes target h =
+      some_then (λ (source : Port). Feeds t shapes (point_of_port source) changes (point_of_port target)) (λ (source : Port). Feeds u shapes (point_of_port source) changes (point_of_port target))
+      (λ source x. feeds (point_of_port source) changes (point_of_port target) x) port h
 
   sources_same : (i : ℕ) → source_at t.components i ≡ source_at u.components i
   sources_same i =
@@ -235,6 +283,31 @@ module _ (t u : SystemTree) (same : without_numbers t ≡ without_numbers u) (sh
     each = λ i c is. component_of i c (h.each i c is);
   }
 
+-- ---- the rules of both
+
+breaks : (t u : SystemTree) → without_numbers t ≡ without_numbers u → (shapes : List Shape) (rule : FlatteningRule) (node : ℕ) → Breaks t shapes rule node → (other : ℕ) × Breaks u shapes rule other
+breaks t u same shapes f.NoSuchVariable node h = no_variable t u same shapes node h
+breaks t u same shapes f.OtherCausality node h = of_connector t u same shapes HasOtherCausality (other_causality t u same shapes) node h
+breaks t u same shapes f.OtherClass node h = elim h [
+  | inl at ↦ let o = of_connector t u same shapes HasOtherType (other_type t u same shapes) node at in (o.0, inl o.1)
+  | inr ends ↦ let o = ends_path t u same shapes (IsOtherClass t shapes) (IsOtherClass u shapes) (other_class t u same shapes) node ends in (o.0, inr o.1)
+]
+breaks t u same shapes f.EndTwice node h = repeats_end t u same shapes node h
+breaks t u same shapes f.TooWide node h = ends_path (plain t) (plain u) (plain_same t u same) shapes IsTooWide IsTooWide (λ p s q output input fault. fault) node h
+breaks t u same shapes f.FedClock node h = ends_path t u same shapes (IsTimeBased shapes) (IsTimeBased shapes) (λ p s q output input fault. fault) node h
+breaks t u same shapes f.OtherChange node h = other_change t u same shapes node h
+
+violates : (t u : SystemTree) → without_numbers t ≡ without_numbers u → (shapes : List Shape) (rule : Rule) (node : ℕ) → ViolatesFlattening t shapes rule node → (other : ℕ) × ViolatesFlattening u shapes rule other
+violates t u same shapes (Document rule) node h = absurd h
+violates t u same shapes (Description rule) node h = absurd h
+violates t u same shapes (OfSystem rule) node h = absurd h
+violates t u same shapes (Nesting rule) node h = absurd h
+violates t u same shapes (Flattening rule) node h = breaks t u same shapes rule node h
+violates t u same shapes Loop node h = absurd h
+violates t u same shapes SavesNoState node h = no_saved_state t u same shapes node h
+violates t u same shapes TooManyPorts node h = too_many_ports t u same shapes node h
+violates t u same shapes (Parameters rule) node h = absurd h
+
 -- no element of the one breaks a rule, where none of the other does
 pub fits_too : (t u : SystemTree) → without_numbers t ≡ without_numbers u → (shapes : List Shape) → IsFitting t shapes → IsFitting u shapes
 fits_too t u same shapes fits rule node h = let v = violates u t (sym same) shapes rule node h in fits rule v.0 v.1
@@ -244,9 +317,9 @@ flattens_too t u same shapes system h = record {
   flat = record {
     components = components_of t u same shapes system.components h.flat.components;
     ports = h.flat.ports;
-    feeds = λ p q target is. let both = h.flat.feeds p q target is in (
-      λ fed. feeds_some t u same shapes (slice_get system.ports q) target (both.0 fed),
-      λ x. both.1 (feeds_some u t (sym same) shapes (slice_get system.ports q) target x),
+    feeds = λ p target feed is. let both = h.flat.feeds p target feed is in (
+      λ fed. feeds_some t u same shapes (slice_get system.ports feed.from.0) feed.changes target (both.0 fed),
+      λ x. both.1 (feeds_some u t (sym same) shapes (slice_get system.ports feed.from.0) feed.changes target x),
     );
   };
   orders = h.orders;

@@ -37,7 +37,7 @@ abbrev pub plain_connector : Connector → Connector
 plain_connector x = record { node = 0; owner = x.owner; name = x.name; kind = x.kind; child = x.child }
 
 abbrev pub plain_connection : Connection → Connection
-plain_connection x = record { node = 0; start = x.start; end = x.end }
+plain_connection x = record { node = 0; start = x.start; end = x.end; change = x.change }
 
 abbrev pub plain_origin : Origin → Origin
 plain_origin (File base path) = File base path

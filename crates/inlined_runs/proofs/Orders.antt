@@ -1,6 +1,6 @@
 -- A run is about the components and ports of its system, whatever their orders.
-use Rattle.std.proofs.Common.{◌≡◌, ◌⊎◌, inl, inr, ℕ, suc, ℤ, Bool, true, false, ◌||◌, List, [], ◌∷◌, map, refl, sym, ◌∙◌, ap, subst}
-use Rattle.std.specs.Prelude.{Option, Some, None, if◌then◌else◌, ◌==◌, slice_get}
+use Rattle.std.proofs.Common.{◌≡◌, ◌⊎◌, ℕ, suc, ℤ, Bool, true, false, ◌||◌, List, [], ◌∷◌, map, refl, sym, ◌∙◌, ap, subst}
+use Rattle.std.specs.Prelude.{Option, Some, None, if◌then◌else◌, ◌==◌}
 use Rattle.std.specs.List.{list_any}
 use Rattle.sim_base.specs.declared.numbers.PortId.{PortId}
 use Rattle.value_types.specs.declared.shape.Shape.{Shape}
@@ -16,15 +16,17 @@ use Rattle.system_model.specs.declared.system.Role.TheVariants.{Input, Output, C
 use Rattle.system_model.specs.declared.system.Timing.TheVariants.{Answered, Changing, Countdown, Periodic}
 use Rattle.system_model.specs.Text.{Instant}
 use Rattle.system_model.specs.Values.{value}
-use Rattle.run_model.specs.AfterInstant.{Again, AtLimit, Done, Ended, Following, any_update, asks_again, asks_for_end, following, next_events, next_timer, next_timers, next_timers_from, updated, written}
-use Rattle.run_model.specs.Behaved.{AnswersAt, AnswersInitially, AnswersWell, AnswersWellIf, AtFirst, BehavesBefore, BehavesInInstant, BehavesInStep, BehavesInitially, BehavesWell, Configuring, Departed, Eventing, Initializing, Mode, Onward, Reached, SetsWell, Stepping, WellBehaved}
-use Rattle.run_model.specs.Equations.{Solves, SolvesAt}
-use Rattle.run_model.specs.Initial.{SolvesInitially, beginning, first_timer, first_timers, initial_value, initialized}
-use Rattle.run_model.specs.Run.{IsFmu, Run, Situation, Timer, each}
-use Rattle.run_model.specs.Stepping.{AtStop, ByStep, Departs, Ends, GoesOn, IsStep, LacksStep, Next, WhereAsked, WhereFixed}
+use Rattle.run_model.specs.AfterInstant.{Again, AtLimit, Done, Ended, Following, OutOfRange, any_update, asks_again, asks_for_end, following, next_timer, next_timers_from, updated, written}
+use Rattle.run_model.specs.Behaved.{AnswersAt, AnswersInitially, AnswersWell, AnswersWellIf, AtFirst, BehavesBefore, BehavesInInstant, BehavesInStep, BehavesInitially, Configuring, Departed, Eventing, Initializing, Mode, Onward, Reached, SetsWell, Stepping, WellBehaved}
+use Rattle.run_model.specs.Equations.{Solves, SolvesAt, is_bad}
+use Rattle.run_model.specs.Initial.{SolvesInitially, beginning, first_timer, initial_value, initialized, is_bad_initially}
+use Rattle.run_model.specs.Run.{IsFmu, Run, Situation, Timer}
+use Rattle.run_model.specs.Stepping.{AtStop, ByStep, Departs, Ends, EndsBefore, GoesOn, IsStep, LacksStep, Next, WhereAsked, WhereFixed}
 use Rattle.run_model.specs.Timers.{is_armed_for}
-use Rattle.run_model.specs.Trace.{Continues, Further, IsTrace, Last, Leads, LeadsBy, Runs}
-use Rattle.machine_courses.specs.Fronts.{LacksStepAt}
+use Rattle.run_model.specs.Trace.{Continues, Fails, Further, IsTrace, Last, Leads, LeadsBy, Runs, Unwritten}
+use Rattle.event_iteration.specs.Lost.{IsFirstLost}
+use Rattle.event_iteration.specs.declared.lost.LostValue.{LostValue}
+use Rattle.machine_courses.specs.Fronts.{AtTheStart, InInstant, LacksStepAt, LosesAt}
 use Rattle.inlined_runs.specs.Orders.{AreOfSameParts, BehaveAlike, TraceAlike}
 
 mapped : {X Y : Type 0} (f g : X → Y) → ((x : X) → f x ≡ g x) → (xs : List X) → map f xs ≡ map g xs
@@ -78,6 +80,20 @@ module _ (cs : List Component) (ps : List Port) (bound : Bound) (ms : List Machi
     equations = λ p port is. h.equations p port is ∙ initial_same a b c d port.role V p port;
   }
 
+  bad_same : (a b c d : List PortId) (V : List (Option ℤ)) (port : Port) → is_bad_initially (run cs ps bound ms plan a b).system V port ≡ is_bad_initially (run cs ps bound ms plan c d).system V port
+  bad_same a b c d V port = by port.role
+    where
+      by : (role : Role) → is_bad_initially (run cs ps bound ms plan a b).system V (record port { role = role }) ≡ is_bad_initially (run cs ps bound ms plan c d).system V (record port { role = role })
+      by (Input None) = refl
+      by (Input (Some feed)) = refl
+      by Output = refl
+      by (ClockInput feed) = refl
+      by ClockOutput = refl
+      by (TimeClock timing) = refl
+
+  any_bad_same : (a b c d : List PortId) (V : List (Option ℤ)) (found : Bool) → list_any (is_bad_initially (run cs ps bound ms plan a b).system V) ps ≡ found → list_any (is_bad_initially (run cs ps bound ms plan c d).system V) ps ≡ found
+  any_bad_same a b c d V found h = subst (λ (test : Port → Bool). list_any test ps ≡ found) (λ i port. bad_same a b c d V port i) h
+
   first_timer_same : (a b c d : List PortId) (role : Role) (states : List MachineState) (port : Port) → first_timer role (run cs ps bound ms plan a b) states port ≡ first_timer role (run cs ps bound ms plan c d) states port
   first_timer_same a b c d (TimeClock (Periodic interval shift)) states port = refl
   first_timer_same a b c d (TimeClock Answered) states port = refl
@@ -120,9 +136,10 @@ module _ (cs : List Component) (ps : List Port) (bound : Bound) (ms : List Machi
 
   following_same : (a b c d : List PortId) (s : Situation) (V : List (Option ℤ)) → following (run cs ps bound ms plan a b) s V ≡ following (run cs ps bound ms plan c d) s V
   following_same a b c d s V =
-      ap (λ (ts : List Timer). if any_update asks_for_end (run cs ps bound ms plan a b) s V then Ended
+      ap (λ (ts : List Timer). if list_any (is_bad V) ps then OutOfRange
+      else (if any_update asks_for_end (run cs ps bound ms plan a b) s V then Ended
       else (if any_update asks_again (run cs ps bound ms plan a b) s V || list_any (is_armed_for s.t) ts
-      then (if suc s.n == plan.limit then AtLimit else Again) else Done))
+      then (if suc s.n == plan.limit then AtLimit else Again) else Done)))
       (timers_from a b c d s V 0 ps s.timers)
 
   is_step : (a b c d : List PortId) (z : Situation) (kept : List ℕ) (point : ℕ) → IsStep (run cs ps bound ms plan a b) z kept point → IsStep (run cs ps bound ms plan c d) z kept point
@@ -138,6 +155,7 @@ module _ (cs : List Component) (ps : List Port) (bound : Bound) (ms : List Machi
   departs a b c d {z} (ByStep next kept point step asks e) = ByStep next kept point (is_step a b c d z kept point step) asks e
 
   leads_by : (a b c d : List PortId) (f : Following) (s : Situation) (V : List (Option ℤ)) (next : Next) → LeadsBy f (run cs ps bound ms plan a b) s V next → LeadsBy f (run cs ps bound ms plan c d) s V next
+  leads_by a b c d OutOfRange s V next h = h
   leads_by a b c d Ended s V next h = h
   leads_by a b c d AtLimit s V next h = h
   leads_by a b c d Again s V next h = h ∙ ap GoesOn (updated_same a b c d s V)
@@ -152,18 +170,20 @@ module _ (cs : List Component) (ps : List Port) (bound : Bound) (ms : List Machi
 
   continues : (a b c d : List PortId) {s : Situation} {is : List Instant} {kind : EndKind} {end : ℕ} → Continues (run cs ps bound ms plan a b) s is kind end → Continues (run cs ps bound ms plan c d) s is kind end
   continues a b c d (Last s V is kind end solved leading e) = Last s V is kind end (solves a b c d s V solved) (leads a b c d s V (Ends kind end) leading) e
+  continues a b c d (Unwritten s V is kind end solved leading e) = Unwritten s V is kind end (solves a b c d s V solved) (leads a b c d s V (EndsBefore kind end) leading) e
   continues a b c d (Further s V is kind end next rest solved leading e more) =
       Further s V is kind end next rest (solves a b c d s V solved) (leads a b c d s V (GoesOn next) leading) e (continues a b c d more)
 
   traced : (a b c d : List PortId) (is : List Instant) (kind : EndKind) (end : ℕ) → IsTrace (run cs ps bound ms plan a b) is kind end → IsTrace (run cs ps bound ms plan c d) is kind end
-  traced a b c d is kind end (Runs initial solved more) =
-      Runs initial (solves_initially a b c d initial solved)
+  traced a b c d is kind end (Fails initial solved bad none ranged start) = Fails initial (solves_initially a b c d initial solved) (any_bad_same a b c d initial true bad) none ranged start
+  traced a b c d is kind end (Runs initial solved kept more) =
+      Runs initial (solves_initially a b c d initial solved) (any_bad_same a b c d initial false kept)
       (subst (λ (s : Situation). Continues (run cs ps bound ms plan c d) s is kind end) (beginning_same a b c d initial) (continues a b c d more))
 
   -- ---- where it comes to
 
   reached : (a b c d : List PortId) {s : Situation} → Reached (run cs ps bound ms plan a b) s → Reached (run cs ps bound ms plan c d) s
-  reached a b c d (AtFirst s initial solved e) = AtFirst s initial (solves_initially a b c d initial solved) (e ∙ beginning_same a b c d initial)
+  reached a b c d (AtFirst s initial solved kept e) = AtFirst s initial (solves_initially a b c d initial solved) (any_bad_same a b c d initial false kept) (e ∙ beginning_same a b c d initial)
   reached a b c d (Onward s V next before solved leading) = Onward s V next (reached a b c d before) (solves a b c d s V solved) (leads a b c d s V (GoesOn next) leading)
 
   departed : (a b c d : List PortId) (z : Situation) → Departed (run cs ps bound ms plan a b) z → Departed (run cs ps bound ms plan c d) z
@@ -179,6 +199,11 @@ module _ (cs : List Component) (ps : List Port) (bound : Bound) (ms : List Machi
 
   lacks_at : (a b c d : List PortId) (i at e : ℕ) → LacksStepAt (run cs ps bound ms plan a b) i at e → LacksStepAt (run cs ps bound ms plan c d) i at e
   lacks_at a b c d i at e h = record { z = h.z; departed = departed a b c d h.z h.departed; point = h.point; lacks = lacks_step a b c d h.z i e h.lacks }
+
+  loses_at : (a b c d : List PortId) (lost : LostValue) (point : ℕ) → LosesAt (run cs ps bound ms plan a b) lost point → LosesAt (run cs ps bound ms plan c d) lost point
+  loses_at a b c d lost point (AtTheStart initial solved first e) =
+      AtTheStart initial (solves_initially a b c d initial solved) (subst (λ (test : Port → Bool). IsFirstLost test ps initial lost) (λ i port. bad_same a b c d initial port i) first) e
+  loses_at a b c d lost point (InInstant s V way solved first e) = InInstant s V (reached a b c d way) (solves a b c d s V solved) first e
 
   -- ---- good replies
 
@@ -275,3 +300,8 @@ pub lacks_alike : (r q : Run) → AreOfSameParts r q → (i at e : ℕ) → Lack
 lacks_alike r q same i at e lacks =
     subst (λ (x : Run). LacksStepAt x i at e) (same_run r q same)
     (lacks_at r.system.components r.system.ports r.bound r.machines r.plan r.system.instant_order r.system.initial_order q.system.instant_order q.system.initial_order i at e lacks)
+
+pub loses_alike : (r q : Run) → AreOfSameParts r q → (lost : LostValue) (point : ℕ) → LosesAt r lost point → LosesAt q lost point
+loses_alike r q same lost point loses =
+    subst (λ (x : Run). LosesAt x lost point) (same_run r q same)
+    (loses_at r.system.components r.system.ports r.bound r.machines r.plan r.system.instant_order r.system.initial_order q.system.instant_order q.system.initial_order lost point loses)

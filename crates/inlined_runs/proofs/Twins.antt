@@ -7,9 +7,8 @@ use Rattle.std.specs.Option.{option_map}
 use Rattle.sim_base.specs.Causes.{Rose}
 use Rattle.sim_base.specs.Sink.{SinkView, with_piece}
 use Rattle.fmu_peer.specs.Machine.{Machine}
-use Rattle.fmu_peer.specs.Start.{IsStarted, SpawnerView}
+use Rattle.fmu_peer.specs.Start.{SpawnerView}
 use Rattle.fmu_peer.specs.View.{Fixed, View}
-use Rattle.system_model.specs.declared.bound.Bound.{Bound}
 use Rattle.system_model.specs.declared.plan.EndKind.{EndKind}
 use Rattle.system_model.specs.declared.plan.EndKind.TheVariants as K
 use Rattle.system_model.specs.declared.plan.Plan.{Plan}
@@ -27,26 +26,26 @@ use Rattle.calling_sequence.specs.declared.run_end.RunEnd.{RunEnd}
 use Rattle.calling_sequence.specs.declared.run_end.RunEnd.TheVariants as E
 use Rattle.calling_sequence.specs.Ends.{trace_pieces}
 use Rattle.calling_sequence.specs.Puts.{with_pieces}
-use Rattle.machine_courses.specs.Fronts.{LacksStepAt}
+use Rattle.event_iteration.specs.declared.lost.LostValue.{LostValue}
+use Rattle.machine_courses.specs.Fronts.{LacksStepAt, LosesAt}
 use Rattle.machine_courses.specs.Outcomes.{PutsTrace}
 use Rattle.step_master.specs.Traced.{IsRunOf, SomeRose, output_of}
 use Rattle.step_master.specs.Traced as T
-use Rattle.command_line.specs.Line.{BenchLine, Check, IsBenchLine, IsLine, IsTraceLine, Line, One, RunLine, TraceLine, bench_row, check_row, one_row, run_in, run_row, trace_check_row}
+use Rattle.command_line.specs.Line.{Check, IsLine, Line, One, RunLine, bench_row, check_row, one_row, run_in, run_row, trace_check_row}
 use Rattle.command_line.specs.Line as L
 use Rattle.system_loading.specs.Assembly.{HaveSameParts}
 use Rattle.system_files.specs.declared.loaded.Loaded.{Loaded}
 use Rattle.system_files.specs.Order.{Found}
-use Rattle.run_program.specs.Facts.{task_of}
 use Rattle.run_program.specs.Happened.{Happened}
-use Rattle.run_program.specs.Message.{Reports, end_message, end_status, fixed_message, limit_message, size_text}
+use Rattle.run_program.specs.Message.{Reports, end_message, end_status, fixed_message, limit_message, range_message, size_text}
 use Rattle.run_program.specs.Peers.{AreKnown, AreStarted, IsFirstUnknown}
 use Rattle.run_program.specs.Rows as rows
 use Rattle.run_program.specs.Rows.{Answers, AnswersOr11, HasEnded, IsSilent, IsToFind, KeepsSystemRows, ReportsEnd, RunsLoaded, WritesSize, memory_line}
-use Rattle.run_program.specs.Runs.{HasOneTrace, TracesOnce, names_of}
+use Rattle.run_program.specs.Runs.{HasOneTrace, TracesOnce, names_of, port_name}
 use Rattle.run_program.specs.TraceCheck.{KeepsRows}
-use Rattle.inlined_runs.specs.Orders.{AreOfSameParts, BehaveAlike, FixedOnce, TraceAlike}
-use Rattle.inlined_runs.specs.Twins.{AnswerAlike, AreTwins, BothFind, IsUnhindered, RunAlike, TellAlike, TellMachines, ToldUnknown, run_of}
-use Rattle.inlined_runs.proofs.Orders.{lacks_alike}
+use Rattle.inlined_runs.specs.Orders.{AreOfSameParts, BehaveAlike, FixedOnce, LostOnce, TraceAlike}
+use Rattle.inlined_runs.specs.Twins.{AnswerAlike, IsUnhindered, RunAlike, TellAlike, TellMachines, ToldUnknown, run_of}
+use Rattle.inlined_runs.proofs.Orders.{lacks_alike, loses_alike}
 
 -- ---- lists
 
@@ -142,8 +141,11 @@ IsTold h r K.Stop point = (h.status ≡ 0) × (h.err_after ≡ h.err)
 IsTold h r K.Asked point = (h.status ≡ 0) × (h.err_after ≡ h.err)
 IsTold h r K.Limit point = (h.status ≡ 8) × (h.err_after ≡ with_piece h.err (limit_message point))
 IsTold h r K.Fixed point =
-    (i : ℕ) × (e : ℕ) × (name : List ℕ) × LacksStepAt r i point e × (slice_get (names_of r.system) i ≡ Some name)
+    (i : ℕ) × (e : ℕ) × (name : List ℕ) × LacksStepAt r i point e × (slice_get (names_of r.system).components i ≡ Some name)
     × (h.status ≡ 9) × (h.err_after ≡ with_piece h.err (fixed_message name point e))
+IsTold h r K.Range point =
+    (lost : LostValue) × (port : _) × (name : List ℕ) × LosesAt r lost point × (slice_get (names_of r.system).ports lost.port.0 ≡ Some port)
+    × (slice_get (names_of r.system).components port.component.0 ≡ Some name) × (h.status ≡ 13) × (h.err_after ≡ with_piece h.err (range_message name port.name lost.value))
 IsTold h r K.Fault point = ⊥
 
 -- the trace of the run was put, and its end told
@@ -223,6 +225,11 @@ module _ (h : Happened) (asked : RunLine) (loaded : Loaded) (machines : List Mac
       by : Puts (Some (fixed_message told.1.0 at end)) 9 → Ran h asked loaded machines
       by (inl said) = ran K.Fixed at w.0 w.1.0 (component.0, end, told.1.0, w.1.1, told.1.1, said.0, said.1)
       by (inr cut) = absurd (hinders.puts cut.0)
+  of_end (E.Range lost at) w told = by (subst (λ e. Puts (end_message e) (end_status e)) told.1.2.2 told.2)
+    where
+      by : Puts (Some (range_message told.1.2.0 told.1.0.name lost.value)) 13 → Ran h asked loaded machines
+      by (inl said) = ran K.Range at w.0 w.1.0 (lost, told.1.0, told.1.2.0, w.1.1, told.1.1, told.1.2.1, said.0, said.1)
+      by (inr cut) = absurd (hinders.puts cut.0)
   of_end (E.Bad bad) w told = absurd (quiet w.1)
   of_end E.WriteFault w told = by (subst (λ e. Puts (end_message e) (end_status e)) told.1 told.2)
     where
@@ -254,6 +261,16 @@ moved_told h r q K.Fixed point same told = (
   told.5,
   told.6,
 )
+moved_told h r q K.Range point same told = (
+  told.0,
+  told.1,
+  told.2,
+  loses_alike r q same told.0 point told.3,
+  subst (λ (ps : List Port). slice_get (map port_name ps) told.0.port.0 ≡ Some told.1) same.parts.1 told.4,
+  subst (λ (cs : List Component). slice_get (map (λ (c : Component). c.name) cs) told.1.component.0 ≡ Some told.2) same.parts.0 told.5,
+  told.6,
+  told.7,
+)
 moved_told h r q K.Fault point same told = told
 
 moved : TraceAlike → (h : Happened) (r q : Run) → AreOfSameParts r q → Came h r → Came h q
@@ -269,11 +286,11 @@ moved trace h r q same x = record {
 abbrev SaidAlike : Happened → Happened → Type 0
 SaidAlike h k = (h.status ≡ k.status) × (h.err_after ≡ k.err_after)
 
-told_alike : FixedOnce → (h k : Happened) (r : Run) → IsSound r.system → AreMachines r → h.err ≡ k.err → (kind : EndKind) (point : ℕ) → IsTold h r kind point → IsTold k r kind point → SaidAlike h k
-told_alike once h k r sound machines err K.Stop point x y = (x.0 ∙ sym y.0, x.1 ∙ err ∙ sym y.1)
-told_alike once h k r sound machines err K.Asked point x y = (x.0 ∙ sym y.0, x.1 ∙ err ∙ sym y.1)
-told_alike once h k r sound machines err K.Limit point x y = (x.0 ∙ sym y.0, x.1 ∙ ap (λ (s : SinkView). with_piece s (limit_message point)) err ∙ sym y.1)
-told_alike once h k r sound machines err K.Fixed point x y = (
+told_alike : FixedOnce → LostOnce → (h k : Happened) (r : Run) → IsSound r.system → AreMachines r → h.err ≡ k.err → (kind : EndKind) (point : ℕ) → IsTold h r kind point → IsTold k r kind point → SaidAlike h k
+told_alike once lost h k r sound machines err K.Stop point x y = (x.0 ∙ sym y.0, x.1 ∙ err ∙ sym y.1)
+told_alike once lost h k r sound machines err K.Asked point x y = (x.0 ∙ sym y.0, x.1 ∙ err ∙ sym y.1)
+told_alike once lost h k r sound machines err K.Limit point x y = (x.0 ∙ sym y.0, x.1 ∙ ap (λ (s : SinkView). with_piece s (limit_message point)) err ∙ sym y.1)
+told_alike once lost h k r sound machines err K.Fixed point x y = (
   x.5 ∙ sym y.5,
   x.6 ∙ ap (λ (s : SinkView). with_piece s (fixed_message x.2 point x.1)) err ∙ ap (λ (name : List ℕ). with_piece k.err (fixed_message name point x.1)) names
       ∙ ap (λ (e : ℕ). with_piece k.err (fixed_message y.2 point e)) step.2 ∙ sym y.6,
@@ -283,11 +300,25 @@ told_alike once h k r sound machines err K.Fixed point x y = (
     step = once r sound machines x.0 y.0 point point x.1 y.1 x.3 y.3
 
     names : x.2 ≡ y.2
-    names = same_Some x.2 y.2 (sym x.4 ∙ ap (slice_get (names_of r.system)) step.0 ∙ y.4)
-told_alike once h k r sound machines err K.Fault point x y = absurd x
+    names = same_Some x.2 y.2 (sym x.4 ∙ ap (slice_get (names_of r.system).components) step.0 ∙ y.4)
+told_alike once lost h k r sound machines err K.Range point x y = (
+  x.6 ∙ sym y.6,
+  x.7 ∙ ap (λ (s : SinkView). with_piece s (range_message x.2 x.1.name x.0.value)) err ∙ ap (λ (name : List ℕ). with_piece k.err (range_message name x.1.name x.0.value)) names
+      ∙ ap (λ port. with_piece k.err (range_message y.2 port.name x.0.value)) ports ∙ ap (λ (v : LostValue). with_piece k.err (range_message y.2 y.1.name v.value)) value.0 ∙ sym y.7,
+)
+  where
+    value : (x.0 ≡ y.0) × (point ≡ point)
+    value = lost r sound machines x.0 y.0 point point x.3 y.3
 
-came_alike : OneTrace → FixedOnce → (h k : Happened) (r : Run) → IsSound r.system → AreMachines r → h.old.run.out ≡ k.old.run.out → h.err ≡ k.err → Came h r → Came k r → AnswerAlike h k
-came_alike trace once h k r sound machines out err x y = record {
+    ports : x.1 ≡ y.1
+    ports = same_Some x.1 y.1 (sym x.4 ∙ ap (λ (v : LostValue). slice_get (names_of r.system).ports v.port.0) value.0 ∙ y.4)
+
+    names : x.2 ≡ y.2
+    names = same_Some x.2 y.2 (sym x.5 ∙ ap (λ port. slice_get (names_of r.system).components port.component.0) ports ∙ y.5)
+told_alike once lost h k r sound machines err K.Fault point x y = absurd x
+
+came_alike : OneTrace → FixedOnce → LostOnce → (h k : Happened) (r : Run) → IsSound r.system → AreMachines r → h.old.run.out ≡ k.old.run.out → h.err ≡ k.err → Came h r → Came k r → AnswerAlike h k
+came_alike trace once lost h k r sound machines out err x y = record {
   status = said.0;
   out =
       x.out ∙ ap (λ (s : SinkView). with_pieces s (trace_pieces r.system r.plan x.is x.kind x.point)) out
@@ -302,7 +333,7 @@ came_alike trace once h k r sound machines out err x y = record {
 
     said : SaidAlike h k
     said =
-        told_alike once h k r sound machines err x.kind x.point x.told
+        told_alike once lost h k r sound machines err x.kind x.point x.told
         (subst (λ (kind : EndKind). IsTold k r kind x.point) (sym one.1) (subst (λ (point : ℕ). IsTold k r y.kind point) (sym one.2) y.told))
 
 pub record Laws : Type 0 where
@@ -310,6 +341,7 @@ pub record Laws : Type 0 where
   pub trace : TraceAlike
   pub behave : BehaveAlike
   pub fixed : FixedOnce
+  pub lost : LostOnce
 
 -- an answer of want of memory, or of a put that failed, is none of a call that nothing hinders
 hindered : (h : Happened) (text : List ℕ) → IsUnhindered h → Answers h 11 text → ⊥
@@ -329,7 +361,7 @@ runs_alike laws h k line asked loaded machines twins find asks known hinders hin
 
     alike : Ran h asked loaded machines → Ran k asked loaded machines → AnswerAlike h k
     alike x y =
-        came_alike laws.one laws.fixed h k (run_of asked x.made machines) x.sound x.machines_are twins.out twins.err x.came
+        came_alike laws.one laws.fixed laws.lost h k (run_of asked x.made machines) x.sound x.machines_are twins.out twins.err x.came
         (moved laws.trace k (run_of asked y.made machines) (run_of asked x.made machines)
         (of_same asked y.made x.made machines (y.parts.0 ∙ sym x.parts.0, y.parts.1 ∙ sym x.parts.1) (y.bound ∙ sym x.bound)) y.came)
 
@@ -364,6 +396,7 @@ silent h line (rows.Ended end finished runs) = by end finished runs.reports
     by (E.Asked point) finishes told = (subst (λ t. Reports (end_message t) (end_status t) h.status h.err h.err_after) told.1 told.2).1
     by (E.EventLimit point) never told = absurd never
     by (E.FixedStep component at e) never told = absurd never
+    by (E.Range lost at) never told = absurd never
     by (E.Bad bad) never told = absurd never
     by E.WriteFault never told = absurd never
 

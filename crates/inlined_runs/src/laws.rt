@@ -1,4 +1,4 @@
-ghost use Rattle.inlined_runs.specs.Orders.{BehaveAlike, FixedOnce, TraceAlike};
+ghost use Rattle.inlined_runs.specs.Orders.{BehaveAlike, FixedOnce, LostOnce, TraceAlike};
 ghost use Rattle.inlined_runs.specs.Twins.{AreFoundAlike, RunAlike, TellAlike, ToldUnknown};
 
 use inlined_answers::inlined_answers;
@@ -20,6 +20,16 @@ pub fn one_fixed_end()
     situation_laws();
 }
 
+/// A law: where a run of machines loses a value on its way to an input, that is at one point, and the value and the input are
+/// the same.
+pub fn one_lost_value()
+    ensures { LostOnce }
+{
+    one_next();
+    one_solution();
+    situation_laws();
+}
+
 /// Laws over two calls of the program with the same words, the one over documents that stand in one another, the other over
 /// one document that says what they say together. Both are to find the same (`found`). Where both do, FMUs that behave
 /// well as the same machines give the same status, the same bytes on `out` and the same line on `err`, where nothing fails
@@ -34,4 +44,5 @@ pub fn inlined_runs()
     one_trace();
     orders_are_free();
     one_fixed_end();
+    one_lost_value();
 }

@@ -93,6 +93,7 @@ module _ (r : Run) where
 
   abbrev IsBare : Next → Type 0
   IsBare (P.Ends kind point) = Unit {0}
+  IsBare (P.EndsBefore kind point) = Unit {0}
   IsBare (P.GoesOn z) = AreBare z.states
 
   departs_bare : {z : Situation} {next : Next} → AreBare z.states → Departs r z next → IsBare next
@@ -102,6 +103,7 @@ module _ (r : Run) where
   departs_bare {z} {next} bare (P.ByStep x kept point step asks is) = subst IsBare (sym is) (bare_stepped z bare kept point)
 
   leads_bare : (f : Following) (z : Situation) (V : List (Option ℤ)) (next : Next) → AreBare z.states → LeadsBy f r z V next → IsBare next
+  leads_bare F.OutOfRange z V next bare is = subst IsBare (sym is) tt
   leads_bare F.Ended z V next bare is = subst IsBare (sym is) tt
   leads_bare F.AtLimit z V next bare is = subst IsBare (sym is) tt
   leads_bare F.Again z V next bare is = subst IsBare (sym is) (bare_updated z bare V)
@@ -109,5 +111,5 @@ module _ (r : Run) where
 
   -- where the run comes to no state is saved
   pub bare_at : AreMachines r → (z : Situation) (is : List Instant) → CameTo r z is → AreBare z.states
-  bare_at machines _ _ (AtFirst z is initial solves begins none) = subst (λ (y : Situation). AreBare y.states) (sym begins) (bare_beginning machines initial)
+  bare_at machines _ _ (AtFirst z is initial solves kept begins none) = subst (λ (y : Situation). AreBare y.states) (sym begins) (bare_beginning machines initial)
   bare_at machines _ _ (Onward z is before values earlier came solves leads is_is) = leads_bare (following r before values) before values (P.GoesOn z) (bare_at machines before earlier came) leads

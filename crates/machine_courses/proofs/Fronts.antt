@@ -1,18 +1,18 @@
 -- The instants of a course of told machines: a front of their run, and with its end their trace.
-use Rattle.std.proofs.Common.{◌≡◌, ℕ, ℤ, List, [], ◌∷◌, ◌++◌, Option, refl, sym, ap, ◌∙◌, subst, append_assoc, arith}
+use Rattle.std.proofs.Common.{◌≡◌, ℕ, ℤ, List, [], ◌∷◌, ◌++◌, Option, refl, sym, ap, ◌∙◌, subst, append_assoc, append-nil, false}
 use Rattle.std.specs.Prelude.{All}
 use Rattle.std.proofs.lemmas.List.Elements.{All-append, All-nil}
 use Rattle.fmu_peer.specs.Machine.{MachineState}
 use Rattle.system_model.specs.declared.plan.EndKind.{EndKind}
 use Rattle.system_model.specs.Sound.{IsSound}
 use Rattle.system_model.specs.Text.{Instant}
-use Rattle.run_model.specs.Equations.{Solves}
+use Rattle.std.specs.List.{list_any}
+use Rattle.run_model.specs.Equations.{Solves, is_bad}
 use Rattle.run_model.specs.Initial as I
 use Rattle.run_model.specs.Machines.{AreMachines}
 use Rattle.run_model.specs.Run.{Run, Situation}
-use Rattle.run_model.specs.Stepping.{Ends}
-use Rattle.run_model.specs.Trace.{Continues, Further, IsTrace, Last, Leads, Runs, instant_of}
-use Rattle.run_model.proofs.CallerLemmas.{solvable_initially}
+use Rattle.run_model.specs.Stepping.{Ends, EndsBefore}
+use Rattle.run_model.specs.Trace.{Continues, Further, IsTrace, Last, Leads, Runs, Unwritten, instant_of}
 use Rattle.system_model.specs.EarlyReturn.{early_count}
 use Rattle.run_model.specs.Stepping.{asked_first}
 use Rattle.slot_calls.specs.Log.{Sent}
@@ -59,29 +59,37 @@ none_behind (y ∷ ys) x e = absurd (cc)
 
 -- without its last instant
 pub front_before : (r : Run) (is : List Instant) (i : Instant) → IsFront r (is ++ i ∷ []) → IsFront r is
+front_before r is i (S.Nothing e) = absurd (none_behind is i e)
 front_before r is i (S.Before s came) = by s (is ++ i ∷ []) came refl where
   by : (z : Situation) (js : List Instant) → CameTo r z js → js ≡ is ++ i ∷ [] → IsFront r is
-  by _ _ (AtFirst z js initial solves begins none) e = absurd (none_behind is i (sym e ∙ none))
+  by _ _ (AtFirst z js initial solves kept begins none) e = absurd (none_behind is i (sym e ∙ none))
   by _ _ (Onward z js before values earlier came solves leads js_is) e =
       S.Before before (subst (CameTo r before) (sym (same_front is earlier i (instant_of before values) (sym e ∙ js_is))) came)
-front_before r is i (Behind s values earlier came solves e) = S.Before s (subst (CameTo r s) (sym (same_front is earlier i (instant_of s values) e)) came)
+front_before r is i (Behind s values earlier came solves kept e) = S.Before s (subst (CameTo r s) (sym (same_front is earlier i (instant_of s values) e)) came)
 
 -- the run so far, whose points are within those of the plan: before an instant, or behind one
 pub data Front (r : Run) (is : List Instant) : Type 0 where
+  Nowhere : is ≡ [] → Front r is
   Ahead : (z : Situation) → CameTo r z is → IsWithin r.plan z.t z.n → Front r is
-  Past : (z : Situation) (values : List (Option ℤ)) (earlier : List Instant) → CameTo r z earlier → IsWithin r.plan z.t z.n → Solves r z values → is ≡ earlier ++ instant_of z values ∷ [] → Front r is
+  Past : (z : Situation) (values : List (Option ℤ)) (earlier : List Instant) → CameTo r z earlier → IsWithin r.plan z.t z.n → Solves r z values → list_any (is_bad values) r.system.ports ≡ false → is ≡ earlier ++ instant_of z values ∷ [] → Front r is
 
 pub is_front : (r : Run) (is : List Instant) → Front r is → IsFront r is
+is_front r is (Nowhere none) = S.Nothing none
 is_front r is (Ahead z came within) = S.Before z came
-is_front r is (Past z values earlier came within solves is_is) = Behind z values earlier came solves is_is
+is_front r is (Past z values earlier came within solves kept is_is) = Behind z values earlier came solves kept is_is
 
 -- a trace is a front and what continues it
 pub traced_on : (r : Run) (kind : EndKind) (end : ℕ) (s : Situation) (earlier rest : List Instant) → CameTo r s earlier → Continues r s rest kind end → IsTrace r (earlier ++ rest) kind end
-traced_on r kind end _ _ rest (AtFirst s is initial solves begins none) on =
-    subst (λ (xs : List Instant). IsTrace r (xs ++ rest) kind end) (sym none) (Runs initial solves (subst (λ (z : Situation). Continues r z rest kind end) begins on))
+traced_on r kind end _ _ rest (AtFirst s is initial solves kept begins none) on =
+    subst (λ (xs : List Instant). IsTrace r (xs ++ rest) kind end) (sym none) (Runs initial solves kept (subst (λ (z : Situation). Continues r z rest kind end) begins on))
 traced_on r kind end _ _ rest (Onward s is before values earlier came solves leads is_is) on =
     let more = traced_on r kind end before earlier (instant_of before values ∷ rest) came (Further before values (instant_of before values ∷ rest) kind end s rest solves leads refl on) in
     subst (λ (xs : List Instant). IsTrace r xs kind end) (sym (append_assoc earlier (instant_of before values ∷ []) rest) ∙ ap (λ (xs : List Instant). xs ++ rest) (sym is_is)) more
+
+-- where a value is lost in an instant
+pub trace_lost : (r : Run) (z : Situation) (is : List Instant) (V : List (Option ℤ)) (kind : EndKind) (end : ℕ) → CameTo r z is → Solves r z V → Leads r z V (EndsBefore kind end) → IsTrace r is kind end
+trace_lost r z is V kind end came solves leads =
+    subst (λ (xs : List Instant). IsTrace r xs kind end) (append-nil is) (traced_on r kind end z is [] came (Unwritten z V [] kind end solves leads refl))
 
 pub trace_seen : (r : Run) (s : Spot) (is : List Instant) (x : Sees r s is) (kind : EndKind) (end : ℕ) → Leads r x.z s.values (Ends kind end) → IsTrace r is kind end
 trace_seen r s is x kind end leads =
@@ -143,9 +151,7 @@ module _ (r : Run) (sound : IsSound r.system) (plan : IsPlan r.plan) (machines :
   -- ---- the instants so far
 
   pub none : (is : List Instant) → is ≡ [] → Front r is
-  none is e =
-      let W = solvable_initially r sound machines in
-      Ahead (I.beginning r W.0) (AtFirst (I.beginning r W.0) is W.0 W.1 refl e) (record { begun = omega arith; ended = plan.ordered; below = plan.limit_above })
+  none is e = Nowhere e
 
   here : (s : Spot) (is : List Instant) (z : Situation) → IsSpotOf r s is z → IsWithin r.plan z.t z.n
   here s is z at = subst (λ (t : ℕ). IsWithin r.plan t z.n) (sym at.point) (subst (IsWithin r.plan s.t) (sym at.number) at.within)
@@ -154,17 +160,17 @@ module _ (r : Run) (sound : IsSound r.system) (plan : IsPlan r.plan) (machines :
   ahead s is z at = Ahead z at.came (here s is z at)
 
   past : (s : Spot) (is : List Instant) → Sees r s is → Front r is
-  past s is x = Past x.z s.values x.earlier x.at.came (here s x.earlier x.z x.at) x.solves x.is_is
+  past s is x = Past x.z s.values x.earlier x.at.came (here s x.earlier x.z x.at) x.solves x.kept x.is_is
 
   pub front_at : (p : Place) (is : List Instant) (ss : List MachineState) → At r p is ss → Front r is
   front_at Made is ss at = none is at.0
   front_at Configured is ss at = none is at.0
   front_at Entered is ss at = none is at.0
-  front_at Found is ss at = none is at.0
+  front_at (Found values) is ss at = none is at.0
   front_at (Timed timers) is ss at = none is at.0
   front_at (Before s ticks) is ss c = ahead s is c.z c.at
   front_at (Read s) is ss (f, timers) = ahead s is f.z f.at
-  front_at (Rearmed s) is ss (f, timers) = ahead s is f.z f.at
+  front_at (Rearmed s) is ss (f, kept, timers) = ahead s is f.z f.at
   front_at (Seen s again asked) is ss x = past s is x.sees
   front_at (Leaving w) is ss (g, at) = past w.s is g.sees
   front_at (Left w) is ss (g, at) = past w.s is g.sees

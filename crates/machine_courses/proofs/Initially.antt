@@ -26,7 +26,7 @@ use Rattle.run_model.specs.Inputs.{state_with}
 use Rattle.run_model.specs.Machines.{AreMachines}
 use Rattle.run_model.specs.Run.{IsFmu, Run}
 use Rattle.system_model.specs.Values.{value}
-use Rattle.run_model.proofs.CallerLemmas.{both, initial_values_fit, unclocked_at-is, solvable_initially, looks_initially}
+use Rattle.run_model.proofs.CallerLemmas.{both, fed_fits, fed_same, unclocked_at-is, solvable_initially, looks_initially}
 use Rattle.slot_calls.specs.declared.bad_answer.BadAnswer.{BadAnswer}
 use Rattle.slot_calls.specs.Log.{Asking, Sent, asking_of, askings, part}
 use Rattle.slot_calls.specs.Replies.{AreReplies, state_by}
@@ -36,7 +36,7 @@ use Rattle.event_iteration.specs.Explains.{ExplainsUntil}
 use Rattle.event_iteration.specs.Initialization.{asks_initially, initially, is_set_from_feed, no_values}
 use Rattle.event_iteration.specs.Intervals.{timing_calls}
 use Rattle.event_iteration.specs.WalkCalls.{Front, has_events_at, initial_span}
-use Rattle.event_iteration.proofs.ByLog.{InitialSoFar, IsQuestionOf, IsTimingOf, each_call_once, fed_fits, fmu_on, initial_so_far, initialized_all, initializing_all, made_all, part_all, reads_part, replies_first, timings_are, timings_read, unclocked_parts}
+use Rattle.event_iteration.proofs.ByLog.{InitialSoFar, IsQuestionOf, IsTimingOf, each_call_once, fmu_on, initial_so_far, initialized_all, initializing_all, made_all, part_all, reads_part, replies_first, timings_are, timings_read, unclocked_parts}
 use Rattle.calling_sequence.specs.Calls.{binding}
 use Rattle.machine_courses.specs.Outcomes.{IsLost}
 use Rattle.machine_courses.proofs.Lost.{lost_at, lost_walk}
@@ -94,12 +94,12 @@ module _ (r : Run) (sound : IsSound r.system) (machines : AreMachines r) (well :
           (fmu_on r (I.initializing r) (λ i d n y. state_with r.system.ports W i n y) port.component.0 c m z fmu) in
           ap (grade_of c.shape get) (ap (λ (y : MachineState). m.look y get) (so_far.states port.component.0 c m z fmu) ∙ looks) ∙ shown
 
-      set_well : (feed : Feed) → port.role ≡ Input (Some feed) → is_set_from_feed r.system.ports port feed ≡ true → (x : ℤ) → fed feed values ≡ Some x → IsAnsweredWell c.shape m there (C.Set port.kind port.reference x)
+      set_well : (feed : Feed) → port.role ≡ Input (Some feed) → is_set_from_feed r.system.ports port feed ≡ true → (x : ℤ) → fed port.kind feed values ≡ Some x → IsAnsweredWell c.shape m there (C.Set port.kind port.reference x)
       set_well feed same set x from =
           let parts = both (is_unclocked port) (is_unclocked_at r.system.ports feed.from.0) set in
           let needs = InitiallyByFeed (unclocked_at-is r.system.ports u.p port u.stops.is ∙ parts.0) parts.1 port u.stops.is (ap source_of same) in
-          let is : value W feed.from.0 ≡ Some x = sym (so_far.same feed.from.0 (sound.initial_order.after u.taken u.rest u.p feed.from.0 u.order_is needs)) ∙ from in
-          let fit : IfSome (value W feed.from.0) (Fits port.kind) = fed_fits r.system sound W (initial_values_fit r sound W solves) u.p feed.from.0 port u.stops.is (ap source_of same) in
+          let is : fed port.kind feed W ≡ Some x = sym (fed_same port.kind feed values W (so_far.same feed.from.0 (sound.initial_order.after u.taken u.rest u.p feed.from.0 u.order_is needs))) ∙ from in
+          let fit : IfSome (fed port.kind feed W) (Fits port.kind) = fed_fits port.kind feed W in
           let like = like_walk (initial_span (has_events_at r.system port.component.0)) port.component.0 log u.front u.last u.log_is
           ((each_call_once r.system sound).initial (no_values r.system) log (Front bad values log u) port.component.0) m z in
           ((well port.component.0).initially W solves).sets c m z there (C.Set port.kind port.reference x) fmu like.numbers like.values
@@ -109,7 +109,7 @@ module _ (r : Run) (sound : IsSound r.system) (machines : AreMachines r) (well :
       call_well (Input None) same call h = absurd (cc)
       call_well (Input (Some feed)) same call h =
           let test = if_is (is_set_from_feed r.system.ports port feed) _ call h in
-          let s = set_of port (fed feed values) call test.1 in
+          let s = set_of port (fed port.kind feed values) call test.1 in
           subst (IsAnsweredWell c.shape m there) (sym s.2) (set_well feed same test.0 s.0 s.1)
       call_well Output same call h =
           let s = if_is (is_read r.system.ports u.p) (Some (C.Get port.kind port.reference)) call h in

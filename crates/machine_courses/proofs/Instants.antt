@@ -20,13 +20,13 @@ use Rattle.system_model.specs.Sound.{IsSound}
 use Rattle.system_model.proofs.CallerLemmas.{events_of, place_of}
 use Rattle.run_model.specs.AfterInstant as F
 use Rattle.run_model.specs.Behaved.{AnswersAt, AnswersWell, BehavesInInstant, IsAnsweredWell, Reached, WellBehaved}
-use Rattle.run_model.specs.Equations.{Solves, fed}
+use Rattle.run_model.specs.Equations.{Solves, fed, source_value}
 use Rattle.run_model.specs.Inputs.{state_with, state_written, written_at_port}
 use Rattle.run_model.specs.Machines.{AreMachines, IsSituation}
 use Rattle.run_model.specs.Run.{IsFmu, Run, Situation}
 use Rattle.system_model.specs.Values.{value, is_active, is_present}
 use Rattle.run_model.specs.Walk.{only_at}
-use Rattle.run_model.proofs.CallerLemmas.{both, present_alike, situation_reached, values_fit, decided, looks_in_midst, solvable}
+use Rattle.run_model.proofs.CallerLemmas.{both, fed_fits, fed_same, present_alike, situation_reached, decided, looks_in_midst, solvable}
 use Rattle.slot_calls.specs.declared.bad_answer.BadAnswer.{BadAnswer}
 use Rattle.slot_calls.specs.Log.{Sent, part}
 use Rattle.slot_calls.specs.Replies.{AreReplies, state_by}
@@ -38,7 +38,7 @@ use Rattle.event_iteration.specs.Intervals.{intervals}
 use Rattle.event_iteration.specs.Settings.{port_order}
 use Rattle.event_iteration.specs.Updates.{updating}
 use Rattle.event_iteration.specs.WalkCalls.{Front, has_events_at, instant_span}
-use Rattle.event_iteration.proofs.ByLog.{InstantSoFar, IsAsked, asked_interval, each_call_once, fed_fits, fmu_on, instant_so_far, intervals_read, reads_part, replies_first, states_all, written_all}
+use Rattle.event_iteration.proofs.ByLog.{InstantSoFar, IsAsked, asked_interval, each_call_once, fmu_on, instant_so_far, intervals_read, reads_part, replies_first, states_all, written_all}
 use Rattle.machine_courses.specs.Outcomes.{IsLost}
 use Rattle.machine_courses.proofs.Lost.{lost_stops, lost_walk}
 use Rattle.machine_courses.proofs.Settings.{IsLike, if_is, like_walk, set_of, sets_clock, sets_eventing}
@@ -92,10 +92,10 @@ module _ (r : Run) (sound : IsSound r.system) (machines : AreMachines r) (well :
       like : IsLike z there
       like = like_walk (instant_span (s.n == 0) (has_events_at r.system port.component.0)) port.component.0 log u.front u.last u.log_is ((each_call_once r.system sound).instant ticks (s.n == 0) s.before log (Front bad values log u) port.component.0) m z
 
-      set_well : (feed : Feed) → port.role ≡ Input (Some feed) → events ≡ true → (x : ℤ) → fed feed values ≡ Some x → IsAnsweredWell c.shape m there (C.Set port.kind port.reference x)
+      set_well : (feed : Feed) → port.role ≡ Input (Some feed) → events ≡ true → (x : ℤ) → fed port.kind feed values ≡ Some x → IsAnsweredWell c.shape m there (C.Set port.kind port.reference x)
       set_well feed same with_events x from =
-          let fit : IfSome (value W feed.from.0) (Fits port.kind) = fed_fits r.system sound W (values_fit r sound s W situation.types solved) u.p feed.from.0 port u.stops.is (ap source_of same) in
-          let is : value W feed.from.0 ≡ Some x = sym (same_at feed.from.0 (ByFeed port u.stops.is (ap source_of same))) ∙ from in
+          let fit : IfSome (fed port.kind feed W) (Fits port.kind) = fed_fits port.kind feed W in
+          let is : fed port.kind feed W ≡ Some x = sym (fed_same port.kind feed values W (same_at feed.from.0 (ByFeed port u.stops.is (ap source_of same)))) ∙ from in
           own.sets c m z there (C.Set port.kind port.reference x) fmu like.numbers like.values
           (sets_eventing r sound u.p port u.stops.is (ap is_output_role same) (ap is_clock_role same) c fmu.component x (subst (λ o. IfSome o (Fits port.kind)) is fit) with_events)
 
@@ -145,13 +145,13 @@ module _ (r : Run) (sound : IsSound r.system) (machines : AreMachines r) (well :
       call_well (Input None) same call h = absurd (cc)
       call_well (Input (Some feed)) same call h =
           let test = if_is (events && is_present port values) _ call h in
-          let set = set_of port (fed feed values) call test.1 in
+          let set = set_of port (fed port.kind feed values) call test.1 in
           subst (IsAnsweredWell c.shape m there) (sym set.2) (set_well feed same (both events _ test.0).0 set.0 set.1)
       call_well Output same call h =
           let test = if_is (is_read_in_instant port events (s.n == 0) values) (Some get) call h in
           subst (IsAnsweredWell c.shape m there) (same_Some _ _ test.1) (get_well same events refl test.0)
       call_well (ClockInput None) same call h = absurd (cc)
-      call_well (ClockInput (Some feed)) same call h = ticks_well (ClockInput (Some feed)) same refl refl (is_active (fed feed values)) call h
+      call_well (ClockInput (Some feed)) same call h = ticks_well (ClockInput (Some feed)) same refl refl (is_active (source_value feed values)) call h
       call_well ClockOutput same call h = subst (IsAnsweredWell c.shape m there) (same_Some _ _ h) (get_clock_well same)
       call_well (TimeClock timing) same call h = ticks_well (TimeClock timing) same refl refl (ticks u.p) call h
 

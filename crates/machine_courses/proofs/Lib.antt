@@ -2,6 +2,7 @@ pub mod Bare
 pub mod Steps
 pub mod Places
 pub mod Following
+pub mod Losing
 pub mod Parameters
 pub mod Rows
 pub mod Fronts

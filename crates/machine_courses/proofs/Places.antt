@@ -1,11 +1,13 @@
 -- Where a run of told machines stands at each place of its course: the situation that their run came to, and their states.
-use Rattle.std.proofs.Common.{◌≡◌, ℕ, ◌<◌, ◌≤◌, ℤ, Bool, List, [], ◌∷◌, ◌++◌, Option}
+use Rattle.std.proofs.Common.{◌≡◌, ℕ, ◌<◌, ◌≤◌, ℤ, Bool, false, List, [], ◌∷◌, ◌++◌, Option}
 use Rattle.fmu_peer.specs.Machine.{MachineState}
 use Rattle.system_model.specs.declared.plan.Plan.{Plan}
 use Rattle.system_model.specs.Text.{Instant}
 use Rattle.run_model.specs.AfterInstant.{Done, any_update, asks_for_end, following, goes_again, next_events, next_timers, updated, written}
-use Rattle.run_model.specs.Equations.{Solves}
-use Rattle.run_model.specs.Initial.{SolvesInitially, configured, first_timers, initialized, initializing, instantiated}
+use Rattle.std.specs.List.{list_any}
+use Rattle.system_model.specs.Values.{value}
+use Rattle.run_model.specs.Equations.{Solves, is_bad}
+use Rattle.run_model.specs.Initial.{SolvesInitially, configured, first_timers, initialized, initializing, instantiated, is_bad_initially}
 use Rattle.run_model.specs.Run.{Run, Situation}
 use Rattle.run_model.specs.Stepping as P
 use Rattle.run_model.specs.Stepping.{asks_to_end, departing}
@@ -54,6 +56,7 @@ module _ (r : Run) where
     pub solves : Solves r z s.values
     pub timers : next_timers r z s.values ≡ s.timers
     pub events : next_events r z s.values ≡ s.events
+    pub kept : list_any (is_bad s.values) r.system.ports ≡ false
     pub is_is : is ≡ earlier ++ instant_of z s.values ∷ []
 
   -- where it leads
@@ -96,16 +99,24 @@ module _ (r : Run) where
     pub solves : SolvesInitially r initial
     pub states : ss ≡ initialized r initial
 
+  -- where they are those that were found
+  abbrev pub AreFound : List (Option ℤ) → List MachineState → Type 0
+  AreFound values ss = (i : Initializes ss) × ((p : ℕ) → value values p ≡ value i.initial p)
+
+  -- and none is lost on its way
+  abbrev pub AreKept : List MachineState → Type 0
+  AreKept ss = (i : Initializes ss) × (list_any (is_bad_initially r.system i.initial) r.system.ports ≡ false)
+
   -- at each place
   abbrev pub At : Place → List Instant → List MachineState → Type 0
   At Made is ss = (is ≡ []) × (ss ≡ instantiated r)
   At Configured is ss = (is ≡ []) × (ss ≡ configured r)
   At Entered is ss = (is ≡ []) × (ss ≡ initializing r)
-  At Found is ss = (is ≡ []) × Initializes ss
-  At (Timed timers) is ss = (is ≡ []) × (i : Initializes ss) × (timers ≡ first_timers r (initialized r i.initial))
+  At (Found values) is ss = (is ≡ []) × AreFound values ss
+  At (Timed timers) is ss = (is ≡ []) × (i : AreKept ss) × (timers ≡ first_timers r (initialized r i.0.initial))
   At (Before s ticks) is ss = Comes s ticks is ss
   At (Read s) is ss = (f : Finds s is ss) × (f.z.timers ≡ s.timers)
-  At (Rearmed s) is ss = (f : Finds s is ss) × (next_timers r f.z s.values ≡ s.timers)
+  At (Rearmed s) is ss = (f : Finds s is ss) × (list_any (is_bad s.values) r.system.ports ≡ false) × (next_timers r f.z s.values ≡ s.timers)
   At (Seen s again asked) is ss = Says s again asked is ss
   At (Leaving w) is ss = (g : Goes w is) × (ss ≡ (over w.s is g.sees).states)
   At (Left w) is ss = (g : Goes w is) × (ss ≡ entered_step r (over w.s is g.sees))

@@ -35,7 +35,8 @@ use Rattle.calling_sequence.specs.Parts.{AllAgree, Does}
 use Rattle.system_model.specs.Plans.{IsPlan}
 use Rattle.machine_courses.specs.Fronts.{AtFirst, CameTo, Onward}
 use Rattle.machine_courses.proofs.Bare.{AreBare, bare_at, bare_updated}
-use Rattle.machine_courses.proofs.Following.{by_answers, leads_by, same_instant, situation_by}
+use Rattle.machine_courses.proofs.Following.{by_answers, following_by, leads_by, same_instant, situation_by}
+use Rattle.machine_courses.proofs.Losing.{all_bad_same}
 use Rattle.machine_courses.proofs.Places.{At, Comes, Goes, IsWithin, Says, Sees, over}
 use Rattle.machine_courses.proofs.Steps.{after_step, agreed, arrived_is, falls_short, freed_by_log, lands, saved, saved_by_log}
 use Rattle.machine_courses.proofs.Parameters.{configured_states}
@@ -95,7 +96,8 @@ module _ (r : Run) (sound : IsSound r.system) (plan : IsPlan r.plan) (machines :
 
   pub follows : (s : Spot) (again asked : Bool) (is : List Instant) (ss : List MachineState) (x : Says r s again asked is ss) → following r x.sees.z s.values ≡ by_answers asked again (suc s.n == r.plan.limit)
   follows s again asked is ss x =
-      ap (λ (a : Bool). by_answers a (goes_again r x.sees.z s.values) (suc x.sees.z.n == r.plan.limit)) (sym x.asked_is)
+      following_by r x.sees.z s.values x.sees.kept
+      ∙ ap (λ (a : Bool). by_answers a (goes_again r x.sees.z s.values) (suc x.sees.z.n == r.plan.limit)) (sym x.asked_is)
       ∙ ap (λ (a : Bool). by_answers asked a (suc x.sees.z.n == r.plan.limit)) (sym x.again_is)
       ∙ ap (λ (k : ℕ). by_answers asked again (suc k == r.plan.limit)) x.sees.at.number
 
@@ -132,14 +134,14 @@ module _ (r : Run) (sound : IsSound r.system) (plan : IsPlan r.plan) (machines :
   row _ _ _ _ (Enters values more) is ss (none, at) does replies = (append-nil is ∙ none, sends r more ss (I.configured r) at everyone (λ (shape : Shape). C.EnterInitialization r.plan.start r.plan.stop) does)
   row _ _ _ _ (Finds values more) is ss (none, at) does replies =
       let found = initial_by_log r values more sound machines does (inside r more ss (I.initializing r) at replies) in
-      (append-nil is ∙ none, record { initial = found.initial; solves = found.solves; states = behind r more ss (I.initializing r) (I.initialized r found.initial) at found.states })
-  row _ _ _ _ (Times values more timers timers_are) is ss (none, at) does replies =
+      (append-nil is ∙ none, (record { initial = found.initial; solves = found.solves; states = behind r more ss (I.initializing r) (I.initialized r found.initial) at found.states }, found.same))
+  row _ _ _ _ (Times found values more timers kept timers_are) is ss (none, (at, same)) does replies =
       let told = fixed_by_log r at.initial more sound machines does (inside r more ss (I.initialized r at.initial) at.states replies) in
-      (append-nil is ∙ none, record { initial = at.initial; solves = at.solves; states = behind r more ss (I.initialized r at.initial) (I.initialized r at.initial) at.states told.0 }, timers_are ∙ told.1)
-  row _ _ _ _ (Exits timers values more s ticks s_is begins) is ss (none, at, timers_are) does replies =
+      (append-nil is ∙ none, (record { initial = at.initial; solves = at.solves; states = behind r more ss (I.initialized r at.initial) (I.initialized r at.initial) at.states told.0 }, sym (all_bad_same r.system found at.initial same r.system.ports) ∙ kept), timers_are ∙ told.1)
+  row _ _ _ _ (Exits timers values more s ticks s_is begins) is ss (none, (at, kept), timers_are) does replies =
       subst (λ (x : Spot). Comes r x ticks (is ++ []) (states_by r ss more)) (sym s_is) (record {
         z = I.beginning r at.initial;
-        at = record { came = AtFirst (I.beginning r at.initial) (is ++ []) at.initial at.solves refl (append-nil is ∙ none); point = refl; number = refl; within = record { begun = omega arith; ended = plan.ordered; below = plan.limit_above } };
+        at = record { came = AtFirst (I.beginning r at.initial) (is ++ []) at.initial at.solves kept refl (append-nil is ∙ none); point = refl; number = refl; within = record { begun = omega arith; ended = plan.ordered; below = plan.limit_above } };
         values = refl;
         timers = sym timers_are;
         begins = subst (λ (x : Spot). Begins r.system r.plan x ticks) s_is begins;
@@ -156,7 +158,7 @@ module _ (r : Run) (sound : IsSound r.system) (plan : IsPlan r.plan) (machines :
         },
         c.timers,
       )
-  row _ _ _ _ (Rearming s values next more rearms) is ss (f, timers) does replies =
+  row _ _ _ _ (Rearming s values next more kept rearms) is ss (f, timers) does replies =
       let z = f.z in
       let own : Rearms r.system r.plan.resolution z.t s.values z.timers next more =
       subst (λ (k : ℕ). Rearms r.system r.plan.resolution k s.values z.timers next more) (sym f.at.point) (subst (λ (ts : List Timer). Rearms r.system r.plan.resolution s.t s.values ts next more) (sym timers) rearms) in
@@ -167,13 +169,14 @@ module _ (r : Run) (sound : IsSound r.system) (plan : IsPlan r.plan) (machines :
           solves = f.solves;
           states = behind r more ss (written r z s.values) (written r z s.values) f.states told.0;
         },
+        kept,
         sym told.1,
       )
-  row _ _ _ _ (Updates s values more events again asked events_are again_is asked_is) is ss (f, timers) does replies =
+  row _ _ _ _ (Updates s values more events again asked events_are again_is asked_is) is ss (f, kept, timers) does replies =
       let z = f.z in
       let told = updates_by_log r z s.values more machines (situation_by r sound machines z is f.at.came) does (inside r more ss (written r z s.values) f.states replies) in
       record {
-        sees = record { z = z; earlier = is; at = record { came = f.at.came; point = f.at.point; number = f.at.number; within = f.at.within }; solves = f.solves; timers = timers; events = sym (events_are ∙ ap (λ (k : ℕ). events_told k (shapes_of r.system) more) (sym f.at.point) ∙ told.3); is_is = ap (λ (i : Instant). is ++ i ∷ []) (same_instant s z f.at.point f.at.number) };
+        sees = record { z = z; earlier = is; at = record { came = f.at.came; point = f.at.point; number = f.at.number; within = f.at.within }; solves = f.solves; timers = timers; events = sym (events_are ∙ ap (λ (k : ℕ). events_told k (shapes_of r.system) more) (sym f.at.point) ∙ told.3); kept = kept; is_is = ap (λ (i : Instant). is ++ i ∷ []) (same_instant s z f.at.point f.at.number) };
         again_is = again_is ∙ ap₂ ◌||◌ told.1 (ap (λ (k : ℕ). is_some_armed k s.timers) (sym f.at.point) ∙ ap (is_some_armed z.t) (sym timers));
         asked_is = asked_is ∙ told.2;
         states = behind r more ss (written r z s.values) (updated r z s.values).states f.states told.0;

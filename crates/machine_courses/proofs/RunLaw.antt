@@ -1,5 +1,5 @@
 -- A log of told machines is their run, whatever they answer.
-use Rattle.std.proofs.Common.{Option, ◌≡◌, ℕ, Bool, true, false, Some, List, [], ◌∷◌, ◌++◌, inl, inr, refl, sym, ap, ◌∙◌, subst, length}
+use Rattle.std.proofs.Common.{Option, ◌≡◌, ℕ, ℤ, Bool, true, false, Some, List, [], ◌∷◌, ◌++◌, inl, inr, refl, sym, ap, ◌∙◌, subst, length}
 use Rattle.std.specs.Prelude.{suc, ◌-◌, ◌==◌}
 use Rattle.fmu_peer.specs.Machine.{MachineState}
 use Rattle.fmu_peer.specs.Mode.{instantiate_of}
@@ -7,13 +7,15 @@ use Rattle.system_model.specs.declared.plan.EndKind.{EndKind}
 use Rattle.system_model.specs.declared.plan.EndKind.TheVariants as K
 use Rattle.system_model.specs.Sound.{IsSound}
 use Rattle.system_model.specs.Text.{Instant, end_text}
-use Rattle.run_model.specs.AfterInstant.{AtLimit, Done, Ended, Following}
+use Rattle.run_model.specs.AfterInstant.{AtLimit, Done, Ended, Following, OutOfRange}
+use Rattle.run_model.specs.Equations.{is_bad}
 use Rattle.run_model.specs.Initial as I
+use Rattle.run_model.specs.Initial.{is_bad_initially}
 use Rattle.run_model.specs.Machines.{AreMachines}
 use Rattle.run_model.specs.Run.{Run, Situation, Timer}
 use Rattle.run_model.specs.Stepping as P
-use Rattle.run_model.specs.Stepping.{Ends}
-use Rattle.run_model.specs.Trace.{IsTrace, LeadsBy}
+use Rattle.run_model.specs.Stepping.{Ends, EndsBefore}
+use Rattle.run_model.specs.Trace.{Fails, IsTrace, LeadsBy}
 use Rattle.slot_calls.specs.Log.{Sent}
 use Rattle.slot_calls.specs.Replies.{AreReplies, states_by}
 use Rattle.slot_calls.specs.Stage.{IsAnswered, everyone, shapes_of}
@@ -23,15 +25,18 @@ use Rattle.calling_sequence.specs.declared.run_end.RunEnd.{RunEnd}
 use Rattle.calling_sequence.specs.declared.run_end.RunEnd.TheVariants as E
 use Rattle.calling_sequence.specs.Calls.{IsBoundOf, first_unfit, making}
 use Rattle.calling_sequence.specs.Course.{Place, Seen, Spot, Stepped, Way}
-use Rattle.calling_sequence.specs.Ends.{AtLimit as Limited, AtShort, AtStop, Awaits, Badly, ByStep, ByUpdate, EndLine, EndsAt, EndsBy, Finishes, Header, Shown, Unfit, Well, kind_of_end, point_of, text_of, trace_pieces}
+use Rattle.calling_sequence.specs.Ends.{AtLimit as Limited, AtShort, AtStop, Awaits, LostAtFirst, LostThere, Badly, ByStep, ByUpdate, EndLine, EndsAt, EndsBy, Finishes, Header, Shown, Unfit, Well, kind_of_end, point_of, text_of, trace_pieces}
 use Rattle.system_model.specs.Plans.{IsPlan}
 use Rattle.calling_sequence.specs.Puts.{CutsPiece, with_pieces}
-use Rattle.machine_courses.specs.Fronts.{LacksStepAt}
+use Rattle.event_iteration.specs.Lost.{IsFirstLost}
+use Rattle.event_iteration.specs.declared.lost.LostValue.{LostValue}
+use Rattle.machine_courses.specs.Fronts.{AtTheStart, InInstant, LacksStepAt, LosesAt}
+use Rattle.machine_courses.proofs.Losing.{first_same, some_lost}
 use Rattle.machine_courses.specs.Laws.{RunByLog}
 use Rattle.machine_courses.specs.Outcomes.{CutsFront, Output, PutsRun, PutsTrace}
-use Rattle.machine_courses.proofs.Following.{by_answers, leads_by, reached_by}
-use Rattle.machine_courses.proofs.Fronts.{Front, front_at, front_before, is_front, none, stands, trace_seen}
-use Rattle.machine_courses.proofs.Places.{At, Goes, Says, over}
+use Rattle.machine_courses.proofs.Following.{by_answers, following_lost, leads_by, reached_by}
+use Rattle.machine_courses.proofs.Fronts.{Front, front_at, front_before, is_front, none, stands, trace_seen, trace_lost}
+use Rattle.machine_courses.proofs.Places.{At, Goes, Says, over, AreFound, Finds}
 use Rattle.machine_courses.proofs.Rows.{follows, over_all}
 use Rattle.machine_courses.proofs.Steps.{lacks}
 
@@ -95,6 +100,25 @@ module _ (r : Run) (sound : IsSound r.system) (plan : IsPlan r.plan) (machines :
     short_trace = trace_seen r w.s is g.sees K.Fixed w.s.t
         (leads_by r g.sees.z w.s.values Done (Ends K.Fixed w.s.t) g.done (P.WhereFixed (Ends K.Fixed w.s.t) component end lacking (ap (Ends K.Fixed) (sym g.sees.at.point))))
 
+  -- where a value is lost on its way
+  module _ (s : Spot) (is : List Instant) (ss : List MachineState) (f : Finds r s is ss) (lost : LostValue) (first : IsFirstLost (is_bad s.values) r.system.ports s.values lost) where
+    lost_trace : IsTrace r is K.Range s.t
+    lost_trace = subst (λ (t : ℕ). IsTrace r is K.Range t) f.at.point
+        (trace_lost r f.z is s.values K.Range f.z.t f.at.came f.solves (leads_by r f.z s.values OutOfRange (EndsBefore K.Range f.z.t) (following_lost r f.z s.values (some_lost (is_bad s.values) r.system.ports lost s.values first)) refl))
+
+    loses_there : LosesAt r lost s.t
+    loses_there = InInstant f.z s.values (reached_by r f.z is f.at.came) f.solves first f.at.point
+
+  module _ (values : List (Option ℤ)) (is : List Instant) (ss : List MachineState) (none : is ≡ []) (at : AreFound r values ss) (lost : LostValue) (first : IsFirstLost (is_bad_initially r.system values) r.system.ports values lost) where
+    own_first : IsFirstLost (is_bad_initially r.system at.0.initial) r.system.ports at.0.initial lost
+    own_first = first_same r.system values at.0.initial at.1 lost first
+
+    failed_trace : IsTrace r is K.Range r.plan.start
+    failed_trace = Fails at.0.initial at.0.solves (some_lost (is_bad_initially r.system at.0.initial) r.system.ports lost at.0.initial own_first) none refl refl
+
+    loses_at_first : LosesAt r lost r.plan.start
+    loses_at_first = AtTheStart at.0.initial at.0.solves own_first refl
+
   -- at the place where the run ends
   pub trace_at : (end : RunEnd) (p : Place) → EndsAt r.system r.plan end p → (is : List Instant) (ss : List MachineState) → At r p is ss → IsTrace r is (kind_of_end end) (point_of r.plan p)
   trace_at _ _ (AtStop s at) is ss x = ends_by s false false is ss x K.Stop s.t Done refl (P.AtStop (Ends K.Stop s.t) (x.sees.at.point ∙ at) (ap (Ends K.Stop) (sym x.sees.at.point)))
@@ -107,6 +131,8 @@ module _ (r : Run) (sound : IsSound r.system) (plan : IsPlan r.plan) (machines :
   trace_at _ _ (Unfit s component end bound unfit) is ss x =
       ends_by s false false is ss x K.Fixed s.t Done refl (P.WhereFixed (Ends K.Fixed s.t) component.0 end (lacks_here s is ss x component.0 end bound unfit) (ap (Ends K.Fixed) (sym x.sees.at.point)))
   trace_at _ _ (AtShort w component end) is ss (g, lacking) = short_trace w is g component.0 end lacking
+  trace_at _ _ (LostAtFirst values lost first) is ss (none, at) = failed_trace values is ss none at lost first
+  trace_at _ _ (LostThere s lost first) is ss (f, timers) = lost_trace s is ss f lost first
 
   module _ (o : Output) (is : List Instant) (counted : o.counted ≡ length is) where
     abbrev Put : EndKind → ℕ → Type 0
@@ -122,6 +148,8 @@ module _ (r : Run) (sound : IsSound r.system) (plan : IsPlan r.plan) (machines :
     puts_at _ _ (Limited s limit) ss x put = puts K.Limit s.t put (trace_at (E.EventLimit s.t) (Seen s true false) (Limited s limit) is ss x)
     puts_at _ _ (Unfit s component end bound unfit) ss x put =
         (puts K.Fixed s.t put (trace_at (E.FixedStep component s.t end) (Seen s false false) (Unfit s component end bound unfit) is ss x), lacks_at s is ss x component.0 end bound unfit)
+    puts_at _ _ (LostAtFirst values lost first) ss (none, at) put = (puts K.Range r.plan.start put (failed_trace values is ss none at lost first), loses_at_first values is ss none at lost first)
+    puts_at _ _ (LostThere s lost first) ss (f, timers) put = (puts K.Range s.t put (lost_trace s is ss f lost first), loses_there s is ss f lost first)
     puts_at _ _ (AtShort w component end) ss (g, lacking) put = (puts K.Fixed w.s.t put (short_trace w is g component.0 end lacking), short_at w is g component.0 end lacking)
 
   -- the instants so far
@@ -161,6 +189,7 @@ module _ (r : Run) (sound : IsSound r.system) (plan : IsPlan r.plan) (machines :
     puts_run (E.Asked at) log is (point, f, put) replies counted = puts_whole (E.Asked at) point log is f replies counted put
     puts_run (E.EventLimit at) log is (point, f, put) replies counted = puts_whole (E.EventLimit at) point log is f replies counted put
     puts_run (E.FixedStep component at end) log is (point, f, put) replies counted = puts_whole (E.FixedStep component at end) point log is f replies counted put
+    puts_run (E.Range lost at) log is (point, f, put) replies counted = puts_whole (E.Range lost at) point log is f replies counted put
     puts_run (E.Bad bad) log is (point, f, put) replies counted = puts_whole (E.Bad bad) point log is f replies counted put
     puts_run E.WriteFault log is w replies counted = cut_by log is w.pieces w.piece w.awaits replies counted w.cuts
 

@@ -91,8 +91,8 @@ module _ (r : Run) (sound : IsSound r.system) (plan : IsPlan r.plan) (machines :
   lost Configured is ss (at_none, at) bad log falls replies =
       lost_stops r (I.configured r) (configured_all r machines) bad log (inside r log ss (I.configured r) at replies) everyone (λ (shape : Shape). C.EnterInitialization r.plan.start r.plan.stop) falls (λ i c m z fmu asked. (well i).before.enter c m z fmu)
   lost Entered is ss (at_none, at) bad log (values, falls) replies = lost_finding r sound machines well bad log values falls (inside r log ss (I.initializing r) at replies)
-  lost Found is ss (at_none, at) bad log falls replies = lost_timing r sound machines well bad log at.initial at.solves (inside r log ss (I.initialized r at.initial) at.states replies) falls
-  lost (Timed timers) is ss (at_none, at, timers_are) bad log falls replies =
+  lost (Found values) is ss (at_none, (at, same)) bad log falls replies = lost_timing r sound machines well bad log at.initial at.solves (inside r log ss (I.initialized r at.initial) at.states replies) falls
+  lost (Timed timers) is ss (at_none, (at, kept), timers_are) bad log falls replies =
       lost_stops r (I.initialized r at.initial) (initialized_all r machines at.initial) bad log (inside r log ss (I.initialized r at.initial) at.states replies) everyone (λ (shape : Shape). C.ExitInitialization) falls
       (λ i c m z fmu asked. ((well i).initially at.initial at.solves).exit c m z fmu)
   lost (Before s ticks) is ss c bad log (values, falls) replies =
@@ -100,7 +100,7 @@ module _ (r : Run) (sound : IsSound r.system) (plan : IsPlan r.plan) (machines :
       (walk_at r s ticks is ss c (λ n before. ExplainsUntil r.system (in_instant ticks (n == 0)) before (numbers r.system.instant_order) bad values log) falls) (inside r log ss c.z.states c.states replies)
   lost (Read s) is ss (f, timers) bad log (values, falls) replies =
       lost_rearming r sound machines well f.z (reached_by r f.z is f.at.came) bad log s.values f.solves (inside r log ss (F.written r f.z s.values) f.states replies) values falls
-  lost (Rearmed s) is ss (f, timers) bad log falls replies =
+  lost (Rearmed s) is ss (f, kept, timers) bad log falls replies =
       lost_updating r sound machines well f.z (reached_by r f.z is f.at.came) bad log s.values f.solves (inside r log ss (F.written r f.z s.values) f.states replies) falls
   lost (Seen s again asked) is ss x bad log falls replies = absurd (none_falls (shapes_of r.system) bad log falls)
   lost (Leaving w) is ss (g, at) bad log falls replies =
@@ -177,6 +177,7 @@ module _ (r : Run) (sound : IsSound r.system) (plan : IsPlan r.plan) (machines :
     traces_well (E.Asked at) log is ends replies puts = puts
     traces_well (E.EventLimit at) log is ends replies puts = puts
     traces_well (E.FixedStep component at end) log is ends replies puts = puts
+    traces_well (E.Range lost at) log is ends replies puts = puts
     traces_well (E.Bad bad) log is (point, f, put) replies puts = lost_end bad point log is f replies
     traces_well E.WriteFault log is w replies puts = cut_by log is w.pieces w.piece w.awaits replies w.cuts
 

@@ -14,7 +14,7 @@ use Rattle.calling_sequence.specs.declared.run_end.RunEnd.{RunEnd}
 use Rattle.calling_sequence.specs.declared.run_end.RunEnd.TheVariants as E
 use Rattle.calling_sequence.specs.Ends.{header_of, pieces_of, text_of, trace_pieces}
 use Rattle.calling_sequence.specs.Puts.{CutsPiece, with_pieces}
-use Rattle.machine_courses.specs.Fronts.{IsFront, LacksStepAt}
+use Rattle.machine_courses.specs.Fronts.{IsFront, LacksStepAt, LosesAt}
 
 -- what a sink was before and is behind a run, and how many instants were counted
 pub record Output : Type 0 where
@@ -65,6 +65,7 @@ PutsRun r o (E.Asked point) = PutsTrace r o K.Asked point
 PutsRun r o (E.EventLimit point) = PutsTrace r o K.Limit point
 PutsRun r o (E.FixedStep component at end) =
     PutsTrace r o K.Fixed at × LacksStepAt r component.0 at end
+PutsRun r o (E.Range lost point) = PutsTrace r o K.Range point × LosesAt r lost point
 PutsRun r o (E.Bad bad) = PutsBroken r o
 PutsRun r o E.WriteFault = CutsFront r o
 
@@ -99,6 +100,8 @@ TracesWell r log o (E.Asked point) = PutsTrace r o K.Asked point
 TracesWell r log o (E.EventLimit point) = PutsTrace r o K.Limit point
 TracesWell r log o (E.FixedStep component at end) =
     PutsTrace r o K.Fixed at × LacksStepAt r component.0 at end
+TracesWell r log o (E.Range lost point) =
+    PutsTrace r o K.Range point × LosesAt r lost point
 TracesWell r log o (E.Bad bad) = IsLost (length r.system.components) log bad.why
 TracesWell r log o E.WriteFault =
     ((why : Why) × IsLost (length r.system.components) log why) ⊎ CutsTrace r o

@@ -117,6 +117,7 @@ moved_connection s ends side x = record {
   node = moved_node s side x.node;
   start = moved_connector s ends side x.start;
   end = moved_connector s ends side x.end;
+  change = x.change;
 }
 
 -- ---- where parameters are given

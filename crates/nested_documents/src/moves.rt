@@ -117,10 +117,17 @@ impl Seam {
     ) -> Result<Connection, AllocError>
         ensures { IfOk result (λ moved. moved ≡ moved_connection self.now ends.now side part) }
     {
+        let Connection {
+            node,
+            start,
+            end,
+            change,
+        } = part;
         Ok(Connection {
-            node: self.node(side, part.node)?,
-            start: self.connector(side, ends, part.start)?,
-            end: self.connector(side, ends, part.end)?,
+            node: self.node(side, node)?,
+            start: self.connector(side, ends, start)?,
+            end: self.connector(side, ends, end)?,
+            change,
         })
     }
 
@@ -276,8 +283,9 @@ impl Seam {
         ensures { IfOk result (λ moved. moved.items ≡ map (moved_connection self.now ends.now side) parts.items) }
     {
         let mut moved = Vec::with_capacity(alloc, parts.len())?;
-        for part in &parts {
-            moved.push(self.connection_part(ends, side, *part)?)?;
+        let mut left = parts.into_iter();
+        while let Some(part) = left.next() {
+            moved.push(self.connection_part(ends, side, part)?)?;
         }
         Ok(moved)
     }

@@ -1,7 +1,6 @@
 mod ListLemmas
 mod ReadLemmas
 mod LeastLemmas
-mod FactorLemmas
 mod LawLemmas
 mod FirstLemmas
 mod AnswerLemmas

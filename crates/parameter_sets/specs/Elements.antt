@@ -4,13 +4,9 @@ use Rattle.std.specs.Prelude.{ℕ, Bool, ◌||◌, List, [], ◌∷◌, Option, 
 use Rattle.std.specs.List.{flat_map}
 use Rattle.doc_grammar.specs.Nodes.{Node}
 use Rattle.doc_tables.specs.Elements.{children, name_of, is_named}
-use Rattle.doc_tables.specs.Documents.{is_transformation}
+use Rattle.transformations.specs.Elements.{children_named, transformations_of}
 
 -- ---- what stands in what
-
--- the elements with a name that stand directly in this one
-abbrev pub children_named : List Node → List ℕ → ℕ → List ℕ
-children_named t name k = filter (λ c. is_named t c name) (children t k)
 
 -- the elements with a name that stand directly in one of these
 abbrev pub inside : List Node → List ℕ → List ℕ → List ℕ
@@ -44,16 +40,9 @@ mappings t at = tops t (codes "ParameterMapping") at
 abbrev pub entries : List Node → Option ℕ → List ℕ
 entries t at = inside t (codes "MappingEntry") (mappings t at)
 
-abbrev pub transformations_of : List Node → ℕ → List ℕ
-transformations_of t k = filter (λ c. is_transformation (name_of t c)) (children t k)
-
 -- all transformations of all entries
 abbrev pub transformations : List Node → Option ℕ → List ℕ
 transformations t at = flat_map (transformations_of t) (entries t at)
-
--- of several transformations of an entry the first counts
-abbrev pub first_transformation : List Node → ℕ → Option ℕ
-first_transformation t k = find (λ c. is_transformation (name_of t c)) (children t k)
 
 -- ---- values
 

@@ -1,5 +1,4 @@
 pub mod Elements
-pub mod Numbers
 pub mod Sets
 pub mod Rules
 pub mod Least

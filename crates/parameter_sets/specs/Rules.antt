@@ -1,6 +1,5 @@
 -- The rules of sets of parameter values and of mappings (SSP 1.0: SSV, SSM), each a statement about one tree, the place where the set or the mapping begins, and one element.
 use Rattle.std.specs.Prelude.{◌≡◌, ◌≢◌, ◌⊎◌, ℕ, false, List, [], ◌∷◌, length, Option, Contains, codes}
-use Rattle.parameter_values.specs.declared.change.Change.{Change}
 use Rattle.parameter_values.specs.declared.set.ParameterValue.{ParameterValue}
 use Rattle.doc_grammar.specs.Nodes.{Node}
 use Rattle.doc_tree.specs.declared.rule.ParameterRule.{ParameterRule}
@@ -11,7 +10,8 @@ use Rattle.doc_tables.specs.Violations as all
 use Rattle.parameter_sets.specs.declared.part.Part.{Part}
 use Rattle.parameter_sets.specs.declared.part.Part.TheVariants as part
 use Rattle.parameter_sets.specs.Elements.{entries, first_value, mappings, parameters, seat, sets, transformations}
-use Rattle.parameter_sets.specs.Sets.{IsChange, IsValue}
+use Rattle.parameter_sets.specs.Sets.{IsValue}
+use Rattle.transformations.specs.Changes.{IsMisread}
 use Rattle.doc_tables.specs.Documents.{has_version}
 
 -- ---- where it begins
@@ -32,15 +32,11 @@ IsIncompleteParameter t k =
 abbrev pub IsIncompleteEntry : List Node → ℕ → Type 0
 IsIncompleteEntry t k = Lacks t k (codes "source") ⊎ Lacks t k (codes "target")
 
--- its factor, its offset or an entry of it doesn't read, or it maps enumerations
-abbrev pub IsMisreadTransformation : List Node → ℕ → Type 0
-IsMisreadTransformation t k = (x : Change) → IsChange t k x → ⊥
-
 -- the element breaks the rule of such a part
 abbrev pub IsBroken : List Node → Part → ℕ → Type 0
 IsBroken t part.Parameter k = IsIncompleteParameter t k
 IsBroken t part.Entry k = IsIncompleteEntry t k
-IsBroken t part.Transformation k = IsMisreadTransformation t k
+IsBroken t part.Transformation k = IsMisread t k
 
 -- it is one of these elements, and breaks the rule
 abbrev pub IsBrokenAmong : List Node → Part → List ℕ → ℕ → Type 0

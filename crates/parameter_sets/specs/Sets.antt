@@ -1,10 +1,6 @@
 -- What a set of parameter values and a mapping of parameters say (SSP 1.0: ParameterSet, ParameterMapping).
-use Rattle.std.specs.Prelude.{◌≡◌, ℕ, false, true, pos, List, Option, Some, None, codes}
+use Rattle.std.specs.Prelude.{◌≡◌, ℕ, false, true, List, Option, Some, None, codes}
 use Rattle.std.specs.List.{AllZip}
-use Rattle.parameter_values.specs.declared.change.BooleanPair.{BooleanPair}
-use Rattle.parameter_values.specs.declared.change.IntegerPair.{IntegerPair}
-use Rattle.parameter_values.specs.declared.change.Change.{Change}
-use Rattle.parameter_values.specs.declared.change.Change.TheVariants as change
 use Rattle.parameter_values.specs.declared.set.Mapping.{Mapping}
 use Rattle.parameter_values.specs.declared.set.MappingEntry.{MappingEntry}
 use Rattle.parameter_values.specs.declared.set.Parameter.{Parameter}
@@ -14,8 +10,10 @@ use Rattle.parameter_values.specs.declared.set.ParameterValue.TheVariants as val
 use Rattle.parameter_values.specs.declared.set.Transformation.{Transformation}
 use Rattle.doc_grammar.specs.Nodes.{Node}
 use Rattle.doc_tables.specs.Elements.{attribute, is_named}
-use Rattle.parameter_sets.specs.Elements.{children_named, entries, first_transformation, first_value, parameters}
-use Rattle.parameter_sets.specs.Numbers.{IsBoolean, IsWholeNumber, WritesOr}
+use Rattle.transformations.specs.Changes.{IsChange}
+use Rattle.transformations.specs.Elements.{first_transformation}
+use Rattle.transformations.specs.Numbers.{IsBoolean, IsWholeNumber}
+use Rattle.parameter_sets.specs.Elements.{entries, first_value, parameters}
 
 -- ---- values
 
@@ -37,26 +35,6 @@ pub record IsParameter (t : List Node) (k : ℕ) (x : Parameter) : Type 0 where
   pub value : IsValue t (first_value t k) x.value
 
 -- ---- transformations
-
-abbrev pub IsIntegerPair : List Node → ℕ → IntegerPair → Type 0
-IsIntegerPair t k x = IsWholeNumber t k (codes "source") x.source × IsWholeNumber t k (codes "target") x.target
-
-abbrev pub IsBooleanPair : List Node → ℕ → BooleanPair → Type 0
-IsBooleanPair t k x =
-    IsBoolean t k (codes "source") x.source × IsBoolean t k (codes "target") x.target
-
--- the transformation changes values so; a mapping of enumerations is left out of this profile
-abbrev pub IsChange : List Node → ℕ → Change → Type 0
-IsChange t k (change.Linear factor offset) =
-    (is_named t k (codes "LinearTransformation") ≡ true)
-    × WritesOr (pos 1) (attribute t k (codes "factor")) factor
-    × WritesOr (pos 0) (attribute t k (codes "offset")) offset
-IsChange t k (change.Integers pairs) =
-    (is_named t k (codes "IntegerMappingTransformation") ≡ true) ×
-    AllZip (IsIntegerPair t) (children_named t (codes "MapEntry") k) pairs
-IsChange t k (change.Booleans pairs) =
-    (is_named t k (codes "BooleanMappingTransformation") ≡ true) ×
-    AllZip (IsBooleanPair t) (children_named t (codes "MapEntry") k) pairs
 
 abbrev pub IsTransformation : List Node → Option ℕ → Option Transformation → Type 0
 IsTransformation t None None = Unit {0}

@@ -1,12 +1,13 @@
 //! The elements of sets and mappings.
 ghost use Rattle.std.specs.Prelude.{◌≡◌, ◌++◌, IfOk, OnOk};
-ghost use Rattle.parameter_sets.specs.Elements.{children_named, first_transformation, first_value, inside, is_value, seat, tops, transformations_of};
-ghost use Rattle.doc_tables.specs.Documents.{is_transformation};
+ghost use Rattle.parameter_sets.specs.Elements.{first_value, inside, is_value, seat, tops};
+ghost use Rattle.transformations.specs.Elements.{children_named, transformations_of};
 ghost use Rattle.std.specs.List.{flat_map};
 
 use doc_tables::{children, is_named, name};
 use doc_tree::Tree;
 use std::alloc::{AllocError, Global};
+use transformations::{children_named, is_transformation};
 
 // Puts those with a name behind a list.
 fn put_named(
@@ -24,20 +25,6 @@ fn put_named(
         }
     }
     Ok(())
-}
-
-/// The elements with a name that stand directly in this one.
-pub(crate) fn children_named(
-    alloc: Global,
-    tree: &Tree,
-    node: usize,
-    wanted: &str,
-) -> Result<Vec<usize>, AllocError>
-    ensures { IfOk result (λ v. v.items ≡ children_named tree.now wanted.now node) }
-{
-    let mut found = Vec::new(alloc);
-    put_named(&mut found, tree, node, wanted)?;
-    Ok(found)
 }
 
 /// The elements with a name that stand directly in one of these.
@@ -89,15 +76,6 @@ pub(crate) fn seat(at: Option<usize>) -> usize
     at.unwrap_or(0)
 }
 
-fn is_transformation(name: &str) -> bool
-    ensures { result ≡ is_transformation name.now }
-{
-    name == "LinearTransformation"
-        || name == "BooleanMappingTransformation"
-        || name == "IntegerMappingTransformation"
-        || name == "EnumerationMappingTransformation"
-}
-
 fn is_value(name: &str) -> bool
     ensures { result ≡ is_value name.now }
 {
@@ -134,16 +112,6 @@ pub(crate) fn transformations(
         put_transformations(&mut found, tree, *node)?;
     }
     Ok(found)
-}
-
-/// The transformation of an entry that counts.
-pub(crate) fn first_transformation(tree: &Tree, node: usize) -> Option<usize>
-    ensures { result ≡ first_transformation tree.now node }
-{
-    children(tree, node)
-        .iter()
-        .copied()
-        .find(|child| is_transformation(name(tree, *child)))
 }
 
 /// The value of a Parameter that counts.

@@ -1,12 +1,9 @@
 //! What a set of parameter values or a mapping of parameters says, in a file or in a binding, or the first rule that it breaks.
 #![tactic(auto)]
 
-mod changes;
 mod elements;
 mod entries;
-mod factor;
 mod law;
-mod numbers;
 mod parameters;
 mod part;
 mod reader;

@@ -8,12 +8,12 @@ ghost use Rattle.parameter_sets.specs.Rules.{IsIncompleteParameter};
 ghost use Rattle.parameter_sets.specs.Sets.{IsParameter, IsValue};
 
 use crate::elements::first_value;
-use crate::numbers::{boolean, whole_number};
 use doc_tables::{attribute, is_named, lacks};
 use doc_tree::Tree;
 use parameter_values::{Parameter, ParameterValue};
 use sim_base::Text;
 use std::alloc::{AllocError, Global};
+use transformations::{boolean, whole_number};
 
 // The value that an element gives, where it reads as its type.
 fn value_in(tree: &Tree, node: usize) -> Option<ParameterValue>

@@ -9,5 +9,6 @@ mod set;
 
 pub use change::{BooleanPair, Change, IntegerPair};
 pub use judgement::Judgement;
+pub use linear::scale;
 pub use ready::ReadyChange;
 pub use set::{Mapping, MappingEntry, Parameter, ParameterSet, ParameterValue, Transformation};

@@ -70,14 +70,14 @@ impl Gathering {
     }
 
     // The port that feeds it.
-    fn add_source(&mut self, taken: &[bool], port: usize, role: Role) -> Result<(), AllocError>
+    fn add_source(&mut self, taken: &[bool], port: usize, role: &Role) -> Result<(), AllocError>
         requires held { IsGathering (length taken.now) self.old.stamps.items self.old.lists }
         requires port { port < length taken.now }
-        requires source { IfSome (source_of role) (λ q. q < length taken.now) }
+        requires source { IfSome (source_of role.now) (λ q. q < length taken.now) }
         ensures held { OnOk result
             (IsGathering (length taken.now) self.new.stamps.items self.new.lists) }
         ensures adds { OnOk result
-            (Adds taken.now port (λ q. source_of role ≡ Some q) self.old.lists self.new.lists) }
+            (Adds taken.now port (λ q. source_of role.now ≡ Some q) self.old.lists self.new.lists) }
     {
         match source_of(role) {
             Some(source) => self.add(taken, port, source),
@@ -188,7 +188,7 @@ impl Gathering {
             (Adds taken.now number (Concerns components.now initializing port.now table.now)
             self.old.lists self.new.lists) }
     {
-        self.add_source(taken, number, port.role)?;
+        self.add_source(taken, number, &port.role)?;
         self.add_clocks(taken, number, initializing, port.clocks.as_slice())?;
         self.add_knowns(taken, number, components, port, initializing, table)
     }

@@ -61,7 +61,7 @@ pub(crate) fn knowns_in<'a>(
 ) -> Option<&'a Knowns>
     ensures { option_copied result ≡ knowns_in components.now initializing port.now }
 {
-    if has_part(port, initializing) && is_output(port.role) {
+    if has_part(port, initializing) && is_output(&port.role) {
         match components.get(port.component.0 as usize) {
             Some(component) => knowns_of(&component.shape, initializing, port.reference),
             None => None,

@@ -18,7 +18,7 @@ fn is_placed(port: &Port, components: usize, ports: usize) -> bool
     if port.component.0 as usize >= components {
         return false;
     }
-    if let Some(source) = source_of(port.role) {
+    if let Some(source) = source_of(&port.role) {
         if source >= ports {
             return false;
         }

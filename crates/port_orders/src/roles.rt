@@ -8,8 +8,8 @@ ghost use Rattle.port_orders.specs.Gathered.{has_part};
 
 use system_model::{Feed, Port, Role};
 
-fn place_from(feed: Option<Feed>) -> Option<usize>
-    ensures { result ≡ option_map (λ (f : Feed). f.from.0) feed }
+fn place_from(feed: &Option<Feed>) -> Option<usize>
+    ensures { result ≡ option_map (λ (f : Feed). f.from.0) feed.now }
 {
     match feed {
         Some(feed) => Some(feed.from.0 as usize),
@@ -18,8 +18,8 @@ fn place_from(feed: Option<Feed>) -> Option<usize>
 }
 
 /// The port that feeds a port of this role.
-pub(crate) fn source_of(role: Role) -> Option<usize>
-    ensures { result ≡ source_of role }
+pub(crate) fn source_of(role: &Role) -> Option<usize>
+    ensures { result ≡ source_of role.now }
 {
     match role {
         Role::Input { feed } | Role::ClockInput { feed } => place_from(feed),
@@ -27,8 +27,8 @@ pub(crate) fn source_of(role: Role) -> Option<usize>
     }
 }
 
-pub(crate) fn is_output(role: Role) -> bool
-    ensures { result ≡ is_output_role role }
+pub(crate) fn is_output(role: &Role) -> bool
+    ensures { result ≡ is_output_role role.now }
 {
     match role {
         Role::Output | Role::ClockOutput => true,
@@ -36,8 +36,8 @@ pub(crate) fn is_output(role: Role) -> bool
     }
 }
 
-fn is_clock(role: Role) -> bool
-    ensures { result ≡ is_clock_role role }
+fn is_clock(role: &Role) -> bool
+    ensures { result ≡ is_clock_role role.now }
 {
     match role {
         Role::Input { .. } | Role::Output => false,
@@ -50,7 +50,7 @@ pub(crate) fn has_part(port: &Port, initializing: bool) -> bool
     ensures { result ≡ has_part initializing port.now }
 {
     if initializing {
-        !is_clock(port.role) && port.clocks.len() == 0
+        !is_clock(&port.role) && port.clocks.len() == 0
     } else {
         true
     }

@@ -11,12 +11,15 @@ use Rattle.value_types.specs.Shape.{AgreeFor, is_declared, is_input, is_undeclar
 use Rattle.value_types.specs.declared.shape.Causality.TheVariants as V
 use Rattle.value_types.specs.declared.shape.Variable.{Variable}
 use Rattle.value_types.specs.declared.shape.Shape.{Shape}
+use Rattle.value_types.specs.declared.values.PortType.{PortType}
 use Rattle.fmi_calls.specs.declared.call.Call.{Call}
 use Rattle.fmi_calls.specs.declared.call.Call.TheVariants as C
 use Rattle.fmu_peer.specs.Machine.{MachineState, Machine, all_written, IsLawful, IsMachineOf, output_of}
 use Rattle.system_model.specs.declared.system.Component.{Component}
 use Rattle.system_model.specs.declared.system.Role.{Role}
 use Rattle.system_model.specs.declared.system.Role.TheVariants.{Input, Output, ClockInput, ClockOutput, TimeClock}
+use Rattle.system_model.specs.Carried.{carried}
+use Rattle.system_model.specs.declared.system.Feed.{Feed}
 use Rattle.system_model.specs.declared.system.Port.{Port}
 use Rattle.system_model.specs.declared.system.System.{System}
 use Rattle.system_model.specs.Ports.{numbers, is_output_role, is_clock_role}
@@ -26,7 +29,7 @@ use Rattle.system_model.proofs.CallerLemmas.{at_contains, found_under, true_fals
 use Rattle.run_model.specs.Run.{Run, Situation, IsFmu, at_fmu}
 use Rattle.system_model.specs.Values.{value, is_active, is_present}
 use Rattle.run_model.specs.Inputs.{written_by, written_at_port, under, is_under, state_written, state_with}
-use Rattle.run_model.specs.Equations.{output_value, shown, ticking, value_in}
+use Rattle.run_model.specs.Equations.{fed, output_value, shown, ticking, value_in}
 use Rattle.run_model.specs.Machines.{AreMachines, AreStates, IsStateOf}
 use Rattle.run_model.proofs.Written.{all_written-get, all_written-length}
 
@@ -253,3 +256,7 @@ ticking_alike r sound machines s fit p port V W is output clock alike =
     let same : placed.component ≡ c = same_Some _ _ (sym placed.is.of ∙ fmu.component) in
     let events : c.shape.has_event_mode ≡ true = ap (λ (x : Component). x.shape.has_event_mode) (sym same) ∙ events_of r.system p port placed clock in
     ap (λ reply. value_in port.kind reply) (look_same r sound machines s.states fit p port V W is output alike c m state fmu events (C.GetClock port.reference) refl))
+
+-- what comes along a path is about the value at its source
+pub fed_same : (kind : PortType) (feed : Feed) (V W : List (Option ℤ)) → value V feed.from.0 ≡ value W feed.from.0 → fed kind feed V ≡ fed kind feed W
+fed_same kind feed V W e = ap (λ (o : Option ℤ). option_and_then (carried feed.changes kind) o) e

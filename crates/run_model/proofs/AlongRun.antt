@@ -19,7 +19,7 @@ use Rattle.system_model.specs.declared.system.Port.{Port}
 use Rattle.system_model.specs.Ports.{is_output_role, is_clock_role, source_of}
 use Rattle.system_model.specs.Needs.{is_unclocked, is_unclocked_at}
 use Rattle.system_model.specs.Sound.{IsSound}
-use Rattle.system_model.proofs.CallerLemmas.{true_false, place_of, kind_of_clock, source_at}
+use Rattle.system_model.proofs.CallerLemmas.{true_false, place_of, kind_of_clock, source_at, within_of_clock}
 use Rattle.run_model.specs.Run.{Run, Situation, Timer, each, each_from, at_fmu}
 use Rattle.system_model.specs.Values.{value, is_present}
 use Rattle.run_model.specs.Inputs.{state_with}
@@ -31,6 +31,8 @@ use Rattle.run_model.specs.Stepping as P
 use Rattle.run_model.specs.Trace.{LeadsBy}
 use Rattle.run_model.specs.Behaved.{Reached, AtFirst, Onward}
 use Rattle.run_model.specs.Machines.{AreMachines, AreFitting, IsSituation}
+use Rattle.system_model.specs.Carried.{carried, fitting, through, within}
+use Rattle.system_model.specs.declared.system.Feed.{Feed}
 use Rattle.run_model.proofs.Alike.{both}
 use Rattle.run_model.proofs.OneTrace.{situation_of, ends_or_goes}
 use Rattle.run_model.proofs.States.{states_beginning, states_updated, states_stepped}
@@ -82,17 +84,17 @@ reply_fits kind (R.Done w A.Free) = tt
 reply_fits kind (R.Done w A.Terminate) = tt
 reply_fits kind (R.Done w A.FreeInstance) = tt
 
-zero_fits : (kind : PortType) → kind ≡ Clock → Fits kind (pos 0)
+pub zero_fits : (kind : PortType) → kind ≡ Clock → Fits kind (pos 0)
 zero_fits kind e = subst (λ k. Fits k (pos 0)) (sym e) (word_fits Clock 0)
 
 one_fits : (kind : PortType) → kind ≡ Clock → Fits kind (pos 1)
 one_fits kind e = subst (λ k. Fits k (pos 1)) (sym e) (word_fits Clock 1)
 
-if_fits : (kind : PortType) (b : Bool) (x y : Option ℤ) → IfSome x (Fits kind) → IfSome y (Fits kind) → IfSome (if b then x else y) (Fits kind)
+pub if_fits : (kind : PortType) (b : Bool) (x y : Option ℤ) → IfSome x (Fits kind) → IfSome y (Fits kind) → IfSome (if b then x else y) (Fits kind)
 if_fits kind true x y a b = a
 if_fits kind false x y a b = b
 
-wider : (from to : PortType) (o : Option ℤ) → IsWithin from to → IfSome o (Fits from) → IfSome o (Fits to)
+pub wider : (from to : PortType) (o : Option ℤ) → IsWithin from to → IfSome o (Fits from) → IfSome o (Fits to)
 wider from to None within h = tt
 wider from to (Some x) within h = within x h
 
@@ -122,11 +124,27 @@ output_fits r s V port last h = at_fmu-fits port.kind r s.states port.component.
     (if_fits port.kind (is_present port V) with_values last (reply_fits port.kind (m.look (state_with r.system.ports V port.component.0 m state) (C.Get port.kind port.reference))) h)
     (if_fits port.kind (s.n == 0) plain last (reply_fits port.kind (m.look state (C.Get port.kind port.reference))) h))
 
-abbrev FitsAt : Port → Option ℤ → Type 0
+-- what comes along a path fits the input
+carried_fits : (kind : PortType) (o : Option ℤ) → IfSome (option_and_then (fitting kind) o) (Fits kind)
+carried_fits kind None = tt
+carried_fits kind (Some x) = fitting_if kind x (is_fitting kind x) refl
+
+pub fed_fits : (kind : PortType) (feed : Feed) (V : List (Option ℤ)) → IfSome (fed kind feed V) (Fits kind)
+fed_fits kind feed V = by (value V feed.from.0)
+  where
+    by : (o : Option ℤ) → IfSome (option_and_then (carried feed.changes kind) o) (Fits kind)
+    by None = tt
+    by (Some x) = wide (within x)
+      where
+        wide : (o : Option ℤ) → IfSome (option_and_then (λ y. option_and_then (fitting kind) (through feed.changes y)) o) (Fits kind)
+        wide None = tt
+        wide (Some y) = carried_fits kind (through feed.changes y)
+
+abbrev pub FitsAt : Port → Option ℤ → Type 0
 FitsAt port v = IfSome v (Fits port.kind)
 
 -- what is said of an output, a Clock or not
-output_value_fits : (r : Run) (s : Situation) (V : List (Option ℤ)) (p : ℕ) (port : Port) (role : Role) → is_output_role role ≡ true → (last v : Option ℤ) → FitsAt port last → SolvesAt role r s V p port last v → FitsAt port v
+pub output_value_fits : (r : Run) (s : Situation) (V : List (Option ℤ)) (p : ℕ) (port : Port) (role : Role) → is_output_role role ≡ true → (last v : Option ℤ) → FitsAt port last → SolvesAt role r s V p port last v → FitsAt port v
 output_value_fits r s V p port (Input feed) o last v h solves = absurd (true_false (sym o))
 output_value_fits r s V p port Output o last v h solves = subst (FitsAt port) (sym solves) (output_fits r s V port last h)
 output_value_fits r s V p port (ClockInput feed) o last v h solves = absurd (true_false (sym o))
@@ -134,17 +152,17 @@ output_value_fits r s V p port ClockOutput o last v h solves =
     subst (FitsAt port) (sym solves) (at_fmu-fits port.kind r s.states port.component.0 (λ c m state. ticking m (state_with r.system.ports V port.component.0 m state) port) (λ c m state. reply_fits port.kind _))
 output_value_fits r s V p port (TimeClock timing) o last v h solves = absurd (true_false (sym o))
 
-tick_fits : (Ticks : Type 0) (port : Port) (v : Option ℤ) → port.kind ≡ Clock → IsTickValue Ticks v → FitsAt port v
+pub tick_fits : (Ticks : Type 0) (port : Port) (v : Option ℤ) → port.kind ≡ Clock → IsTickValue Ticks v → FitsAt port v
 tick_fits Ticks port v clock (inl h) = subst (FitsAt port) (sym h.1) (one_fits port.kind clock)
 tick_fits Ticks port v clock (inr h) = subst (FitsAt port) (sym h.1) (zero_fits port.kind clock)
 
 pub values_fit : (r : Run) → IsSound r.system → (s : Situation) (V : List (Option ℤ)) → AreFitting r.system s.before → Solves r s V → AreFitting r.system V
 values_fit r sound s V fit solves p port is = at port.role refl (solves.equations p port is)
   where
-    source_fits : (q : ℕ) → source_of port.role ≡ Some q → FitsAt port (value V q)
-    source_fits q from =
+    source_fits : (q : ℕ) → port.kind ≡ Clock → source_of port.role ≡ Some q → FitsAt port (value V q)
+    source_fits q clock from =
         let source = source_at r.system sound p q port is from in
-        wider source.source.kind port.kind (value V q) source.feed.types.1
+        wider source.source.kind port.kind (value V q) (within_of_clock source.by source.source port source.feed clock)
         (output_value_fits r s V q source.source source.source.role source.feed.output (value s.before q) (value V q) (fit q source.source source.is) (solves.equations q source.source source.is))
 
     clock : is_clock_role port.role ≡ true → port.kind ≡ Clock
@@ -152,16 +170,16 @@ values_fit r sound s V fit solves p port is = at port.role refl (solves.equation
 
     at : (role : Role) → port.role ≡ role → SolvesAt role r s V p port (value s.before p) (value V p) → FitsAt port (value V p)
     at (Input None) e h = subst (FitsAt port) (sym h) tt
-    at (Input (Some feed)) e h = subst (FitsAt port) (sym h) (if_fits port.kind (is_present port V) (fed feed V) (value s.before p) (source_fits feed.from.0 (ap source_of e)) (fit p port is))
+    at (Input (Some feed)) e h = subst (FitsAt port) (sym h) (if_fits port.kind (is_present port V) (fed port.kind feed V) (value s.before p) (fed_fits port.kind feed V) (fit p port is))
     at Output e h = output_value_fits r s V p port Output refl (value s.before p) (value V p) (fit p port is) h
     at (ClockInput None) e h = subst (FitsAt port) (sym h) (zero_fits port.kind (clock (ap is_clock_role e)))
-    at (ClockInput (Some feed)) e h = subst (FitsAt port) (sym h) (source_fits feed.from.0 (ap source_of e))
+    at (ClockInput (Some feed)) e h = subst (FitsAt port) (sym h) (source_fits feed.from.0 (clock (ap is_clock_role e)) (ap source_of e))
     at ClockOutput e h = output_value_fits r s V p port ClockOutput refl (value s.before p) (value V p) (fit p port is) h
     at (TimeClock timing) e h = tick_fits (IsDue r.plan.start (timer_of s.timers p) s.t s.n) port (value V p) (clock (ap is_clock_role e)) h
 
 -- ---- in Initialization Mode
 
-initial_output_fits : (r : Run) (W : List (Option ℤ)) (p : ℕ) (port : Port) (role : Role) → is_output_role role ≡ true → FitsAt port (I.initial_value role r W p port)
+pub initial_output_fits : (r : Run) (W : List (Option ℤ)) (p : ℕ) (port : Port) (role : Role) → is_output_role role ≡ true → FitsAt port (I.initial_value role r W p port)
 initial_output_fits r W p port (Input feed) o = absurd (true_false (sym o))
 initial_output_fits r W p port Output o =
     if_fits port.kind (I.is_read r.system.ports p) _ None (at_fmu-fits port.kind r (I.initializing r) port.component.0 (λ c m s. shown m (state_with r.system.ports W port.component.0 m s) port) (λ c m s. reply_fits port.kind _)) tt
@@ -172,15 +190,9 @@ initial_output_fits r W p port (TimeClock timing) o = tt
 pub initial_values_fit : (r : Run) → IsSound r.system → (W : List (Option ℤ)) → I.SolvesInitially r W → AreFitting r.system W
 initial_values_fit r sound W solves p port is = subst (FitsAt port) (sym (solves.equations p port is)) (at port.role refl)
   where
-    source_fits : (q : ℕ) → source_of port.role ≡ Some q → FitsAt port (value W q)
-    source_fits q from =
-        let source = source_at r.system sound p q port is from in
-        wider source.source.kind port.kind (value W q) source.feed.types.1
-        (subst (FitsAt source.source) (sym (solves.equations q source.source source.is)) (initial_output_fits r W q source.source source.source.role source.feed.output))
-
     at : (role : Role) → port.role ≡ role → FitsAt port (I.initial_value role r W p port)
     at (Input None) e = tt
-    at (Input (Some feed)) e = if_fits port.kind (is_unclocked port && is_unclocked_at r.system.ports feed.from.0) (fed feed W) None (source_fits feed.from.0 (ap source_of e)) tt
+    at (Input (Some feed)) e = if_fits port.kind (is_unclocked port && is_unclocked_at r.system.ports feed.from.0) (fed port.kind feed W) None (fed_fits port.kind feed W) tt
     at Output e = initial_output_fits r W p port Output refl
     at (ClockInput feed) e = tt
     at ClockOutput e = tt
@@ -188,7 +200,7 @@ initial_values_fit r sound W solves p port is = subst (FitsAt port) (sym (solves
 
 -- ---- situations
 
-none_fits : (ports : List Port) (p : ℕ) (port : Port) → slice_get ports p ≡ Some port → FitsAt port (value (map (λ (x : Port). None) ports) p)
+pub none_fits : (ports : List Port) (p : ℕ) (port : Port) → slice_get ports p ≡ Some port → FitsAt port (value (map (λ (x : Port). None) ports) p)
 none_fits [] p port e = tt
 none_fits (x ∷ xs) zero port e = tt
 none_fits (x ∷ xs) (suc p) port e = none_fits xs p port e
@@ -242,12 +254,13 @@ situation_departs {r} {s} machines is (P.WhereFixed next j f lacks a) z e = absu
 situation_departs {r} {s} machines is (P.ByStep next k p step asks a) z e = subst (IsSituation r) (ap (λ x. situation_of x z) (sym a ∙ e)) (situation_after_step r machines s k p is)
 
 situation_leads : (f : F.Following) (r : Run) (s : Situation) (V : List (Option ℤ)) (z : Situation) → AreMachines r → IsSituation r (F.updated r s V) → LeadsBy f r s V (P.GoesOn z) → IsSituation r z
+situation_leads F.OutOfRange r s V z machines is a = absurd (true_false (sym (ap ends_or_goes a)))
 situation_leads F.Ended r s V z machines is a = absurd (true_false (sym (ap ends_or_goes a)))
 situation_leads F.AtLimit r s V z machines is a = absurd (true_false (sym (ap ends_or_goes a)))
 situation_leads F.Again r s V z machines is a = subst (IsSituation r) (ap (λ x. situation_of x z) (sym a)) is
 situation_leads F.Done r s V z machines is a = situation_departs machines is a z refl
 
 pub situation_reached : {r : Run} {s : Situation} → IsSound r.system → AreMachines r → Reached r s → IsSituation r s
-situation_reached {r} sound machines (AtFirst s initial solves is) = subst (IsSituation r) (sym is) (situation_at_beginning r machines initial)
+situation_reached {r} sound machines (AtFirst s initial solves kept is) = subst (IsSituation r) (sym is) (situation_at_beginning r machines initial)
 situation_reached {r} sound machines (Onward s V next reached solves leads) =
     situation_leads (F.following r s V) r s V next machines (situation_after_instant r sound machines s V (situation_reached sound machines reached) solves) leads

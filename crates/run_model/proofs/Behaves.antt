@@ -28,7 +28,7 @@ use Rattle.run_model.specs.Initial as I
 use Rattle.run_model.specs.Equations.{Solves}
 use Rattle.run_model.specs.AfterInstant.{written}
 use Rattle.run_model.specs.Stepping.{GoesOn, Next, Departs, AtStop, WhereAsked, WhereFixed, ByStep, departing, step_to, kept_at}
-use Rattle.run_model.specs.AfterInstant.{Following, Ended, AtLimit, Again, Done, following}
+use Rattle.run_model.specs.AfterInstant.{Following, OutOfRange, Ended, AtLimit, Again, Done, following}
 use Rattle.run_model.specs.Trace.{LeadsBy}
 use Rattle.run_model.specs.Behaved as B
 use Rattle.run_model.specs.AlwaysWell.{RunSends, AlwaysWell, AlwaysBehaves, TimedBehaves, TimesWell, WellButTimings, asks_timing}
@@ -157,13 +157,14 @@ fit_departs {r} {s} i machine fit (ByStep next k p step asks a) z e =
     subst (λ (x : Situation). S.IsStateAt r false x.states i) (ap (λ x. situation_of x z) (sym a ∙ e)) (S.fit_stepped r i machine s k p fit)
 
 fit_leads : (f : Following) (r : Run) (s : Situation) (values : List (Option ℤ)) (z : Situation) (i : ℕ) → S.IsMachineAt r i → S.IsStateAt r false s.states i → LeadsBy f r s values (GoesOn z) → S.IsStateAt r false z.states i
+fit_leads OutOfRange r s values z i machine fit a = absurd (true_false (sym (ap ends_or_goes a)))
 fit_leads Ended r s values z i machine fit a = absurd (true_false (sym (ap ends_or_goes a)))
 fit_leads AtLimit r s values z i machine fit a = absurd (true_false (sym (ap ends_or_goes a)))
 fit_leads Again r s values z i machine fit a = subst (λ (x : Situation). S.IsStateAt r false x.states i) (ap (λ x. situation_of x z) (sym a)) (S.fit_updated r i machine s values fit)
 fit_leads Done r s values z i machine fit a = fit_departs i machine (S.fit_updated r i machine s values fit) a z refl
 
 pub fit_reached : {r : Run} {s : Situation} (i : ℕ) → S.IsMachineAt r i → B.Reached r s → S.IsStateAt r false s.states i
-fit_reached {r} i machine (B.AtFirst s initial solves is) = subst (λ (x : Situation). S.IsStateAt r false x.states i) (sym is) (S.fit_beginning r i machine initial)
+fit_reached {r} i machine (B.AtFirst s initial solves kept is) = subst (λ (x : Situation). S.IsStateAt r false x.states i) (sym is) (S.fit_beginning r i machine initial)
 fit_reached {r} i machine (B.Onward s values next reached solves leads) = fit_leads (following r s values) r s values next i machine (fit_reached i machine reached) leads
 
 -- ---- the law

@@ -23,7 +23,7 @@ use Rattle.run_model.specs.Inputs.{written_by, written_at_port, state_with}
 use Rattle.run_model.specs.Equations.{fed, shown, value_in}
 use Rattle.run_model.specs.Initial.{SolvesInitially, initial_value, initializing, is_read, is_set_from}
 use Rattle.run_model.specs.Machines.{AreMachines, IsStateOf}
-use Rattle.run_model.proofs.Alike.{look_alike, outputs_alike, written_by-alike, written_at-is, at_fmu-same, both}
+use Rattle.run_model.proofs.Alike.{fed_same, look_alike, outputs_alike, written_by-alike, written_at-is, at_fmu-same, both}
 use Rattle.run_model.proofs.States.{states_initializing}
 use Rattle.run_model.proofs.Unique.{agree_along, AgreeOn, none_in, past, value_past}
 
@@ -98,7 +98,7 @@ written_same V W q on here none =
 -- by its equation a port with Clocks, or a Clock, has none
 pub initial_none : (r : Run) (W : List (Option ℤ)) (p : ℕ) (port : Port) → slice_get r.system.ports p ≡ Some port → (role : Role) → is_unclocked port ≡ false → initial_value role r W p port ≡ None
 initial_none r W p port is (Input None) out = refl
-initial_none r W p port is (Input (Some feed)) out = ap (λ b. if b && is_unclocked_at r.system.ports feed.from.0 then fed feed W else None) out
+initial_none r W p port is (Input (Some feed)) out = ap (λ b. if b && is_unclocked_at r.system.ports feed.from.0 then fed port.kind feed W else None) out
 initial_none r W p port is Output out =
     (elim (is_read r.system.ports p) as (λ b. is_read r.system.ports p ≡ b →
     (if b then at_fmu r (initializing r) port.component.0 (λ c m s. shown m (state_with r.system.ports W port.component.0 m s) port) else None) ≡ None) [
@@ -132,9 +132,9 @@ pub initial_same : (r : Run) → IsSound r.system → AreMachines r → (W Z : L
     AlikeInitially r.system p W Z → (role : Role) → port.role ≡ role → initial_value role r W p port ≡ initial_value role r Z p port
 initial_same r sound machines W Z none p port is alike (Input None) e = refl
 initial_same r sound machines W Z none p port is alike (Input (Some feed)) e =
-    if_same (is_unclocked port && is_unclocked_at r.system.ports feed.from.0) (fed feed W) (fed feed Z) (λ t.
+    if_same (is_unclocked port && is_unclocked_at r.system.ports feed.from.0) (fed port.kind feed W) (fed port.kind feed Z) (λ t.
     let parts = both (is_unclocked port) (is_unclocked_at r.system.ports feed.from.0) t in
-    alike feed.from.0 (InitiallyByFeed (unclocked_at-is r.system.ports p port is ∙ parts.0) parts.1 port is (ap source_of e)))
+    fed_same port.kind feed W Z (alike feed.from.0 (InitiallyByFeed (unclocked_at-is r.system.ports p port is ∙ parts.0) parts.1 port is (ap source_of e))))
 initial_same r sound machines W Z none p port is alike Output e =
     if_same (is_read r.system.ports p) _ _ (λ t.
     let unclocked : is_unclocked_at r.system.ports p ≡ true = read_unclocked r.system.ports r.system.ports p t in

@@ -14,3 +14,4 @@ mod Midst
 mod AlongRun
 mod Behaves
 mod WhoIsFirst
+mod PlainTraces

@@ -14,7 +14,7 @@ use Rattle.run_model.specs.Run.{Run, Situation, at_fmu}
 use Rattle.system_model.specs.Values.{value, is_present}
 use Rattle.run_model.specs.Inputs.{state_with}
 use Rattle.run_model.specs.Timers.{IsDue}
-use Rattle.run_model.specs.Equations.{Solves, SolvesAt, IsTickValue, fed, output_value, ticking, timer_of}
+use Rattle.run_model.specs.Equations.{Solves, SolvesAt, IsTickValue, fed, output_value, source_value, ticking, timer_of}
 use Rattle.run_model.specs.Machines.{AreMachines, AreStates}
 use Rattle.run_model.proofs.Alike.{Alike}
 use Rattle.run_model.proofs.Unique.{IsClosed, AgreeOn, closed-push, push_cases, none_in, value_same}
@@ -26,10 +26,10 @@ AreDecided r s = (p : ℕ) → IsDue r.plan.start (timer_of s.timers p) s.t s.n 
 -- a value that solves the equation of a port
 solution : (r : Run) (s : Situation) → AreDecided r s → (V : List (Option ℤ)) (p : ℕ) (port : Port) (last : Option ℤ) (role : Role) → (v : Option ℤ) × SolvesAt role r s V p port last v
 solution r s decided V p port last (Input None) = (None, refl)
-solution r s decided V p port last (Input (Some feed)) = (if is_present port V then fed feed V else last, refl)
+solution r s decided V p port last (Input (Some feed)) = (if is_present port V then fed port.kind feed V else last, refl)
 solution r s decided V p port last Output = (at_fmu r s.states port.component.0 (output_value r s V last port), refl)
 solution r s decided V p port last (ClockInput None) = (Some (pos 0), refl)
-solution r s decided V p port last (ClockInput (Some feed)) = (fed feed V, refl)
+solution r s decided V p port last (ClockInput (Some feed)) = (source_value feed V, refl)
 solution r s decided V p port last ClockOutput = (at_fmu r s.states port.component.0 (λ c m state. ticking m (state_with r.system.ports V port.component.0 m state) port), refl)
 solution r s decided V p port last (TimeClock timing) =
     (elim (decided p) as (λ d. (v : Option ℤ) × IsTickValue (IsDue r.plan.start (timer_of s.timers p) s.t s.n) v) [

@@ -15,7 +15,7 @@ use Rattle.run_model.specs.Run.{Run, Situation}
 use Rattle.system_model.specs.Values.{value, is_present}
 use Rattle.run_model.specs.Equations.{Solves, SolvesAt, IsTickValue, fed}
 use Rattle.run_model.specs.Machines.{AreMachines, AreStates}
-use Rattle.run_model.proofs.Alike.{Alike, present_alike, output_alike, ticking_alike}
+use Rattle.run_model.proofs.Alike.{Alike, fed_same, present_alike, output_alike, ticking_alike}
 
 tick_same : (Ticks : Type 0) (v w : Option ℤ) → IsTickValue Ticks v → IsTickValue Ticks w → v ≡ w
 tick_same Ticks v w (inl a) (inl b) = a.1 ∙ sym b.1
@@ -29,8 +29,8 @@ pub value_same : (r : Run) → IsSound r.system → AreMachines r → (s : Situa
     SolvesAt role r s V p port last v → SolvesAt role r s W p port last w → v ≡ w
 value_same r sound machines s fit p port last V W is alike (Input None) e v w x y = x ∙ sym y
 value_same r sound machines s fit p port last V W is alike (Input (Some feed)) e v w x y =
-    x ∙ ap (λ b. if b then fed feed V else last) (present_alike r.system p port V W is alike.direct)
-    ∙ ap (λ o. if is_present port W then o else last) (alike.direct feed.from.0 (ByFeed port is (ap source_of e))) ∙ sym y
+    x ∙ ap (λ b. if b then fed port.kind feed V else last) (present_alike r.system p port V W is alike.direct)
+    ∙ ap (λ o. if is_present port W then o else last) (fed_same port.kind feed V W (alike.direct feed.from.0 (ByFeed port is (ap source_of e)))) ∙ sym y
 value_same r sound machines s fit p port last V W is alike Output e v w x y =
     x ∙ output_alike r sound machines s fit p port last V W is (ap is_output_role e) alike ∙ sym y
 value_same r sound machines s fit p port last V W is alike (ClockInput None) e v w x y = x ∙ sym y

@@ -15,6 +15,7 @@ use Rattle.system_model.specs.declared.system.Port.{Port}
 use Rattle.run_model.specs.Run.{Run, Situation, Timer, Never, each, at_fmu}
 use Rattle.system_model.specs.Values.{value, is_active}
 use Rattle.run_model.specs.Inputs.{state_with}
+use Rattle.run_model.specs.Equations.{is_bad}
 use Rattle.run_model.specs.Timers.{answered, is_armed_for, rearmed}
 use Rattle.run_model.specs.Initial.{interval_in}
 
@@ -107,8 +108,9 @@ updated r s values = record {
 
 -- ---- what follows
 
--- an Update asks for the end; the instants at this point reach their limit; another instant follows here; or the point is done
+-- the value of a source is lost on its way to an input; an Update asks for the end; the instants at this point reach their limit; another instant follows here; or the point is done
 pub data Following : Type 0 where
+  OutOfRange : Following
   Ended : Following
   AtLimit : Following
   Again : Following
@@ -121,6 +123,7 @@ goes_again r s values =
 
 abbrev pub following : Run → Situation → List (Option ℤ) → Following
 following r s values =
-    if any_update asks_for_end r s values then Ended
+    if list_any (is_bad values) r.system.ports then OutOfRange
+    else (if any_update asks_for_end r s values then Ended
     else (if goes_again r s values
-    then (if suc s.n == r.plan.limit then AtLimit else Again) else Done)
+    then (if suc s.n == r.plan.limit then AtLimit else Again) else Done))

@@ -1,6 +1,6 @@
 -- FMUs whose replies along a run are good: each reply that is looked at or goes with a change, kept or not, and each to a call that a driver may send there to set an input or to keep a state (FMI 3.0, 4.2.1: Co-Simulation; 2.2.6: FMU state).
 use Rattle.std.specs.Prelude.{◌≡◌, ℕ, ◌<◌, ℤ, Bool, true, false, List, length, Option, Some, IsSomeAnd}
-use Rattle.std.specs.List.{slice_get}
+use Rattle.std.specs.List.{list_any, slice_get}
 use Rattle.value_types.specs.Shape.{is_clock, variable_at}
 use Rattle.value_types.specs.Values.{Fits}
 use Rattle.value_types.specs.declared.shape.Causality.TheVariants as V
@@ -21,7 +21,7 @@ use Rattle.system_model.specs.declared.system.Port.{Port}
 use Rattle.run_model.specs.Run.{Run, Situation, IsFmu, each}
 use Rattle.system_model.specs.Values.{is_active, is_present, value}
 use Rattle.run_model.specs.Equations.{Solves}
-use Rattle.run_model.specs.Initial.{first_states, instantiated, configured, initializing, initialized, enter_initialization, SolvesInitially, beginning, is_read}
+use Rattle.run_model.specs.Initial.{first_states, instantiated, configured, initializing, initialized, enter_initialization, SolvesInitially, beginning, is_bad_initially, is_read}
 use Rattle.run_model.specs.AfterInstant.{Done, following, written, updated}
 use Rattle.run_model.specs.Steps.{IsBound, IsAsked}
 use Rattle.run_model.specs.Stepping.{GoesOn, IsStep, departing, is_asked_first, steppers, asks_to_end, step_to, kept_at}
@@ -32,6 +32,7 @@ use Rattle.run_model.specs.Trace.{Leads}
 -- the run comes to this situation
 pub data Reached (r : Run) : Situation → Type 0 where
   AtFirst : (s : Situation) (initial : List (Option ℤ)) → SolvesInitially r initial →
+      list_any (is_bad_initially r.system initial) r.system.ports ≡ false →
       s ≡ beginning r initial → Reached r s
   Onward : (s : Situation) (values : List (Option ℤ)) (next : Situation) → Reached r s →
       Solves r s values → Leads r s values (GoesOn next) → Reached r next

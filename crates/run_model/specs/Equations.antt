@@ -1,5 +1,5 @@
 -- The equations that the values of an instant solve (FMI 3.0, 2.1.5: super-dense time; SSP 1.0: connections).
-use Rattle.std.specs.Prelude.{◌≡◌, ◌⊎◌, ℕ, ℤ, pos, ◌==◌, if◌then◌else◌, List, length, Option, Some, None, slice_index_or}
+use Rattle.std.specs.Prelude.{◌≡◌, ◌⊎◌, ℕ, ℤ, pos, ◌==◌, if◌then◌else◌, List, length, Bool, false, not, ◌&&◌, is_some, Option, Some, None, slice_index_or}
 use Rattle.std.specs.List.{slice_get}
 use Rattle.value_types.specs.Values.{word_value}
 use Rattle.value_types.specs.declared.values.PortType.{PortType}
@@ -9,6 +9,7 @@ use Rattle.fmi_calls.specs.declared.call.Reply.{Reply}
 use Rattle.fmi_calls.specs.declared.call.Reply.TheVariants as R
 use Rattle.fmu_peer.specs.Machine.{MachineState, Machine}
 use Rattle.system_model.specs.declared.system.Component.{Component}
+pub use Rattle.system_model.specs.Carried.{fed, source_value}
 use Rattle.system_model.specs.declared.system.Feed.{Feed}
 use Rattle.system_model.specs.declared.system.Role.{Role}
 use Rattle.system_model.specs.declared.system.Role.TheVariants.{Input, Output, ClockInput, ClockOutput, TimeClock}
@@ -37,9 +38,24 @@ ticking m s port = value_in port.kind (m.look s (C.GetClock port.reference))
 
 -- ---- the equations
 
--- what comes to an input from its source
-abbrev pub fed : Feed → List (Option ℤ) → Option ℤ
-fed feed values = value values feed.from.0
+-- the source has a value, and its path makes none of it that the input takes
+abbrev pub is_lost : PortType → Feed → List (Option ℤ) → Bool
+is_lost kind feed values =
+    is_some (source_value feed values) && not (is_some (fed kind feed values))
+
+-- of a role
+abbrev is_bad_input : Role → List (Option ℤ) → Port → Bool
+is_bad_input (Input None) values port = false
+is_bad_input (Input (Some feed)) values port =
+    is_present port values && is_lost port.kind feed values
+is_bad_input Output values port = false
+is_bad_input (ClockInput feed) values port = false
+is_bad_input ClockOutput values port = false
+is_bad_input (TimeClock timing) values port = false
+
+-- the port is a connected input that is present, and the value of its source is lost on its way
+abbrev pub is_bad : List (Option ℤ) → Port → Bool
+is_bad values port = is_bad_input port.role values port
 
 -- with event mode an output that is present is what the state shows with the values written; without event mode it is what the state shows in the first instant of a point; else it keeps its value
 abbrev pub output_value : Run → Situation → List (Option ℤ) → Option ℤ → Port → Component →
@@ -62,11 +78,11 @@ abbrev pub SolvesAt : Role → Run → Situation → List (Option ℤ) → ℕ �
     Option ℤ → Option ℤ → Type 0
 SolvesAt (Input None) r s values p port last v = v ≡ None
 SolvesAt (Input (Some feed)) r s values p port last v =
-    v ≡ (if is_present port values then fed feed values else last)
+    v ≡ (if is_present port values then fed port.kind feed values else last)
 SolvesAt Output r s values p port last v =
     v ≡ at_fmu r s.states port.component.0 (output_value r s values last port)
 SolvesAt (ClockInput None) r s values p port last v = v ≡ Some (pos 0)
-SolvesAt (ClockInput (Some feed)) r s values p port last v = v ≡ fed feed values
+SolvesAt (ClockInput (Some feed)) r s values p port last v = v ≡ source_value feed values
 SolvesAt ClockOutput r s values p port last v =
     v ≡ at_fmu r s.states port.component.0 (λ c m state.
     ticking m (state_with r.system.ports values port.component.0 m state) port)

@@ -17,12 +17,13 @@ use Rattle.system_model.specs.declared.system.Role.TheVariants.{Input, Output, C
 use Rattle.system_model.specs.declared.system.Timing.TheVariants.{Periodic, Answered, Countdown, Changing}
 use Rattle.system_model.specs.declared.system.Component.{Component}
 use Rattle.system_model.specs.declared.system.Port.{Port}
+use Rattle.system_model.specs.declared.system.System.{System}
 use Rattle.system_model.specs.declared.bound.BoundValue.{BoundValue}
 use Rattle.system_model.specs.Needs.{is_unclocked, is_unclocked_at}
 use Rattle.run_model.specs.Run.{Run, Situation, Timer, Never, Every, each, at_fmu}
 use Rattle.system_model.specs.Values.{value}
 use Rattle.run_model.specs.Inputs.{state_with}
-use Rattle.run_model.specs.Equations.{shown, fed}
+use Rattle.run_model.specs.Equations.{shown, fed, is_lost}
 use Rattle.run_model.specs.Timers.{armed_after, fixed}
 
 -- ---- before Initialization Mode
@@ -78,7 +79,7 @@ abbrev pub initial_value : Role → Run → List (Option ℤ) → ℕ → Port �
 initial_value (Input None) r values p port = None
 initial_value (Input (Some feed)) r values p port =
     if is_unclocked port && is_unclocked_at r.system.ports feed.from.0
-    then fed feed values else None
+    then fed port.kind feed values else None
 initial_value Output r values p port =
     if is_read r.system.ports p
     then at_fmu r (initializing r) port.component.0 (λ c m s.
@@ -87,6 +88,21 @@ initial_value Output r values p port =
 initial_value (ClockInput feed) r values p port = None
 initial_value ClockOutput r values p port = None
 initial_value (TimeClock timing) r values p port = None
+
+-- of a role
+abbrev is_bad_input_initially : Role → System → List (Option ℤ) → Port → Bool
+is_bad_input_initially (Input None) system values port = false
+is_bad_input_initially (Input (Some feed)) system values port =
+    is_unclocked port && is_unclocked_at system.ports feed.from.0 &&
+    is_lost port.kind feed values
+is_bad_input_initially Output system values port = false
+is_bad_input_initially (ClockInput feed) system values port = false
+is_bad_input_initially ClockOutput system values port = false
+is_bad_input_initially (TimeClock timing) system values port = false
+
+-- the port is such an input, and the value of its source is lost on its way
+abbrev pub is_bad_initially : System → List (Option ℤ) → Port → Bool
+is_bad_initially system values port = is_bad_input_initially port.role system values port
 
 -- the values, one a port, solve the equations of Initialization Mode
 pub record SolvesInitially (r : Run) (values : List (Option ℤ)) : Type 0 where

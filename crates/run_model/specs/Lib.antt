@@ -12,3 +12,4 @@ pub mod Behaved
 pub mod Walk
 pub mod AlwaysWell
 pub mod Laws
+pub mod Plain

@@ -1,10 +1,17 @@
 ghost use Rattle.run_model.specs.AlwaysWell.{AlwaysBehaves, TimedBehaves};
 ghost use Rattle.run_model.specs.Laws.{BeginsInSituation, OneNext, OneTrace, ReachesSituations, ReadsFitting, SolvedByFitting, SolvedByFittingInitially, SolvedOnce, SolvedOnceInitially, StepsToSituation, UpdatesToSituation};
+ghost use Rattle.run_model.specs.Plain.{KeepsPlainTraces};
 ghost use Rattle.run_model.specs.Walk.{AllAtLast, AllAtLastInitially, KeepsBeside, LooksInMidst, LooksInitially, NothingAtFirst, PresentByNeeds, ValueByNeeds, WritesAtPort};
 
 /// A law: two traces of one sound system, its machines and a plan are equal.
 pub fn one_trace()
     ensures { OneTrace }
+{}
+
+/// A law: a sound system without transformations has the trace in which each input has its source's value and nothing is lost,
+/// and no other.
+pub fn plain_traces()
+    ensures { KeepsPlainTraces }
 {}
 
 /// A law: an instant leads to one thing at most, to an end or to one situation.

@@ -4,5 +4,6 @@
 mod laws;
 
 pub use laws::{
-    always_behaves, one_next, one_solution, one_trace, situation_laws, type_laws, walk_laws,
+    always_behaves, one_next, one_solution, one_trace, plain_traces, situation_laws, type_laws,
+    walk_laws,
 };

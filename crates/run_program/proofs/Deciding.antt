@@ -154,7 +154,7 @@ module _ (task : Task) (system : System) (end : RunEnd) (old new : Scene) (l : L
   shape_same k v talk f = ap (λ (x : Fixed). x.shape) (sym (ap (λ (x : View). x.fixed) f.new) ∙ f.is.fixed)
 
   -- its name is that of its component
-  name_is : (k : ℕ) (v : View) (talk : List Exchange) (name : List ℕ) (f : Found (talks_of l.news) l.lives l.olds k v talk) → IsSomeAnd v.fixed.origin (λ (o : Origin). o.name ≡ name) → slice_get (names_of system) k ≡ Some name
+  name_is : (k : ℕ) (v : View) (talk : List Exchange) (name : List ℕ) (f : Found (talks_of l.news) l.lives l.olds k v talk) → IsSomeAnd v.fixed.origin (λ (o : Origin). o.name ≡ name) → slice_get (names_of system).components k ≡ Some name
   name_is k v talk name f h =
       let s = started_at task.host task.folders system.components l.olds k f.life.old l.peers.are f.old in
       let origin = ap (λ (x : Fixed). x.origin) (sym (ap (λ (x : View). x.fixed) f.new) ∙ f.is.fixed) ∙ s.2.1.origin in
@@ -197,7 +197,7 @@ module _ (task : Task) (system : System) (end : RunEnd) (old new : Scene) (l : L
     pub all_good : {A : Type 0} → AreGood l.lives → A
     all_good good = good_none b.place b.peer b.talk why mine b.first (all_got (λ (x : Life). T.AllGood (shape_in x) x.run) l.lives b.place mine.life good mine.here)
 
-    pub same_bad : (bad : BadAnswer) (other : List ℕ) → IsLeastBad bad l.lives → slice_get (names_of system) bad.component.0 ≡ Some other → (other ≡ name) × (bad.why ≡ why)
+    pub same_bad : (bad : BadAnswer) (other : List ℕ) → IsLeastBad bad l.lives → slice_get (names_of system).components bad.component.0 ≡ Some other → (other ≡ name) × (bad.why ≡ why)
     same_bad bad other least named = by (compare b.place bad.component.0)
       where
         by : (b.place < bad.component.0) ⊎ ((b.place ≡ bad.component.0) ⊎ (bad.component.0 < b.place)) → (other ≡ name) × (bad.why ≡ why)
@@ -208,7 +208,7 @@ module _ (task : Task) (system : System) (end : RunEnd) (old new : Scene) (l : L
             let life_is : least.life ≡ mine.life = same_Some least.life mine.life (sym least.here ∙ ap (slice_get l.lives) (sym same) ∙ mine.here) in
             let first : IsFirstBad mine.life.old.fixed.shape bad.why mine.life.run = subst (λ (x : Life). IsFirstBad x.old.fixed.shape bad.why x.run) life_is least.first in
             let r = bad_in b.place b.peer b.talk why mine b.first in (
-              same_Some other name (sym named ∙ ap (slice_get (names_of system)) (sym same) ∙ name_is b.place b.peer b.talk name mine b.named),
+              same_Some other name (sym named ∙ ap (slice_get (names_of system).components) (sym same) ∙ name_is b.place b.peer b.talk name mine b.named),
               one_bad mine.life.old.fixed.shape mine.life.run b.first.front r.0 b.first.last bad.why why first r.1 (front_here b.place b.peer b.talk why mine b.first) (bad_here b.place b.peer b.talk why mine b.first),
             )
         by (inr (inr behind)) =
@@ -226,6 +226,7 @@ end_decides task system E.Stop e h l talks told name why b named p quiet outs = 
 end_decides task system (E.Asked point) e h l talks told name why b named p quiet outs = all_good task system (E.Asked point) h.old.run h.new.run l talks told name why b l.ends
 end_decides task system (E.EventLimit point) e h l talks told name why b named p quiet outs = all_good task system (E.EventLimit point) h.old.run h.new.run l talks told name why b l.ends
 end_decides task system (E.FixedStep component at end) e h l talks told name why b named p quiet outs = all_good task system (E.FixedStep component at end) h.old.run h.new.run l talks told name why b l.ends
+end_decides task system (E.Range lost at) e h l talks told name why b named p quiet outs = all_good task system (E.Range lost at) h.old.run h.new.run l talks told name why b l.ends
 end_decides task system (E.Bad bad) e h l talks told name why b named p quiet outs =
     let same = same_bad task system (E.Bad bad) h.old.run h.new.run l talks told name why b bad named.0 l.ends named.1 in
     let put : Reports (Some (bad_message named.0 bad.why)) (why_status bad.why) h.status h.err h.err_after = subst (λ (x : End). Reports (end_message x) (end_status x) h.status h.err h.err_after) named.2 p in

@@ -15,17 +15,18 @@ use Rattle.run_program.specs.Happened.{Scene}
 use Rattle.run_program.specs.Message.{summary_text}
 use Rattle.run_program.specs.Rows.{IsFinished}
 use Rattle.run_program.proofs.PeerLemmas.{none_begun}
-use Rattle.run_program.specs.Runs.{Broke, HasRun, IsEndOf, Task, Went, names_of}
+use Rattle.run_program.specs.Runs.{Broke, HasRun, IsEndOf, Names, Task, Went, names_of}
 
 -- an end isn't both well and not
 ill : (e f : End) → e ≡ f → is_well e ≡ true → is_well f ≡ false → ⊥
 ill e f same well badly = let both = sym well ∙ ap is_well same ∙ badly in absurd (cc)
 
-ends_well : (names : List (List ℕ)) (end : RunEnd) (e : End) → IsEndOf names end e → is_well e ≡ true → IsFinished end
+ends_well : (names : Names) (end : RunEnd) (e : End) → IsEndOf names end e → is_well e ≡ true → IsFinished end
 ends_well names E.Stop e is well = tt
 ends_well names (E.Asked point) e is well = tt
 ends_well names (E.EventLimit point) e is well = absurd (ill e (O.EventLimit point) is well refl)
 ends_well names (E.FixedStep component at end) e is well = absurd (ill e (O.FixedStep is.0 at end) is.2 well refl)
+ends_well names (E.Range lost at) e is well = absurd (ill e (O.Range is.2.0 is.0.name lost.value) is.2.2 well refl)
 ends_well names (E.Bad bad) e is well = absurd (ill e (O.Bad is.0 bad.why) is.2 well refl)
 ends_well names E.WriteFault e is well = absurd (ill e O.WriteFault is well refl)
 

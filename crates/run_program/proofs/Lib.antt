@@ -14,6 +14,7 @@ pub mod BuiltIns
 pub mod Tracing
 pub mod Rows
 pub mod NameLemmas
+pub mod NamingLemmas
 pub mod TraceRows
 pub mod LoopText
 pub mod Counting

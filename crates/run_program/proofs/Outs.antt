@@ -30,6 +30,7 @@ TellsOut E.Stop before after = after ≡ before
 TellsOut (E.Asked point) before after = after ≡ before
 TellsOut (E.EventLimit point) before after = after ≡ before
 TellsOut (E.FixedStep component at end) before after = after ≡ before
+TellsOut (E.Range lost at) before after = after ≡ before
 TellsOut (E.Bad bad) before after = after ≡ before
 TellsOut E.WriteFault before after = Rose before after
 
@@ -41,6 +42,7 @@ tells : (system : System) (bound : Bound) (plan : Plan) (log : List Sent) (is : 
 tells system bound plan log is E.Stop before after e = whole_same system bound plan log is E.Stop before after e
 tells system bound plan log is (E.Asked point) before after e = whole_same system bound plan log is (E.Asked point) before after e
 tells system bound plan log is (E.EventLimit point) before after e = whole_same system bound plan log is (E.EventLimit point) before after e
+tells system bound plan log is (E.Range lost at) before after e = whole_same system bound plan log is (E.Range lost at) before after e
 tells system bound plan log is (E.FixedStep component at end) before after e = whole_same system bound plan log is (E.FixedStep component at end) before after e
 tells system bound plan log is (E.Bad bad) before after e = whole_same system bound plan log is (E.Bad bad) before after e
 tells system bound plan log is E.WriteFault before after e = cut_rose before e.pieces e.piece after e.cuts

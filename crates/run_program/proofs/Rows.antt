@@ -15,7 +15,7 @@ use Rattle.run_program.proofs.Exactly.{of_line, answers, memory_or, suits, file_
 use Rattle.run_program.proofs.Deciding.{decides}
 use Rattle.run_program.proofs.Runs.{course, err_higher, out_higher, peer_case, uncalled_or_run}
 use Rattle.run_program.proofs.Tracing.{check_exact, trace_exact}
-use Rattle.run_program.proofs.Statuses.{Status, Done, WrongWords, NoFile, BrokenRule, NoPeer, Refusal, WrongReply, ManyInstants, FixedSize, Unwritten, NoMemory, number, of_outcome, numbered}
+use Rattle.run_program.proofs.Statuses.{Status, Done, WrongWords, NoFile, BrokenRule, NoPeer, Refusal, WrongReply, ManyInstants, FixedSize, OutOfRange, Unwritten, NoMemory, number, of_outcome, numbered}
 use Rattle.run_program.proofs.When.{HasFacts, HasPut, when_is, when_unwritten}
 
 words_exact : (o : Outcome) (h : Happened) → HasFacts o h → HasPut o h → IsNoLine h → AnswersOr11 h 2 (codes "words\n")
@@ -37,16 +37,17 @@ reading_none o h (WithoutLine w) none = ap (λ (s : Stage). s.folder) w.same
 
 known : (s : Status) → IsStatus (number s)
 known Done = inl refl
-known WrongWords = inr (omega arith, omega arith)
-known NoFile = inr (omega arith, omega arith)
-known BrokenRule = inr (omega arith, omega arith)
-known NoPeer = inr (omega arith, omega arith)
-known Refusal = inr (omega arith, omega arith)
-known WrongReply = inr (omega arith, omega arith)
-known ManyInstants = inr (omega arith, omega arith)
-known FixedSize = inr (omega arith, omega arith)
-known Unwritten = inr (omega arith, omega arith)
-known NoMemory = inr (omega arith, omega arith)
+known WrongWords = inr (inl (omega arith, omega arith))
+known NoFile = inr (inl (omega arith, omega arith))
+known BrokenRule = inr (inl (omega arith, omega arith))
+known NoPeer = inr (inl (omega arith, omega arith))
+known Refusal = inr (inl (omega arith, omega arith))
+known WrongReply = inr (inl (omega arith, omega arith))
+known ManyInstants = inr (inl (omega arith, omega arith))
+known FixedSize = inr (inl (omega arith, omega arith))
+known Unwritten = inr (inl (omega arith, omega arith))
+known NoMemory = inr (inl (omega arith, omega arith))
+known OutOfRange = inr (inr refl)
 
 any_status : (m : Option (List ℕ)) (w : ℕ) (h : Happened) → IsStatus w → Reports m w h.status h.err h.err_after → StatusRow h
 any_status None w h k p = record { known = subst IsStatus (sym p.0) k; line = inl p.1 }
@@ -90,6 +91,7 @@ keeps_rows behave o h f p = record {
   };
   limit = record { when = λ e. when_is ManyInstants o h f p (λ ten. omega arith) e };
   fixed = record { when = λ e. when_is FixedSize o h f p (λ ten. omega arith) e };
+  range = record { when = λ e. when_is OutOfRange o h f p (λ ten. omega arith) e };
   write = record { when = λ e. when_unwritten o h f p e; higher = λ more. higher o h f p more };
   memory = record { when = λ e. when_is NoMemory o h f p (λ ten. omega arith) e };
   status = any_status (message o) (status_of o) h (subst IsStatus (sym (numbered o)) (known (of_outcome o))) p;

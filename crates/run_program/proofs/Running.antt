@@ -1,10 +1,11 @@
 -- From peers that were started to what holds of their run.
 use Rattle.std.proofs.Common.{◌≡◌, ℕ, ℤ, zero, suc, ◌-◌, ◌<◌, ◌==◌, Bool, true, false, not, List, [], ◌∷◌, ◌++◌, Option, Some, None, refl, sym, ap, ◌∙◌, subst, arith, length}
-use Rattle.std.specs.Prelude.{All, ◌&&◌, if◌then◌else◌, map, position, slice_get}
+use Rattle.std.specs.Option.{option_map}
+use Rattle.std.specs.Prelude.{All, IsSomeAnd, ◌&&◌, if◌then◌else◌, map, position, slice_get}
 use Rattle.std.proofs.lemmas.List.{length-map}
 use Rattle.std.proofs.lemmas.List.Elements.{All-head, All-tail}
 use Rattle.std.proofs.lemmas.List.Quantifiers.{position-Some}
-use Rattle.std.proofs.lemmas.Option.{none-some as none_some, same_Some, slice_get_within}
+use Rattle.std.proofs.lemmas.Option.{none-some as none_some, same_Some, slice_get-map, slice_get_within}
 use Rattle.sim_base.specs.Sink.{SinkView}
 use Rattle.sim_base.specs.declared.numbers.CompId.{CompId}
 use Rattle.fmi_calls.specs.Next.{fresh}
@@ -16,6 +17,7 @@ use Rattle.system_model.specs.declared.plan.Plan.{Plan}
 use Rattle.system_model.specs.EarlyReturn.{early_count}
 use Rattle.system_model.specs.Text.{Instant}
 use Rattle.system_model.specs.declared.system.Component.{Component}
+use Rattle.system_model.specs.declared.system.Port.{Port}
 use Rattle.system_model.specs.declared.system.System.{System}
 use Rattle.run_model.specs.Machines.{AreMachines}
 use Rattle.run_model.specs.Run.{Run}
@@ -44,7 +46,11 @@ use Rattle.system_model.specs.Plans.{IsPlan}
 use Rattle.step_master.specs.System.{ArePeersOf, TellTheirs}
 use Rattle.run_program.specs.Peers.{AreStarted}
 use Rattle.run_program.specs.Happened.{Scene}
-use Rattle.run_program.specs.Runs.{CanRun, Fails, Goes, HasOneTrace, NamesOne, RunsPeers, Task, TracesOnce}
+use Rattle.run_program.specs.Runs.{CanRun, Fails, Goes, HasOneTrace, NamesOne, NamesPort, RunsPeers, Task, TracesOnce, names_of, port_name}
+use Rattle.run_program.specs.declared.naming.PortName.{PortName}
+use Rattle.event_iteration.specs.declared.lost.LostValue.{LostValue}
+use Rattle.calling_sequence.specs.Ends.{LostAtFirst, LostThere}
+use Rattle.system_model.proofs.CallerLemmas.{place_of}
 use Rattle.run_program.proofs.PeerLemmas.{started_at}
 
 -- ---- before the run
@@ -115,18 +121,40 @@ lives_count : (system : System) (olds news : List View) (log : List Sent) (lives
 lives_count system olds news log lives are =
     sym (length-map lives (λ (l : Life). l.source)) ∙ ap (λ (xs : List ℕ). length xs) are.sources_are ∙ length-map system.components (λ (c : Component). c.source.0)
 
-ends_named : (system : System) (bound : Bound) (plan : Plan) (olds news : List View) (log run : List Sent) (lives : List Life) (is : _) (end : RunEnd) (before after : _) → AreLives system olds news log lives → EndsLives end lives →
-    EndsBy system bound plan run is end before after → NamesOne (length system.components) end
-ends_named system bound plan olds news log run lives is E.Stop before after are ends by = tt
-ends_named system bound plan olds news log run lives is (E.Asked point) before after are ends by = tt
-ends_named system bound plan olds news log run lives is (E.EventLimit point) before after are ends by = tt
-ends_named system bound plan olds news log run lives is (E.FixedStep component at end) before after are ends by = finished_within system bound plan by.0 component at end run is by.1
-ends_named system bound plan olds news log run lives is (E.Bad bad) before after are ends by =
-    subst (λ (n : ℕ). bad.component.0 < n) (lives_count system olds news log lives are) (slice_get_within lives bad.component.0 ends.life ends.here)
-ends_named system bound plan olds news log run lives is E.WriteFault before after are ends by = tt
+-- the names of a system's components are as many
+names_count : (system : System) → length (names_of system).components ≡ length system.components
+names_count system = length-map system.components (λ (c : Component). c.name)
 
-pub lived_names : (a : Account) → Lived a → NamesOne (length a.system.components) a.end
-lived_names a l = ends_named a.system a.bound a.plan a.olds a.news (l.made ++ l.log) l.log l.lives l.is a.end a.before a.after l.are l.ends l.text
+-- a port that loses its value has a name, and so has its component
+range_at : (system : System) (plan : Plan) → IsSound system → (lost : LostValue) (at : ℕ) (p : Place) → EndsAt system plan (E.Range lost at) p → (target : Port) × (slice_get system.ports lost.port.0 ≡ Some target)
+range_at system plan sound _ _ _ (LostAtFirst values lost first) = (first.target, first.at)
+range_at system plan sound _ _ _ (LostThere s lost first) = (first.target, first.at)
+
+range_finished : (system : System) (bound : Bound) (plan : Plan) (point : ℕ) → IsSound system → (lost : LostValue) (at : ℕ) (log : List Sent) (is : List Instant) → Finishes system bound plan (E.Range lost at) point log is →
+    (target : Port) × (slice_get system.ports lost.port.0 ≡ Some target)
+range_finished system bound plan _ sound lost at _ _ (Well p _ log is course ends) = range_at system plan sound lost at p ends
+
+range_named : (system : System) → IsSound system → (q : ℕ) (target : Port) → slice_get system.ports q ≡ Some target → NamesPort (names_of system) q
+range_named system sound q target is =
+    subst (λ (o : Option PortName). IsSomeAnd o (λ (port : PortName). port.component.0 < length (names_of system).components)) (sym (slice_get-map port_name system.ports q ∙ ap (option_map port_name) is))
+    (subst (λ (n : ℕ). target.component.0 < n) (sym (names_count system)) (slice_get_within system.components target.component.0 _ (place_of system sound q target is).is.of))
+
+ends_named : (system : System) (bound : Bound) (plan : Plan) (olds news : List View) (log run : List Sent) (lives : List Life) (is : _) (end : RunEnd) (before after : _) → IsSound system → AreLives system olds news log lives → EndsLives end lives →
+    EndsBy system bound plan run is end before after → NamesOne (names_of system) end
+ends_named system bound plan olds news log run lives is E.Stop before after sound are ends by = tt
+ends_named system bound plan olds news log run lives is (E.Asked point) before after sound are ends by = tt
+ends_named system bound plan olds news log run lives is (E.EventLimit point) before after sound are ends by = tt
+ends_named system bound plan olds news log run lives is (E.FixedStep component at end) before after sound are ends by =
+    subst (λ (n : ℕ). component.0 < n) (sym (names_count system)) (finished_within system bound plan by.0 component at end run is by.1)
+ends_named system bound plan olds news log run lives is (E.Range lost at) before after sound are ends by =
+    let there = range_finished system bound plan by.0 sound lost at run is by.1 in
+    range_named system sound lost.port.0 there.0 there.1
+ends_named system bound plan olds news log run lives is (E.Bad bad) before after sound are ends by =
+    subst (λ (n : ℕ). bad.component.0 < n) (lives_count system olds news log lives are ∙ sym (names_count system)) (slice_get_within lives bad.component.0 ends.life ends.here)
+ends_named system bound plan olds news log run lives is E.WriteFault before after sound are ends by = tt
+
+pub lived_names : (a : Account) → IsSound a.system → Lived a → NamesOne (names_of a.system) a.end
+lived_names a sound l = ends_named a.system a.bound a.plan a.olds a.news (l.made ++ l.log) l.log l.lives l.is a.end a.before a.after sound l.are l.ends l.text
 
 pub unmade_names : (system : System) (link : ℕ) (olds news : List View) (bad : BadAnswer) → Unmade system link olds bad news → bad.component.0 < length system.components
 unmade_names system link olds news bad u =
@@ -188,6 +216,7 @@ once a r E.Stop one t = (one, t)
 once a r (E.Asked point) one t = (one, t)
 once a r (E.EventLimit point) one t = (one, t)
 once a r (E.FixedStep component at end) one t = (one, t)
+once a r (E.Range lost at) one t = (one, t)
 once a r (E.Bad bad) one t = t
 once a r E.WriteFault one t = (one, t)
 

@@ -14,7 +14,7 @@ use Rattle.run_program.specs.Facts.{CheckFacts, FailsToTell, LineFacts, LoadsLin
 use Rattle.run_program.specs.Happened.{Happened}
 use Rattle.run_program.specs.Rows.{Idle, IsIdle, IsOfRun, IsUncalled, OnCheck, PeerRow}
 use Rattle.run_program.specs.Rows as R
-use Rattle.run_program.specs.Runs.{HasRun, IsEndOf, names_of}
+use Rattle.run_program.specs.Runs.{HasRun, IsEndOf, Names, names_of}
 use Rattle.run_program.proofs.Outs.{TellsOut, tells_out}
 use Rattle.run_program.proofs.When.{HasFacts, HasPut, by_run, for_run, line_idle, same_idle, same_uncalled, taken_idle, unstarted_idle}
 
@@ -89,12 +89,13 @@ peer_case h o p (OfCheck (Fails e line is on)) = R.Checked line is (inr on)
 not_higher : {A : Type 0} (a b : ℕ) → b ≡ a → a < b → A
 not_higher a b e higher = absurd (omega arith)
 
-end_higher : (names : List (List ℕ)) (end : RunEnd) (e : End) (h : Happened) → IsEndOf names end e → TellsOut end h.old.run.out.faults h.new.run.out.faults →
+end_higher : (names : Names) (end : RunEnd) (e : End) (h : Happened) → IsEndOf names end e → TellsOut end h.old.run.out.faults h.new.run.out.faults →
     Reports (end_message e) (end_status e) h.status h.err h.err_after → h.old.run.out.faults < h.new.run.out.faults → h.status ≡ 10
 end_higher names E.Stop e h named outs p higher = not_higher h.old.run.out.faults h.new.run.out.faults outs higher
 end_higher names (E.Asked point) e h named outs p higher = not_higher h.old.run.out.faults h.new.run.out.faults outs higher
 end_higher names (E.EventLimit point) e h named outs p higher = not_higher h.old.run.out.faults h.new.run.out.faults outs higher
 end_higher names (E.FixedStep component at end) e h named outs p higher = not_higher h.old.run.out.faults h.new.run.out.faults outs higher
+end_higher names (E.Range lost at) e h named outs p higher = not_higher h.old.run.out.faults h.new.run.out.faults outs higher
 end_higher names (E.Bad bad) e h named outs p higher = not_higher h.old.run.out.faults h.new.run.out.faults outs higher
 end_higher names E.WriteFault e h named outs p higher = put (subst (λ (x : End). Reports (end_message x) (end_status x) h.status h.err h.err_after) named p)
   where

@@ -8,7 +8,7 @@ use Rattle.run_program.specs.declared.outcome.Outcome.TheVariants.{Words, Memory
 use Rattle.system_files.specs.declared.named.FileFault.{FileFault}
 use Rattle.system_files.specs.declared.named.FileFault.TheVariants.{Unread, Missing, TooBig, Broken}
 use Rattle.run_program.specs.declared.outcome.End.{End}
-use Rattle.run_program.specs.declared.outcome.End.TheVariants.{Stop, Asked, EventLimit, FixedStep, Bad, WriteFault}
+use Rattle.run_program.specs.declared.outcome.End.TheVariants.{Stop, Asked, EventLimit, FixedStep, Range, Bad, WriteFault}
 use Rattle.run_program.specs.Message.{status_of}
 
 pub data Status : Type 0 where
@@ -23,6 +23,7 @@ pub data Status : Type 0 where
   FixedSize : Status
   Unwritten : Status
   NoMemory : Status
+  OutOfRange : Status
 
 abbrev pub number : Status → ℕ
 number Done = 0
@@ -36,13 +37,15 @@ number ManyInstants = 8
 number FixedSize = 9
 number Unwritten = 10
 number NoMemory = 11
+number OutOfRange = 13
 
 -- the status with a number
 abbrev with_number : ℕ → Option Status
 with_number n =
     if n == 0 then Some Done else if n == 2 then Some WrongWords else if n == 3 then Some NoFile else if n == 4 then Some BrokenRule
     else if n == 5 then Some NoPeer else if n == 6 then Some Refusal else if n == 7 then Some WrongReply else if n == 8 then Some ManyInstants
-    else if n == 9 then Some FixedSize else if n == 10 then Some Unwritten else Some NoMemory
+    else if n == 9 then Some FixedSize else if n == 10 then Some Unwritten
+    else if n == 13 then Some OutOfRange else Some NoMemory
 
 with_number-number : (s : Status) → with_number (number s) ≡ Some s
 with_number-number Done = refl
@@ -56,6 +59,7 @@ with_number-number ManyInstants = refl
 with_number-number FixedSize = refl
 with_number-number Unwritten = refl
 with_number-number NoMemory = refl
+with_number-number OutOfRange = refl
 
 some_same : (a b : Status) → Some a ≡ Some b → a ≡ b
 some_same a b e = cc
@@ -80,6 +84,7 @@ of_end Stop = Done
 of_end Asked = Done
 of_end (EventLimit point) = ManyInstants
 of_end (FixedStep component at end) = FixedSize
+of_end (Range component variable x) = OutOfRange
 of_end (Bad component why) = of_why why
 of_end WriteFault = Unwritten
 
@@ -105,6 +110,7 @@ numbered (Ran Stop) = refl
 numbered (Ran Asked) = refl
 numbered (Ran (EventLimit point)) = refl
 numbered (Ran (FixedStep component at end)) = refl
+numbered (Ran (Range component variable x)) = refl
 numbered (Ran (Bad component (Refused call status))) = refl
 numbered (Ran (Bad component (Misreply call reply))) = refl
 numbered (Ran (Bad component (Link call fault))) = refl

@@ -29,11 +29,12 @@ use Rattle.run_program.specs.Facts.{Calm, CheckFacts, Facts, LineFacts, LoadFact
 use Rattle.run_program.specs.Happened.{Happened, Scene, Stage}
 use Rattle.run_program.specs.Peers.{AreStarted, with_all_started}
 use Rattle.run_program.specs.Rows.{AreStartedFor, Ended, ForRun, IsOfRun, IsUncalled, IsUnfailed, Nobody, Told, Says, IsIdle, IsSilent, IsMute, memory_line, OnLine, IsNoLine, HasEnded, LacksFile, IsUnread, IsMissing, IsTooBig, BreaksRule, BreaksOffBy, LosesPeer, NotStarted, NotKnown, NotAnswering, IsRefusedWhy, IsMisreplyWhy, RunsTo}
+use Rattle.event_iteration.specs.declared.lost.LostValue.{LostValue}
 use Rattle.run_program.specs.Runs.{FailsToStart, IsEndOf, NotesUnstarted, TakesBack, Task, names_of}
 use Rattle.system_files.proofs.AskLemmas.{none_here}
 use Rattle.run_program.proofs.Outs.{tells_out}
 use Rattle.run_program.proofs.PeerLemmas.{unasked}
-use Rattle.run_program.proofs.Statuses.{Status, Done, WrongWords, NoFile, BrokenRule, NoPeer, Refusal, WrongReply, ManyInstants, FixedSize, Unwritten, NoMemory, number, of_file, of_end, of_outcome, numbered, same_number}
+use Rattle.run_program.proofs.Statuses.{Status, Done, WrongWords, NoFile, BrokenRule, NoPeer, Refusal, WrongReply, ManyInstants, FixedSize, OutOfRange, Unwritten, NoMemory, number, of_file, of_end, of_outcome, numbered, same_number}
 use Rattle.fmu_peer.specs.Answer.{IsLink}
 
 abbrev pub HasFacts : Outcome → Happened → Type 0
@@ -70,6 +71,7 @@ WhenIs Refusal h = OnLine h (λ line. BreaksOffBy h line IsRefusedWhy)
 WhenIs WrongReply h = OnLine h (λ line. BreaksOffBy h line IsMisreplyWhy)
 WhenIs ManyInstants h = OnLine h (λ line. (point : ℕ) × RunsTo h line (E.EventLimit point))
 WhenIs FixedSize h = OnLine h (λ line. (component : CompId) × (at : ℕ) × (end : ℕ) × RunsTo h line (E.FixedStep component at end))
+WhenIs OutOfRange h = OnLine h (λ line. (lost : LostValue) × (at : ℕ) × RunsTo h line (E.Range lost at))
 WhenIs Unwritten h = Says h (codes "write\n") × Rose h.old.run.out.faults h.new.run.out.faults
 WhenIs NoMemory h = IsIdle h × (h.new.run.spawner.faults ≡ h.old.run.spawner.faults) × IsUnfailed h × Says h memory_line
 
@@ -186,6 +188,7 @@ run_when E.Stop e line h is to named says = subst (λ (x : End). WhenIs (of_end 
 run_when (E.Asked point) e line h is to named says = subst (λ (x : End). WhenIs (of_end x) h) (sym named) (line, is, Ended (E.Asked point) tt to)
 run_when (E.EventLimit point) e line h is to named says = subst (λ (x : End). WhenIs (of_end x) h) (sym named) (line, is, (point, to))
 run_when (E.FixedStep component at end) e line h is to named says = subst (λ (x : End). WhenIs (of_end x) h) (sym named.2) (line, is, (component, at, end, to))
+run_when (E.Range lost at) e line h is to named says = subst (λ (x : End). WhenIs (of_end x) h) (sym named.2.2) (line, is, (lost, at, to))
 run_when (E.Bad bad) e line h is to named says = subst (λ (x : End). WhenIs (of_end x) h) (sym named.2) (bad_when bad.why line h is bad refl to)
 run_when E.WriteFault e line h is to named says =
     subst (λ (x : End). WhenIs (of_end x) h) (sym named) (

@@ -70,6 +70,7 @@ is_well O.Stop = true
 is_well O.Asked = true
 is_well (O.EventLimit point) = false
 is_well (O.FixedStep component at end) = false
+is_well (O.Range component variable x) = false
 is_well (O.Bad component why) = false
 is_well O.WriteFault = false
 

@@ -1,5 +1,6 @@
 -- The line on the error sink, and the status.
-use Rattle.std.specs.Prelude.{◌≡◌, ◌⊎◌, ℕ, ◌+◌, ◌*◌, List, [], ◌∷◌, ◌++◌, length, take, count_by, Option, Some, None, is_some, codes, decimal}
+use Rattle.std.specs.Prelude.{◌≡◌, ◌⊎◌, ℕ, ℤ, ◌+◌, ◌*◌, List, [], ◌∷◌, ◌++◌, length, take, count_by, Option, Some, None, is_some, codes, decimal}
+use Rattle.std.specs.Fmt.{signed_decimal}
 use Rattle.hex.specs.Hex.{encode_lower}
 use Rattle.sim_base.specs.Escape.{escaped}
 use Rattle.sim_base.specs.Sink.{SinkView, with_piece, with_fault}
@@ -26,7 +27,7 @@ use Rattle.run_program.specs.declared.outcome.Outcome.TheVariants.{Words, Memory
 use Rattle.run_program.specs.declared.outcome.StartCause.{StartCause}
 use Rattle.run_program.specs.declared.outcome.StartCause.TheVariants.{Failed, Unknown}
 use Rattle.run_program.specs.declared.outcome.End.{End}
-use Rattle.run_program.specs.declared.outcome.End.TheVariants.{Stop, Asked, EventLimit, FixedStep, Bad, WriteFault}
+use Rattle.run_program.specs.declared.outcome.End.TheVariants.{Stop, Asked, EventLimit, FixedStep, Range, Bad, WriteFault}
 
 -- a call's name
 abbrev pub call_name : Call → List ℕ
@@ -80,6 +81,12 @@ fixed_message component at end =
     codes "fixed " ++ escaped component ++ codes " " ++ decimal at ++ codes " " ++
     decimal end ++ codes "\n"
 
+-- of a variable of a component on the way to which this value is lost
+unfoldable pub range_message : List ℕ → List ℕ → ℤ → List ℕ
+range_message component variable x =
+    codes "range " ++ escaped component ++ codes " " ++ escaped variable ++ codes " " ++
+    signed_decimal x ++ codes "\n"
+
 -- of a component's answer that isn't good
 unfoldable pub bad_message : List ℕ → Why → List ℕ
 bad_message component (Refused call status) =
@@ -97,6 +104,7 @@ end_message Stop = None
 end_message Asked = None
 end_message (EventLimit point) = Some (limit_message point)
 end_message (FixedStep component at end) = Some (fixed_message component at end)
+end_message (Range component variable x) = Some (range_message component variable x)
 end_message (Bad component why) = Some (bad_message component why)
 end_message WriteFault = Some (codes "write\n")
 
@@ -152,6 +160,7 @@ end_room Stop = 0
 end_room Asked = 0
 end_room (EventLimit point) = 0
 end_room (FixedStep component at end) = room_for (length component)
+end_room (Range component variable x) = room_for (length component + length variable)
 end_room (Bad component why) = room_for (length component)
 end_room WriteFault = 0
 
@@ -183,6 +192,7 @@ end_status Stop = 0
 end_status Asked = 0
 end_status (EventLimit point) = 8
 end_status (FixedStep component at end) = 9
+end_status (Range component variable x) = 13
 end_status (Bad component why) = why_status why
 end_status WriteFault = 10
 

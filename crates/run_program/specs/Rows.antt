@@ -43,7 +43,8 @@ use Rattle.run_program.specs.Facts.{Calm, FailsToTell, LoadsLine, TellsSize, sea
 use Rattle.run_program.specs.Happened.{Happened, Scene}
 use Rattle.run_program.specs.Peers.{AreKnown, AreStarted, IsFirstUnknown}
 use Rattle.run_program.specs.Message.{CutsShort, Reports, bad_message, end_message, end_status, file_message, start_message, why_status}
-use Rattle.run_program.specs.Runs.{FailsToStart, HasRun, IsEndOf, IsUnasked, Task, Traces, names_of}
+use Rattle.event_iteration.specs.declared.lost.LostValue.{LostValue}
+use Rattle.run_program.specs.Runs.{FailsToStart, HasRun, IsEndOf, IsUnasked, Names, Task, Traces, names_of}
 
 -- ---- what err holds
 
@@ -128,11 +129,12 @@ IsFinished E.Stop = Unit {0}
 IsFinished (E.Asked point) = Unit {0}
 IsFinished (E.EventLimit point) = ⊥
 IsFinished (E.FixedStep component at end) = ⊥
+IsFinished (E.Range lost at) = ⊥
 IsFinished (E.Bad bad) = ⊥
 IsFinished E.WriteFault = ⊥
 
 -- the status and the line of a run's end, which names one of these components: 0 and no line at the stop and where a component asked for it, else the end's own, unless the line couldn't be put
-abbrev pub ReportsEnd : Happened → List (List ℕ) → RunEnd → Type 0
+abbrev pub ReportsEnd : Happened → Names → RunEnd → Type 0
 ReportsEnd h names end =
     (told : End) × IsEndOf names end told ×
     Reports (end_message told) (end_status told) h.status h.err h.err_after
@@ -296,6 +298,11 @@ pub record FixedRow (h : Happened) : Type 0 where
   pub when : h.status ≡ 9 → OnLine h (λ line. (component : CompId) × (at : ℕ) × (end : ℕ) ×
       RunsTo h line (E.FixedStep component at end))
 
+-- 13: the run ended where a value of a source is lost on its way to an input, the least of those
+pub record RangeRow (h : Happened) : Type 0 where
+  pub when : h.status ≡ 13 → OnLine h (λ line. (lost : LostValue) × (at : ℕ) ×
+      RunsTo h line (E.Range lost at))
+
 -- 10: only where a sink's count rose, and always where one is higher than before
 pub record WriteRow (h : Happened) : Type 0 where
   pub when : h.status ≡ 10 → (Says h (codes "write\n") ×
@@ -330,7 +337,7 @@ pub record MemoryRow (h : Happened) : Type 0 where
 
 -- the statuses that can come
 abbrev pub IsStatus : ℕ → Type 0
-IsStatus n = (n ≡ 0) ⊎ ((2 ≤ n) × (n ≤ 11))
+IsStatus n = (n ≡ 0) ⊎ (((2 ≤ n) × (n ≤ 11)) ⊎ (n ≡ 13))
 
 -- no other status comes, and err holds what it held or one line more, or a front of one
 pub record StatusRow (h : Happened) : Type 0 where
@@ -409,6 +416,7 @@ pub record KeepsSystemRows (h : Happened) : Type 0 where
   pub misreply : MisreplyRow h
   pub limit : LimitRow h
   pub fixed : FixedRow h
+  pub range : RangeRow h
   pub write : WriteRow h
   pub memory : MemoryRow h
   pub status : StatusRow h

@@ -1,5 +1,5 @@
 -- A run of a system from the start of its peers until they are taken back (FMI 3.0, 4.2.1).
-use Rattle.std.specs.Prelude.{◌≡◌, ℕ, ◌<◌, false, List, [], map, length, take, All, Some, IfSome}
+use Rattle.std.specs.Prelude.{◌≡◌, ℕ, ◌<◌, false, List, [], map, length, take, All, Some, IfSome, IsSomeAnd}
 use Rattle.std.specs.List.{slice_get}
 use Rattle.fmi_calls.specs.Next.{fresh}
 use Rattle.fmu_peer.specs.Start.{SpawnerView, with_failure}
@@ -8,6 +8,7 @@ use Rattle.system_model.specs.declared.bound.Bound.{Bound}
 use Rattle.system_model.specs.declared.plan.EndKind.{EndKind}
 use Rattle.system_model.specs.declared.plan.Plan.{Plan}
 use Rattle.system_model.specs.declared.system.Component.{Component}
+use Rattle.system_model.specs.declared.system.Port.{Port}
 use Rattle.system_model.specs.declared.system.System.{System}
 use Rattle.system_model.specs.Sound.{IsSound}
 use Rattle.system_model.specs.Text.{Instant}
@@ -24,6 +25,8 @@ use Rattle.machine_courses.specs.Outcomes.{PutsRun}
 use Rattle.step_master.specs.Traced.{IsRunOf, TracesWell, output_of}
 use Rattle.run_program.specs.declared.outcome.StartCause.{StartCause}
 use Rattle.run_program.specs.declared.outcome.StartCause.TheVariants.{Failed, Unknown}
+use Rattle.run_program.specs.declared.naming.Naming.{Naming}
+use Rattle.run_program.specs.declared.naming.PortName.{PortName}
 use Rattle.run_program.specs.declared.outcome.End.{End}
 use Rattle.run_program.specs.declared.outcome.End.TheVariants as O
 use Rattle.run_program.specs.Happened.{Scene}
@@ -46,8 +49,22 @@ pub record CanRun (system : System) : Type 0 where
 abbrev pub HasFolders : List (List ℕ) → System → Type 0
 HasFolders folders system = length folders ≡ length system.components
 
-abbrev pub names_of : System → List (List ℕ)
-names_of system = map (λ (c : Component). c.name) system.components
+-- the names of components, and of ports with the places of their components
+pub record Names : Type 0 where
+  pub components : List (List ℕ)
+  pub ports : List PortName
+
+abbrev pub port_name : Port → PortName
+port_name port = record { component = port.component; name = port.name }
+
+abbrev pub names_of : System → Names
+names_of system = record {
+  components = map (λ (c : Component). c.name) system.components;
+  ports = map port_name system.ports;
+}
+
+abbrev pub named_in : Naming → Names
+named_in naming = record { components = naming.names.items; ports = naming.ports.items }
 
 -- ---- peers that weren't asked
 
@@ -144,22 +161,34 @@ pub data HasRun (task : Task) (system : System) (end : RunEnd) (old new : Scene)
 
 -- ---- its end
 
--- a component of these is named by the end, if any is
-abbrev pub NamesOne : ℕ → RunEnd → Type 0
-NamesOne count E.Stop = Unit {0}
-NamesOne count (E.Asked point) = Unit {0}
-NamesOne count (E.EventLimit point) = Unit {0}
-NamesOne count (E.FixedStep component at end) = component.0 < count
-NamesOne count (E.Bad bad) = bad.component.0 < count
-NamesOne count E.WriteFault = Unit {0}
+-- the port has a name, and so has its component
+abbrev pub NamesPort : Names → ℕ → Type 0
+NamesPort names p =
+    IsSomeAnd (slice_get names.ports p) (λ (port : PortName).
+    port.component.0 < length names.components)
 
--- the end of a run, with its component's name among these
-abbrev pub IsEndOf : List (List ℕ) → RunEnd → End → Type 0
+-- a component or a port of these is named by the end, if any is
+abbrev pub NamesOne : Names → RunEnd → Type 0
+NamesOne names E.Stop = Unit {0}
+NamesOne names (E.Asked point) = Unit {0}
+NamesOne names (E.EventLimit point) = Unit {0}
+NamesOne names (E.FixedStep component at end) = component.0 < length names.components
+NamesOne names (E.Range lost at) = NamesPort names lost.port.0
+NamesOne names (E.Bad bad) = bad.component.0 < length names.components
+NamesOne names E.WriteFault = Unit {0}
+
+-- the end of a run, with its component's name and its variable's among these
+abbrev pub IsEndOf : Names → RunEnd → End → Type 0
 IsEndOf names E.Stop e = e ≡ O.Stop
 IsEndOf names (E.Asked point) e = e ≡ O.Asked
 IsEndOf names (E.EventLimit point) e = e ≡ O.EventLimit point
 IsEndOf names (E.FixedStep component at end) e =
-    (name : List ℕ) × (slice_get names component.0 ≡ Some name) × (e ≡ O.FixedStep name at end)
+    (name : List ℕ) × (slice_get names.components component.0 ≡ Some name) ×
+    (e ≡ O.FixedStep name at end)
+IsEndOf names (E.Range lost at) e =
+    (port : PortName) × (slice_get names.ports lost.port.0 ≡ Some port) × ((name : List ℕ) ×
+    (slice_get names.components port.component.0 ≡ Some name) ×
+    (e ≡ O.Range name port.name lost.value))
 IsEndOf names (E.Bad bad) e =
-    (name : List ℕ) × (slice_get names bad.component.0 ≡ Some name) × (e ≡ O.Bad name bad.why)
+    (name : List ℕ) × (slice_get names.components bad.component.0 ≡ Some name) × (e ≡ O.Bad name bad.why)
 IsEndOf names E.WriteFault e = e ≡ O.WriteFault

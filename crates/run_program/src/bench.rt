@@ -79,7 +79,11 @@ fn is_well(end: &End) -> bool
 {
     match end {
         End::Stop | End::Asked => true,
-        End::EventLimit { .. } | End::FixedStep { .. } | End::Bad { .. } | End::WriteFault => false,
+        End::EventLimit { .. }
+        | End::FixedStep { .. }
+        | End::Range { .. }
+        | End::Bad { .. }
+        | End::WriteFault => false,
     }
 }
 

@@ -4,7 +4,8 @@ ghost use Rattle.hex.specs.Hex.{encode_lower};
 ghost use Rattle.std.specs.List.{count_by};
 ghost use Rattle.system_model.specs.Ports.{source_of};
 ghost use Rattle.system_files.specs.Rooms.{room_for};
-ghost use Rattle.run_program.specs.Message.{bad_message, file_message, fixed_message, limit_message, loop_room, loop_text, numbers_text, path_room, place_room, place_text, size_text, start_message, summary_text};
+ghost use Rattle.std.specs.Fmt.{signed_decimal};
+ghost use Rattle.run_program.specs.Message.{bad_message, file_message, fixed_message, limit_message, loop_room, loop_text, numbers_text, path_room, place_room, place_text, range_message, size_text, start_message, summary_text};
 ghost use Rattle.link_frames.specs.Reply.{frame_of};
 ghost use Rattle.run_program.specs.TraceCheck.{verdict_text};
 
@@ -82,6 +83,27 @@ pub(crate) fn write_fixed_message(component: &str, point: u64, end: u64, text: &
     let at = append_number(point, text, at);
     let at = append(b" ", text, at);
     let at = append_number(end, text, at);
+    append(b"\n", text, at)
+}
+
+/// Writes the line of a variable on the way to which a value is lost to the front of `text`, and answers its length.
+#[tactic(auto, unfolding(crate::specs::Message::range_message))]
+pub(crate) fn write_range_message(
+    component: &str,
+    variable: &str,
+    value: i128,
+    text: &mut [u8],
+) -> usize
+    requires { room_for (length component.now + length variable.now) ≤ length text.old }
+    ensures length { result ≤ length text.new }
+    ensures text { take result text.new ≡ range_message component.now variable.now value }
+{
+    let at = append(b"range ", text, 0);
+    let at = append_name(component, text, at);
+    let at = append(b" ", text, at);
+    let at = append_name(variable, text, at);
+    let at = append(b" ", text, at);
+    let at = append_value(value, text, at);
     append(b"\n", text, at)
 }
 
@@ -207,6 +229,16 @@ fn append_wide(number: u128, text: &mut [u8], at: usize) -> usize
     append(Buffer::new().format(number).as_bytes(), text, at)
 }
 
+// The same for a value of a port.
+#[tactic(auto, using(crate::proofs::Digits::signed_short))]
+fn append_value(value: i128, text: &mut [u8], at: usize) -> usize
+    requires { at + 40 ≤ length text.old }
+    ensures end { result ≤ at + 40 }
+    ensures text { take result text.new ≡ take at text.old ++ signed_decimal value }
+{
+    append(Buffer::new().format(value).as_bytes(), text, at)
+}
+
 // Puts a place behind what stands in the text up to `at`, and answers where it ends.
 fn append_place(place: &Place, text: &mut [u8], at: usize) -> usize
     requires { at + 25 + path_room place.now ≤ length text.old }
@@ -307,13 +339,13 @@ pub(crate) fn write_verdict(verdict: Verdict, text: &mut [u8]) -> usize
 fn count_feeds(ports: &[Port]) -> usize
     ensures { result ≡ count_by (λ (port : Port). is_some (source_of port.role)) ports.now }
 {
-    ports.iter().filter(|port| is_fed(port.role)).count()
+    ports.iter().filter(|port| is_fed(*port)).count()
 }
 
-fn is_fed(role: Role) -> bool
-    ensures { result ≡ is_some (source_of role) }
+fn is_fed(port: &Port) -> bool
+    ensures { result ≡ is_some (source_of port.now.role) }
 {
-    match role {
+    match &port.role {
         Role::Input { feed } | Role::ClockInput { feed } => feed.is_some(),
         Role::Output | Role::ClockOutput | Role::TimeClock { .. } => false,
     }

@@ -45,11 +45,26 @@ pub(crate) enum End {
     /// where a component asked for the end
     Asked,
     /// at a point whose instants reach the most that the plan allows
-    EventLimit { point: u64 },
+    EventLimit {
+        point: u64,
+    },
     /// before the step from a point to an end, whose size isn't the plan's, where this component takes no other
-    FixedStep { component: Text, at: u64, end: u64 },
+    FixedStep {
+        component: Text,
+        at: u64,
+        end: u64,
+    },
+    /// where a value of a source is lost on its way to this variable of a component, the least of those
+    Range {
+        component: Text,
+        variable: Text,
+        value: i128,
+    },
     /// by the first answer that isn't good, of this component
-    Bad { component: Text, why: Why },
+    Bad {
+        component: Text,
+        why: Why,
+    },
     /// by a put that failed
     WriteFault,
 }

@@ -5,7 +5,7 @@ ghost use Rattle.run_program.specs.declared.outcome.Outcome.TheVariants.{Checked
 
 use crate::message::{
     write_bad_message, write_file_message, write_fixed_message, write_limit_message,
-    write_start_message,
+    write_range_message, write_start_message,
 };
 use crate::outcome::{End, Outcome, StartCause};
 use fmu_peer::Why;
@@ -125,6 +125,14 @@ fn put_end_line<E: Sink>(end: &End, text: &mut [u8], err: &mut E) -> u8
         End::FixedStep { component, at, end } => {
             let length = write_fixed_message(component.as_str(), *at, *end, text);
             put_line(&text[..length], 9, err)
+        }
+        End::Range {
+            component,
+            variable,
+            value,
+        } => {
+            let length = write_range_message(component.as_str(), variable.as_str(), *value, text);
+            put_line(&text[..length], 13, err)
         }
         End::Bad { component, why } => {
             let length = write_bad_message(component.as_str(), why, text);

@@ -13,7 +13,7 @@ ghost use Rattle.run_program.specs.Requests.{IsRequestOf, KeepsCounts};
 ghost use Rattle.run_program.specs.Happened.{happened, scene, stage};
 ghost use Rattle.run_program.specs.Peers.{AreKnown, AreMade, AreStarted, StartsUpTo, with_all_started};
 ghost use Rattle.run_program.specs.TraceCheck.{KeepsRows};
-ghost use Rattle.run_program.specs.Runs.{CanRun, HasFolders, Task, names_of};
+ghost use Rattle.run_program.specs.Runs.{CanRun, HasFolders, Task, named_in, names_of};
 
 use crate::bench::run_bench;
 use crate::message::write_size;
@@ -156,7 +156,7 @@ pub(crate) fn run_system<R: Threads + Sync, S: Spawner, O: Sink>(
     } = loaded;
     let folders = folders.as_slice();
     let components = system.components.as_slice();
-    let Ok(naming) = Naming::new(alloc, components) else {
+    let Ok(naming) = Naming::new(alloc, &system) else {
         return Ran {
             report: Report::memory(alloc),
             numbers: NO_NUMBERS,
@@ -189,7 +189,7 @@ fn give_up<S: Spawner>(
     requires one { unstarted.component.0 < length naming.names.items }
     requires fewer { length (S.view spawner.old).retired + length unstarted.peers.items ≤
         (S.view spawner.old).started }
-    ensures { (numbers : Numbers) (task : Task) (system : System) (before : SpawnerView) (out : SinkView) → naming.names.items ≡ names_of system →
+    ensures { (numbers : Numbers) (task : Task) (system : System) (before : SpawnerView) (out : SinkView) → named_in naming ≡ names_of system →
         StartsUpTo task.host task.folders system.components unstarted.component.0 unstarted.fault (map S.Link.view unstarted.peers.items) before (S.view spawner.old) →
         RanFacts result.outcome numbers task system (scene before out) (scene (S.view spawner.new) out) }
 {
@@ -223,7 +223,7 @@ fn run_peers<R: Threads + Sync, S: Spawner, O: Sink>(
     requires runnable { CanRun system }
     requires bound { BindsParameters system bound }
     requires counts { CountsBy system options.plan }
-    requires names { naming.names.items ≡ names_of system }
+    requires names { named_in naming ≡ names_of system }
     requires each { length peers.items ≡ length system.components }
     requires started { AreStarted options.host.now folders.now system.components
         (map S.Link.view peers.items) }

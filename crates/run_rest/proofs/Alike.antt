@@ -16,11 +16,11 @@ use Rattle.system_model.specs.Text.{Instant}
 use Rattle.system_model.specs.Values.{value, is_active}
 use Rattle.run_model.specs.Run.{Run, Situation, Timer, Never, Every, Once}
 use Rattle.run_model.specs.Timers.{TicksAt, IsDue, is_armed_for, answered, rearmed}
-use Rattle.run_model.specs.Equations.{Solves, SolvesAt, IsTickValue, timer_of}
-use Rattle.run_model.specs.AfterInstant.{asked_interval, Following, Ended, AtLimit, Again, Done, any_update, asks_for_end, asks_again, following, next_timer, next_timers, next_timers_from, updated}
+use Rattle.run_model.specs.Equations.{Solves, SolvesAt, IsTickValue, is_bad, timer_of}
+use Rattle.run_model.specs.AfterInstant.{asked_interval, Following, OutOfRange, Ended, AtLimit, Again, Done, any_update, asks_for_end, asks_again, following, next_timer, next_timers, next_timers_from, updated}
 use Rattle.run_model.specs.Steps.{IsBound, IsMark, OnGrid, AtTick, AtEvent, OnStop}
-use Rattle.run_model.specs.Stepping.{Next, Ends, GoesOn, Departs, departing}
-use Rattle.run_model.specs.Trace.{Leads, LeadsBy, Continues, Last, Further}
+use Rattle.run_model.specs.Stepping.{Next, Ends, EndsBefore, GoesOn, Departs, departing}
+use Rattle.run_model.specs.Trace.{Leads, LeadsBy, Continues, Last, Further, Unwritten}
 use Rattle.run_model.specs.Behaved.{Reached, Onward}
 use Rattle.run_rest.specs.Parted.{DepartsFrom, AtStop, WhereAsked, WhereFixed, ByStep, IsStepFrom}
 use Rattle.run_rest.specs.Snapshot.{up_to, time_up_to}
@@ -179,17 +179,19 @@ next_across r s ts es V alike = next_from_across r s ts es V 0 r.system.ports s.
 following_across : (r : Run) (s : Situation) (ts : List Timer) (es : List (Option ℕ)) (V : List (Option ℤ)) → s.t ≤ r.plan.stop → Alike (up_to r.plan.stop) s.timers ts → following r s V ≡ following r (with_timers s ts es) V
 following_across r s ts es V within alike =
     let any : list_any (is_armed_for s.t) (next_timers r s V) ≡ list_any (is_armed_for s.t) (next_timers r (with_timers s ts es) V) = any_across r.plan.stop s.t (next_timers r s V) (next_timers r (with_timers s ts es) V) within (next_across r s ts es V alike) in
-    ap (λ c. if any_update asks_for_end r s V then Ended else (if any_update asks_again r s V || c then (if suc s.n == r.plan.limit then AtLimit else Again) else Done)) any
+    ap (λ c. if list_any (is_bad V) r.system.ports then OutOfRange else (if any_update asks_for_end r s V then Ended else (if any_update asks_again r s V || c then (if suc s.n == r.plan.limit then AtLimit else Again) else Done))) any
 
 -- ---- what follows
 
 -- with such timers and event times
 abbrev pub with_next : Next → List Timer → List (Option ℕ) → Next
 with_next (Ends kind point) ts es = Ends kind point
+with_next (EndsBefore kind point) ts es = EndsBefore kind point
 with_next (GoesOn s) ts es = GoesOn (with_timers s ts es)
 
 abbrev pub timers_in : Next → List Timer
 timers_in (Ends kind point) = []
+timers_in (EndsBefore kind point) = []
 timers_in (GoesOn s) = s.timers
 
 pub record AlikeNext (r : Run) (next : Next) (To : Next → Type 0) : Type 0 where
@@ -223,6 +225,7 @@ step_too r s next ts es alike times d =
     record { timers = there.timers; events = there.events; alike = there.alike; leads = closed there.leads }
 
 leads_by_across : (f : Following) (r : Run) (s : Situation) (ts : List Timer) (es : List (Option ℕ)) (V : List (Option ℤ)) (next : Next) → Alike (up_to r.plan.stop) s.timers ts → LeadsBy f r s V next → AlikeNext r next (LeadsBy f r (with_timers s ts es) V)
+leads_by_across OutOfRange r s ts es V next alike e = here_too _ next e (record { timers = []; events = []; alike = tt; leads = refl })
 leads_by_across Ended r s ts es V next alike e = here_too _ next e (ends_there _ _ refl)
 leads_by_across AtLimit r s ts es V next alike e = here_too _ next e (ends_there _ _ refl)
 leads_by_across Again r s ts es V next alike e = here_too _ next e (record { timers = next_timers r (with_timers s ts es) V; events = (updated r s V).events; alike = next_across r s ts es V alike; leads = refl })
@@ -252,6 +255,9 @@ pub continues_across : {r : Run} {s : Situation} {is : List Instant} {k : EndKin
 continues_across {r} ts es steps reached within alike (Last s V is k p solves leads i) =
     let there = leads_across r s ts es V (Ends k p) within alike leads in
     Last (with_timers s ts es) V is k p (solves_across r s ts es V within alike solves) there.leads i
+continues_across {r} ts es steps reached within alike (Unwritten s V is k p solves leads i) =
+    let there = leads_across r s ts es V (EndsBefore k p) within alike leads in
+    Unwritten (with_timers s ts es) V is k p (solves_across r s ts es V within alike solves) there.leads i
 continues_across {r} ts es steps reached within alike (Further s V is k p next rest solves leads i more) =
     let there = leads_across r s ts es V (GoesOn next) within alike leads in
     let other = solves_across r s ts es V within alike solves in

@@ -4,7 +4,7 @@ use Rattle.std.specs.Prelude.{Option}
 use Rattle.system_model.proofs.CallerLemmas.{true_false}
 use Rattle.run_model.specs.Run.{Run, Situation}
 use Rattle.run_model.specs.Equations.{Solves}
-use Rattle.run_model.specs.AfterInstant.{Following, Ended, AtLimit, Again, Done, following, updated}
+use Rattle.run_model.specs.AfterInstant.{Following, OutOfRange, Ended, AtLimit, Again, Done, following, updated}
 use Rattle.run_model.specs.Stepping.{Next, GoesOn, Departs, AtStop, WhereAsked, WhereFixed, ByStep, IsStep}
 use Rattle.run_model.specs.Trace.{Leads, LeadsBy}
 use Rattle.run_model.specs.Behaved.{Reached}
@@ -12,6 +12,7 @@ use Rattle.run_model.proofs.CallerLemmas.{ends_or_goes, situation_of}
 use Rattle.run_rest.specs.Laws.{StepsWithin}
 
 abbrev pub Climbs : ℕ → Following → Situation → Situation → Type 0
+Climbs stop OutOfRange s next = ⊥
 Climbs stop Ended s next = ⊥
 Climbs stop AtLimit s next = ⊥
 Climbs stop Again s next = next.t ≡ s.t
@@ -28,6 +29,7 @@ departs_climb z steps (WhereFixed next i f lacks a) e = absurd (true_false (ap e
 departs_climb {r} {s} z steps (ByStep next k p step asks a) e = subst (λ (u : Situation). (s.t < u.t) × (u.t ≤ r.plan.stop)) (ap (λ x. situation_of x z) (sym a ∙ e)) (steps k p step)
 
 leads_climb : (f : Following) (r : Run) (s : Situation) (V : List (Option ℤ)) (next : Situation) → (f ≡ Done → IsWithin r (updated r s V)) → LeadsBy f r s V (GoesOn next) → Climbs r.plan.stop f s next
+leads_climb OutOfRange r s V next steps e = absurd (true_false (sym (ap ends_or_goes e)))
 leads_climb Ended r s V next steps e = absurd (true_false (sym (ap ends_or_goes e)))
 leads_climb AtLimit r s V next steps e = absurd (true_false (sym (ap ends_or_goes e)))
 leads_climb Again r s V next steps e = ap (λ x. (situation_of x next).t) e
@@ -38,12 +40,14 @@ climbs {r} {s} {V} next steps reached solves leads = leads_climb (following r s 
     (λ done kept point step. steps (updated r s V) kept point (record { s = s; values = V; reached = reached; solves = solves; done = done; is = refl; before_stop = step.before_stop }) step) leads
 
 no_lower : (stop : ℕ) (f : Following) (s next : Situation) → Climbs stop f s next → s.t ≤ next.t
+no_lower stop OutOfRange s next h = absurd h
 no_lower stop Ended s next h = absurd h
 no_lower stop AtLimit s next h = absurd h
 no_lower stop Again s next h = omega (arith, h)
 no_lower stop Done s next h = omega (arith, h.0)
 
 no_later : (stop : ℕ) (f : Following) (s next : Situation) → s.t ≤ stop → Climbs stop f s next → next.t ≤ stop
+no_later stop OutOfRange s next within h = absurd h
 no_later stop Ended s next within h = absurd h
 no_later stop AtLimit s next within h = absurd h
 no_later stop Again s next within h = omega (arith, within, h)

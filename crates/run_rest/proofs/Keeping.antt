@@ -154,13 +154,14 @@ keeps_departs {r} {s} is (P.WhereFixed next j f lacks a) z e = absurd (true_fals
 keeps_departs {r} {s} is (P.ByStep next k p step asks a) z e = subst (IsKeepable r) (ap (λ x. situation_of x z) (sym a ∙ e)) (record { empty = empty_stepped r s k p is.empty; timers = is.timers })
 
 keeps_leads : (f : F.Following) (r : Run) (s : Situation) (V : List (Option ℤ)) (z : Situation) → IsKeepable r (F.updated r s V) → LeadsBy f r s V (P.GoesOn z) → IsKeepable r z
+keeps_leads F.OutOfRange r s V z is a = absurd (true_false (sym (ap ends_or_goes a)))
 keeps_leads F.Ended r s V z is a = absurd (true_false (sym (ap ends_or_goes a)))
 keeps_leads F.AtLimit r s V z is a = absurd (true_false (sym (ap ends_or_goes a)))
 keeps_leads F.Again r s V z is a = subst (IsKeepable r) (ap (λ x. situation_of x z) (sym a)) is
 keeps_leads F.Done r s V z is a = keeps_departs is a z refl
 
 pub keeps_reached : {r : Run} {s : Situation} → AreMachines r → Reached r s → IsKeepable r s
-keeps_reached {r} machines (AtFirst s W solves is) =
+keeps_reached {r} machines (AtFirst s W solves none_lost is) =
     subst (IsKeepable r) (sym is) (record { empty = empty_beginning r machines W; timers = first_timers_of r (I.initialized r W) r.system.ports })
 keeps_reached {r} machines (Onward s V next reached solves leads) =
     keeps_leads (F.following r s V) r s V next (keeps_updated r s V (keeps_reached machines reached)) leads

@@ -76,13 +76,14 @@ module _ (laws : FittingLaws) (r : Run) (sound : IsSound r.system) (machines : A
       subst (λ (u : Situation). Passes u.states) (ap (λ x. situation_of x z) (sym a ∙ e)) (passes_stepped s V k p reached solves old)
 
   passes_leads : (f : F.Following) (s : Situation) (V : List (Option ℤ)) (z : Situation) → Reached r s → Solves r s V → Passes s.states → LeadsBy f r s V (P.GoesOn z) → Passes z.states
+  passes_leads F.OutOfRange s V z reached solves old a = absurd (true_false (sym (ap ends_or_goes a)))
   passes_leads F.Ended s V z reached solves old a = absurd (true_false (sym (ap ends_or_goes a)))
   passes_leads F.AtLimit s V z reached solves old a = absurd (true_false (sym (ap ends_or_goes a)))
   passes_leads F.Again s V z reached solves old a = subst (λ (u : Situation). Passes u.states) (ap (λ x. situation_of x z) (sym a)) (passes_updated s V reached solves old)
   passes_leads F.Done s V z reached solves old d = passes_departs s V (P.GoesOn z) z reached solves old d refl
 
   passes_reached : {s : Situation} → Reached r s → Passes s.states
-  passes_reached (AtFirst s W solves is) = subst (λ (u : Situation). Passes u.states) (sym is) (passes_beginning W solves)
+  passes_reached (AtFirst s W solves none_lost is) = subst (λ (u : Situation). Passes u.states) (sym is) (passes_beginning W solves)
   passes_reached (Onward s V next reached solves leads) = passes_leads (F.following r s V) s V next reached solves (passes_reached reached) leads
 
   pub passes_departed : (z : Situation) → Departed r z → Passes (entering_step r z)

@@ -24,11 +24,11 @@ pushed is js i e = let l : length (is ++ i ∷ []) ≡ length is + length (i ∷
 
 -- behind equally many instants the run stands in one place
 come_same : {r : Run} {is js : List Instant} {s z : Situation} → Laws → IsSound r.system → AreMachines r → Comes r is s → Comes r js z → length is ≡ length js → (is ≡ js) × (s ≡ z)
-come_same {r} laws sound machines (AtFirst s is W solves e none) (AtFirst z js U solves2 f none2) len =
+come_same {r} laws sound machines (AtFirst s is W solves kept e none) (AtFirst z js U solves2 kept2 f none2) len =
     (none ∙ sym none2, e ∙ ap (beginning r) (same_initially laws r sound machines W U solves solves2) ∙ sym f)
-come_same {r} laws sound machines (AtFirst s is W solves e none) (Onward before z U js next comes solves2 leads2 j) len =
+come_same {r} laws sound machines (AtFirst s is W solves kept e none) (Onward before z U js next comes solves2 leads2 j) len =
     let l = pushed before js (instant_of z U) j in let k : length is ≡ 0 = ap (λ (xs : List Instant). length xs) none in absurd (omega (arith, l, k, len))
-come_same {r} laws sound machines (Onward before s V is next comes solves leads i) (AtFirst z js U solves2 f none2) len =
+come_same {r} laws sound machines (Onward before s V is next comes solves leads i) (AtFirst z js U solves2 kept2 f none2) len =
     let l = pushed before is (instant_of s V) i in let k : length js ≡ 0 = ap (λ (xs : List Instant). length xs) none2 in absurd (omega (arith, l, k, len))
 come_same {r} laws sound machines (Onward before s V is next comes solves leads i) (Onward before2 z U js next2 comes2 solves2 leads2 j) len =
     let l = pushed before is (instant_of s V) i in
@@ -49,7 +49,7 @@ record Passed (r : Run) (s : Situation) (js : List Instant) (z : Situation) : Ty
   pub later : next.t ≤ z.t
 
 passed : {r : Run} {is js : List Instant} {s z : Situation} → Laws → IsSound r.system → AreMachines r → StepsWithin r → Comes r is s → Comes r js z → length is < length js → Passed r s js z
-passed {r} {is} {s = s} laws sound machines steps comes (AtFirst z js U solves f none) len = let k : length js ≡ 0 = ap (λ (xs : List Instant). length xs) none in absurd (omega (arith, k, len))
+passed {r} {is} {s = s} laws sound machines steps comes (AtFirst z js U solves kept f none) len = let k : length js ≡ 0 = ap (λ (xs : List Instant). length xs) none in absurd (omega (arith, k, len))
 passed {r} {is} {s = s} laws sound machines steps comes (Onward before y U js next comes2 solves leads j) len =
     (elim (cases_lt (length is) (length before)) as (λ c. Passed r s js next) [
       | inl shorter ↦

@@ -1,16 +1,17 @@
 -- A trace that comes to a step is the instants before it and a rest.
-use Rattle.std.proofs.Common.{◌≡◌, ℕ, ℤ, List, [], ◌∷◌, ◌++◌, refl, sym, ap, ◌∙◌, subst, append_assoc}
+use Rattle.std.proofs.Common.{◌≡◌, ℕ, ℤ, Bool, true, false, List, [], ◌∷◌, ◌++◌, refl, sym, ap, ◌∙◌, subst, append_assoc}
 use Rattle.std.specs.Prelude.{Option}
+use Rattle.std.specs.List.{list_any}
 use Rattle.system_model.specs.declared.plan.EndKind.{EndKind}
 use Rattle.system_model.specs.Text.{Instant}
 use Rattle.system_model.specs.Sound.{IsSound}
 use Rattle.system_model.proofs.CallerLemmas.{true_false}
 use Rattle.run_model.specs.Run.{Run, Situation}
 use Rattle.run_model.specs.Equations.{Solves}
-use Rattle.run_model.specs.Initial.{SolvesInitially, beginning}
+use Rattle.run_model.specs.Initial.{SolvesInitially, beginning, is_bad_initially}
 use Rattle.run_model.specs.AfterInstant.{Done, following, updated}
-use Rattle.run_model.specs.Stepping.{Next, Ends, GoesOn, Departs}
-use Rattle.run_model.specs.Trace.{Leads, LeadsBy, Continues, Last, Further, IsTrace, Runs, instant_of}
+use Rattle.run_model.specs.Stepping.{Next, Ends, EndsBefore, GoesOn, Departs, AtStop, WhereAsked, WhereFixed, ByStep}
+use Rattle.run_model.specs.Trace.{Leads, LeadsBy, Continues, Last, Further, Unwritten, IsTrace, Fails, Runs, instant_of}
 use Rattle.run_model.specs.Machines.{AreMachines}
 use Rattle.run_model.specs.Behaved as B
 use Rattle.run_model.specs.Laws.{OneNext, ReachesSituations, SolvedOnce, SolvedOnceInitially}
@@ -29,7 +30,7 @@ pub record Laws : Type 0 where
   pub along : ReachesSituations
 
 pub comes_reached : {r : Run} {is : List Instant} {s : Situation} → Comes r is s → B.Reached r s
-comes_reached {r} (AtFirst s is W solves e none) = B.AtFirst s W solves e
+comes_reached {r} (AtFirst s is W solves kept e none) = B.AtFirst s W solves kept e
 comes_reached {r} (Onward is s V js next comes solves leads j) = B.Onward s V next (comes_reached comes) solves leads
 
 pub held_departed : {r : Run} {is : List Instant} {z : Situation} → Held r is z → B.Departed r z
@@ -65,6 +66,8 @@ further : {r : Run} {s z : Situation} {V : List (Option ℤ)} {next : Situation}
     Solves r s V → Leads r s V (GoesOn next) → js ≡ front ++ instant_of s V ∷ [] → is ≡ front ++ rest → Continues r z rest k p → s ≡ z → From r js next is k p
 further {r} {s} {V = V} {next = next} front laws sound machines reached v leads j split (Last z W rest k p w leads2 i) e =
     absurd (true_false (sym (ap ends_or_goes (outcome laws sound machines reached v w leads leads2 e).1)))
+further {r} {s} {V = V} {next = next} front laws sound machines reached v leads j split (Unwritten z W rest k p w leads2 i) e =
+    absurd (true_false (sym (ap ends_or_goes (outcome laws sound machines reached v w leads leads2 e).1)))
 further {r} {s} {V = V} {next = next} front laws sound machines reached v leads j split (Further z W rest k p next2 behind w leads2 i more) e =
     let same = outcome laws sound machines reached v w leads leads2 e in
     let first : instant_of z W ≡ instant_of s V = ap (λ (u : Situation). instant_of u W) (sym e) ∙ ap (instant_of s) (sym same.0) in
@@ -75,7 +78,10 @@ further {r} {s} {V = V} {next = next} front laws sound machines reached v leads 
     }
 
 along : {r : Run} {front is : List Instant} {s : Situation} {k : EndKind} {p : ℕ} → Laws → IsSound r.system → AreMachines r → Comes r front s → IsTrace r is k p → From r front s is k p
-along {r} {is = is} {k = k} {p = p} laws sound machines (AtFirst s front W solves e none) (Runs U solves2 x) =
+along {r} {is = is} {k = k} {p = p} laws sound machines (AtFirst s front W solves kept e none) (Fails U solves2 bad empty ranged start) =
+    let same : U ≡ W = same_initially laws r sound machines U W solves2 solves in
+    absurd (true_false (sym (subst (λ (V : List (Option ℤ)). list_any (is_bad_initially r.system V) r.system.ports ≡ true) same bad) ∙ kept))
+along {r} {is = is} {k = k} {p = p} laws sound machines (AtFirst s front W solves kept e none) (Runs U solves2 kept2 x) =
     let same : U ≡ W = same_initially laws r sound machines U W solves2 solves in
     record {
       rest = is;
@@ -94,6 +100,18 @@ departs_of r s V next done leads = subst (λ f. LeadsBy f r s V next) done leads
 pub leads_of : (r : Run) (s : Situation) (V : List (Option ℤ)) (next : Next) → following r s V ≡ Done → Departs r (updated r s V) next → Leads r s V next
 leads_of r s V next done d = subst (λ f. LeadsBy f r s V next) (sym done) d
 
+-- a step ends no run before its instant
+abbrev is_end_before : Next → Bool
+is_end_before (Ends kind point) = false
+is_end_before (EndsBefore kind point) = true
+is_end_before (GoesOn s) = false
+
+no_end_before : {r : Run} {s : Situation} {next : Next} {k : EndKind} {p : ℕ} → Departs r s next → next ≡ EndsBefore k p → ⊥
+no_end_before (AtStop next at a) e = true_false (sym (ap is_end_before (sym a ∙ e)))
+no_end_before (WhereAsked next kept point step asks a) e = true_false (sym (ap is_end_before (sym a ∙ e)))
+no_end_before (WhereFixed next i f lacks a) e = true_false (sym (ap is_end_before (sym a ∙ e)))
+no_end_before (ByStep next kept point step asks a) e = true_false (sym (ap is_end_before (sym a ∙ e)))
+
 -- what is left where the values lead to a step
 record Left (r : Run) (s : Situation) (V : List (Option ℤ)) (all : List Instant) (k : EndKind) (p : ℕ) : Type 0 where
   pub rest : List Instant
@@ -109,6 +127,10 @@ left {r} {s} {V = V} same done (Last z W all k p w leads i) e =
       split = i ∙ ap (λ (u : Situation). instant_of u W ∷ []) (sym e) ∙ ap (λ U. instant_of s U ∷ []) of;
       left = NoneLeft (enters (departs_of r s V (Ends k p) done leads_here)) refl;
     }
+left {r} {s} {V = V} same done (Unwritten z W all k p w leads i) e =
+    let of : W ≡ V = same W (subst (λ (u : Situation). Solves r u W) (sym e) w) in
+    let leads_here : Leads r s V (EndsBefore k p) = subst (λ U. Leads r s U (EndsBefore k p)) of (subst (λ (u : Situation). Leads r u W (EndsBefore k p)) (sym e) leads) in
+    absurd (no_end_before (departs_of r s V (EndsBefore k p) done leads_here) refl)
 left {r} {s} {V = V} same done (Further z W all k p next behind w leads i more) e =
     let of : W ≡ V = same W (subst (λ (u : Situation). Solves r u W) (sym e) w) in
     let leads_here : Leads r s V (GoesOn next) = subst (λ U. Leads r s U (GoesOn next)) of (subst (λ (u : Situation). Leads r u W (GoesOn next)) (sym e) leads) in
@@ -131,8 +153,8 @@ splits laws r sound machines front is k p z held trace =
 -- ---- the other way
 
 joined : {r : Run} {front : List Instant} {s : Situation} (rest : List Instant) {k : EndKind} {p : ℕ} → Comes r front s → Continues r s rest k p → IsTrace r (front ++ rest) k p
-joined {r} rest {k} {p} (AtFirst s front W solves e none) x =
-    Runs W solves (subst (λ xs. Continues r (beginning r W) (xs ++ rest) k p) (sym none) (subst (λ (u : Situation). Continues r u rest k p) e x))
+joined {r} rest {k} {p} (AtFirst s front W solves kept e none) x =
+    Runs W solves kept (subst (λ xs. Continues r (beginning r W) (xs ++ rest) k p) (sym none) (subst (λ (u : Situation). Continues r u rest k p) e x))
 joined {r} rest {k} {p} (Onward before s V front next comes solves leads j) x =
     let all : front ++ rest ≡ before ++ instant_of s V ∷ rest = ap (λ xs. xs ++ rest) j ∙ append_assoc before (instant_of s V ∷ []) rest in
     subst (λ xs. IsTrace r xs k p) (sym all) (joined (instant_of s V ∷ rest) comes (Further s V (instant_of s V ∷ rest) k p next rest solves leads refl x))

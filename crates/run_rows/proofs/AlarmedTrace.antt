@@ -50,7 +50,7 @@ early = ByStep _ (7 ∷ 10 ∷ []) 7 (record {
     ten_is_7 e = omega (arith, e)
 
 pub trace : IsTrace row.alarmed_run row.alarmed_instants Stop 20
-trace = Runs w (initially_by row.alarmed_run w refl (refl, (refl, tt)))
+trace = Runs w (initially_by row.alarmed_run w refl (refl, (refl, tt))) refl
     (Further s0 (row.values 0 0) _ Stop 20 s7 _ (solves_by row.alarmed_run s0 (row.values 0 0) refl (refl, (refl, tt))) early refl
     (Further s7 (row.values 2 1) _ Stop 20 s10 _ (solves_by row.alarmed_run s7 (row.values 2 1) refl (refl, (refl, tt)))
     (departs_by row.alarmed_run (updated row.alarmed_run s7 (row.values 2 1)) 10 (omega arith) (bound_by 10 100 7 10 _ (omega arith) (omega arith) (OnGrid (1, refl)) (never 7 10) (λ k later. omega (arith, later))) refl refl refl refl) refl

@@ -23,7 +23,7 @@ abbrev s20 : Situation
 s20 = stepped row.calls_run (updated row.calls_run s10 row.v10) (20 ∷ []) 20
 
 pub trace : IsTrace row.calls_run row.calls_instants Stop 20
-trace = Runs w (initially_by row.calls_run w refl (refl, tt))
+trace = Runs w (initially_by row.calls_run w refl (refl, tt)) refl
     (Further s0 row.v0 _ Stop 20 s10 _ (solves_by row.calls_run s0 row.v0 refl (refl, tt)) (departs_by row.calls_run (updated row.calls_run s0 row.v0) 10 (omega arith) (bound_10 100 _ (λ point later. (λ x. absurd x, tt))) refl refl refl refl) refl
     (Further s10 row.v10 _ Stop 20 s20 _ (solves_by row.calls_run s10 row.v10 refl (refl, tt)) (departs_by row.calls_run (updated row.calls_run s10 row.v10) 20 (omega arith) (bound_20 100 _ (λ point later. (λ x. absurd x, tt))) refl refl refl refl) refl
     (Last s20 row.v20 _ Stop 20 (solves_by row.calls_run s20 row.v20 refl (refl, tt)) (AtStop _ refl refl) refl)))

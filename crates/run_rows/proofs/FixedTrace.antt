@@ -33,7 +33,7 @@ before_20 : NoneBetween 10 20 (Every 10 10 ∷ Never ∷ Never ∷ [])
 before_20 point later = (λ x. let e : point ≡ 0 + 10 + x.0 * 10 = x.1 in omega (arith, e, later), (λ x. absurd x, (λ x. absurd x, tt)))
 
 pub trace : IsTrace row.fixed_run row.fixed_instants Stop 20
-trace = Runs w (initially_by row.fixed_run w refl (refl, (refl, (refl, tt))))
+trace = Runs w (initially_by row.fixed_run w refl (refl, (refl, (refl, tt)))) refl
     (Further s0 (row.values 0 0) _ Stop 20 s10 _ (solves_by row.fixed_run s0 (row.values 0 0) refl (inr (quiet_at_0, refl), (refl, (refl, tt))))
     (departs_by row.fixed_run (updated row.fixed_run s0 (row.values 0 0)) 10 (omega arith) (bound_by 20 100 0 10 _ (omega arith) (omega arith) (AtTick (0, Every 10 10, refl, (0, refl))) before_10 (λ k later. omega (arith, later))) refl refl refl refl) refl
     (Further s10 (row.values 1 0) _ Stop 20 s20 _ (solves_by row.fixed_run s10 (row.values 1 0) refl (inl ((refl, (0, refl)), refl), (refl, (refl, tt))))

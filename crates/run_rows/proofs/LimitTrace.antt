@@ -22,7 +22,7 @@ abbrev s2 : Situation
 s2 = updated row.limit_run s1 row.v1
 
 pub trace : IsTrace row.limit_run row.limit_instants Limit 0
-trace = Runs w (initially_by row.limit_run w refl (refl, tt))
+trace = Runs w (initially_by row.limit_run w refl (refl, tt)) refl
     (Further s0 row.v0 _ Limit 0 s1 _ (solves_by row.limit_run s0 row.v0 refl (refl, tt)) refl refl
     (Further s1 row.v1 _ Limit 0 s2 _ (solves_by row.limit_run s1 row.v1 refl (refl, tt)) refl refl
     (Last s2 row.v2 _ Limit 0 (solves_by row.limit_run s2 row.v2 refl (refl, tt)) refl refl)))

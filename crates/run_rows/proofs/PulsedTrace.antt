@@ -52,7 +52,7 @@ to_tick : (t b : ℕ) → t < b → b ≤ 20 → NoGridBetween 10 t b → IsBoun
 to_tick t b later stop grid = bound_by 10 100 t b (Once b ∷ Never ∷ []) later stop (AtTick (0, Once b, refl, refl)) (none_before t b b (omega arith)) grid
 
 pub trace : IsTrace row.pulsed_run row.pulsed_instants Stop 20
-trace = Runs w (initially_by row.pulsed_run w refl (refl, (refl, tt)))
+trace = Runs w (initially_by row.pulsed_run w refl (refl, (refl, tt))) refl
     (Further s0 (row.values 0 0) _ Stop 20 s2 _ (solves_by row.pulsed_run s0 (row.values 0 0) refl (inr (λ e. zero_is_2 e, refl), (refl, tt)))
     (departs_by row.pulsed_run (after s0 0 0) 2 (omega arith) (to_tick 0 2 (omega arith) (omega arith) (λ k later. omega (arith, later))) refl refl refl refl) refl
     (Further s2 (row.values 1 0) _ Stop 20 s5 _ (solves_by row.pulsed_run s2 (row.values 1 0) refl (inl (refl, refl), (refl, tt)))

@@ -23,7 +23,7 @@ abbrev s20 : Situation
 s20 = stepped (row.counter_gain_run false) (updated (row.counter_gain_run false) s10 row.late10) (20 ∷ 20 ∷ []) 20
 
 pub trace : IsTrace (row.counter_gain_run false) row.without_events Stop 20
-trace = Runs w (initially_by (row.counter_gain_run false) w refl (refl, (refl, (refl, tt))))
+trace = Runs w (initially_by (row.counter_gain_run false) w refl (refl, (refl, (refl, tt)))) refl
     (Further s0 row.v0 _ Stop 20 s10 _ (solves_by (row.counter_gain_run false) s0 row.v0 refl (refl, (refl, (refl, tt)))) (departs_by (row.counter_gain_run false) (updated (row.counter_gain_run false) s0 row.v0) 10 (omega arith) (bound_10 100 _ (λ point later. (λ x. absurd x, (λ x. absurd x, (λ x. absurd x, tt))))) refl refl refl refl) refl
     (Further s10 row.late10 _ Stop 20 s20 _ (solves_by (row.counter_gain_run false) s10 row.late10 refl (refl, (refl, (refl, tt)))) (departs_by (row.counter_gain_run false) (updated (row.counter_gain_run false) s10 row.late10) 20 (omega arith) (bound_20 100 _ (λ point later. (λ x. absurd x, (λ x. absurd x, (λ x. absurd x, tt))))) refl refl refl refl) refl
     (Last s20 row.late20 _ Stop 20 (solves_by (row.counter_gain_run false) s20 row.late20 refl (refl, (refl, (refl, tt)))) (AtStop _ refl refl) refl)))

@@ -1,13 +1,14 @@
 -- A test of systems, which computes, and which sound systems pass alone: of systems at 1000 counts a second whose FMUs save their states, and whose connected ports have one type.
-use Rattle.std.proofs.Common.{◌≡◌, ℕ, ◌<◌, Bool, true, false, not, ◌&&◌, List, [], ◌∷◌, length, map, refl, sym, ◌∙◌, ap, arith, nat_lt, nat_le}
+use Rattle.std.proofs.Common.{◌≡◌, ℕ, ◌<◌, Bool, true, false, not, ◌&&◌, List, [], ◌∷◌, length, map, refl, sym, ◌∙◌, ap, subst, All, arith, nat_lt, nat_le}
 use Rattle.std.specs.Prelude.{slice_get, slice_index_or, ◌^◌, ◌==◌}
 use Rattle.std.proofs.lemmas.Bool.{eqb-true, ltb-true, leb-true}
+use Rattle.std.proofs.lemmas.List.Elements.{All-nil}
+use Rattle.parameter_values.specs.declared.change.Change.{Change}
 use Rattle.sim_base.specs.declared.numbers.PortId.{PortId}
 use Rattle.clock_fraction.specs.Counts.{IsCounts}
 use Rattle.clock_fraction.specs.declared.fraction.Fraction.{Fraction}
-use Rattle.value_types.specs.Joint.{Joins}
+use Rattle.value_types.specs.Joint.{IsWithin, class_of}
 use Rattle.value_types.specs.Shape.{is_clock, is_input, is_output, timing_at, variable_at}
-use Rattle.value_types.specs.declared.joint.Joint.TheVariants.{Fit}
 use Rattle.value_types.specs.declared.values.PortType.{PortType}
 use Rattle.value_types.specs.declared.values.PortType.TheVariants as T
 use Rattle.value_types.specs.declared.shape.IntervalVariability.{IntervalVariability}
@@ -18,11 +19,13 @@ use Rattle.value_types.specs.declared.shape.Shape.{Shape}
 use Rattle.system_model.specs.declared.system.Component.{Component}
 use Rattle.system_model.specs.declared.system.Timing.{Timing}
 use Rattle.system_model.specs.declared.system.Timing.TheVariants.{Periodic, Answered, Countdown, Changing}
+use Rattle.system_model.specs.declared.system.Feed.{Feed}
 use Rattle.system_model.specs.declared.system.Role.{Role}
 use Rattle.system_model.specs.declared.system.Role.TheVariants.{Input, Output, ClockInput, ClockOutput, TimeClock}
 use Rattle.system_model.specs.declared.system.Port.{Port}
 use Rattle.system_model.specs.declared.system.System.{System}
-use Rattle.system_model.specs.Ports.{source_of, is_output_role, label_of, labels_from}
+use Rattle.system_model.specs.Carried.{IsOn}
+use Rattle.system_model.specs.Ports.{feed_of, is_output_role, label_of, labels_from}
 use Rattle.system_model.specs.Shapes.{IsSoundShape, is_described}
 use Rattle.system_model.specs.Sound.{IsPort, IsRole, IsTiming, IsUnder, IsFeed, HasSoundComponents, HasSoundPorts, HasSoundFeeds}
 use Rattle.system_model.proofs.CallerLemmas.{all_at, all_by_place}
@@ -170,25 +173,39 @@ same_type T.Int32 T.Int32 = true
 same_type T.Clock T.Clock = true
 same_type _ _ = false
 
-same_type_by : (a b : PortType) → same_type a b ≡ true → Joins a b Fit
+same_type_by : (a b : PortType) → same_type a b ≡ true → (class_of a ≡ class_of b) × IsWithin a b
 same_type_by T.Int32 T.Int32 e = (refl, λ x h. h)
 same_type_by T.Clock T.Clock e = (refl, λ x h. h)
 same_type_by a b e = absurd (true_false (sym e))
 
-abbrev is_feed : Port → Port → Bool
-is_feed source target = is_output_role source.role && same_type source.kind target.kind
+abbrev is_plain : List Change → Bool
+is_plain [] = true
+is_plain (change ∷ changes) = false
 
-feed_by : (source target : Port) → is_feed source target ≡ true → IsFeed source target
-feed_by source target e = record {
-  output = left (is_output_role source.role) (same_type source.kind target.kind) e;
-  types = same_type_by source.kind target.kind (right (is_output_role source.role) (same_type source.kind target.kind) e);
-}
+plain_by : (changes : List Change) → is_plain changes ≡ true → changes ≡ []
+plain_by [] e = refl
+plain_by (change ∷ changes) e = absurd (true_false (sym e))
+
+abbrev is_feed : Feed → Port → Port → Bool
+is_feed feed source target = is_output_role source.role && (same_type source.kind target.kind && is_plain feed.changes)
+
+feed_by : (feed : Feed) (source target : Port) → is_feed feed source target ≡ true → IsFeed feed source target
+feed_by feed source target e =
+    let rest = right (is_output_role source.role) (same_type source.kind target.kind && is_plain feed.changes) e in
+    let types = same_type_by source.kind target.kind (left (same_type source.kind target.kind) (is_plain feed.changes) rest) in
+    let none = plain_by feed.changes (right (same_type source.kind target.kind) (is_plain feed.changes) rest) in
+    record {
+      output = left (is_output_role source.role) (same_type source.kind target.kind && is_plain feed.changes) e;
+      same_class = types.0;
+      changes = subst (All (IsOn (class_of target.kind))) (sym none) (All-nil (IsOn (class_of target.kind)));
+      range = λ e. types.1;
+    }
 
 abbrev pub is_fed : System → Port → Bool
-is_fed system port = if_some (λ q. is_some_and (λ (source : Port). is_feed source port) (slice_get system.ports q)) (source_of port.role)
+is_fed system port = if_some (λ (feed : Feed). is_some_and (λ (source : Port). is_feed feed source port) (slice_get system.ports feed.from.0)) (feed_of port.role)
 
 pub feeds_by : (system : System) → every (is_fed system) system.ports ≡ true → HasSoundFeeds system
-feeds_by system e p q port is from =
+feeds_by system e p port feed is from =
     let here : is_fed system port ≡ true = all_at (λ (y : Port). is_fed system y ≡ true) system.ports p port (all_by (is_fed system) (λ (y : Port). is_fed system y ≡ true) (λ y h. h) system.ports e) is in
-    is_some_and_by (λ (source : Port). is_feed source port) (λ (source : Port). IsFeed source port) (λ source h. feed_by source port h) (slice_get system.ports q)
-    (sym (ap (λ o. if_some (λ k. is_some_and (λ (source : Port). is_feed source port) (slice_get system.ports k)) o) from) ∙ here)
+    is_some_and_by (λ (source : Port). is_feed feed source port) (λ (source : Port). IsFeed feed source port) (λ source h. feed_by feed source port h) (slice_get system.ports feed.from.0)
+    (sym (ap (λ o. if_some (λ (f : Feed). is_some_and (λ (source : Port). is_feed f source port) (slice_get system.ports f.from.0)) o) from) ∙ here)

@@ -36,7 +36,7 @@ later_instant : {P : Type 0} → (◌≡◌ {A = ℕ} 1 0) × P → ⊥
 later_instant h = let e : ◌≡◌ {A = ℕ} 1 0 = h.0 in omega (arith, e)
 
 pub trace : IsTrace row.ticks_run row.ticks_instants Stop 20
-trace = Runs w (initially_by row.ticks_run w refl (refl, (refl, (refl, (refl, tt)))))
+trace = Runs w (initially_by row.ticks_run w refl (refl, (refl, (refl, (refl, tt))))) refl
     (Further s0 (row.values 0 1 0) _ Stop 20 s1 _ (solves_by row.ticks_run s0 (row.values 0 1 0) refl (refl, (inl ((refl, (0, refl)), refl), (refl, (refl, tt))))) refl refl
     (Further s1 (row.values 1 0 1) _ Stop 20 s2 _ (solves_by row.ticks_run s1 (row.values 1 0 1) refl (refl, (inr (later_instant, refl), (refl, (refl, tt))))) (departs_by row.ticks_run (updated row.ticks_run s1 (row.values 1 0 1)) 10 (omega arith) (bound_by 20 100 0 10 _ (omega arith) (omega arith) (AtTick (1, Every 10 0, refl, (1, refl))) (λ point later. (λ x. absurd x, (λ x. let e : point ≡ 0 + 0 + x.0 * 10 = x.1 in omega (arith, e, later), (λ x. absurd x, (λ x. absurd x, tt))))) (λ k later. omega (arith, later))) refl refl refl refl) refl
     (Further s2 (row.values 0 1 1) _ Stop 20 s3 _ (solves_by row.ticks_run s2 (row.values 0 1 1) refl (refl, (inl ((refl, (1, refl)), refl), (refl, (refl, tt))))) refl refl

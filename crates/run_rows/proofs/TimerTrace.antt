@@ -29,7 +29,7 @@ no_ticks : (t b : ℕ) → NoneBetween t b (Never ∷ Never ∷ [])
 no_ticks t b point later = (λ x. absurd x, (λ x. absurd x, tt))
 
 pub trace : IsTrace timer_run timer_instants Stop 20
-trace = Runs none (initially_by timer_run none refl (refl, (refl, tt)))
+trace = Runs none (initially_by timer_run none refl (refl, (refl, tt))) refl
     (Further s0 quiet _ Stop 20 s10 _ (solves_by timer_run s0 quiet refl (inr (λ h. h, refl), (refl, tt))) (departs_by timer_run (updated timer_run s0 quiet) 10 (omega arith) (bound_10 100 _ (no_ticks 0 10)) refl refl refl refl) refl
     (Further s10 quiet _ Stop 20 s20 _ (solves_by timer_run s10 quiet refl (inr (λ h. h, refl), (refl, tt))) (departs_by timer_run (updated timer_run s10 quiet) 20 (omega arith) (bound_20 100 _ (no_ticks 10 20)) refl refl refl refl) refl
     (Further s20 quiet _ Stop 20 s21 _ (solves_by timer_run s20 quiet refl (inr (λ h. h, refl), (refl, tt))) refl refl

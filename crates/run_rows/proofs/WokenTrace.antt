@@ -40,7 +40,7 @@ never : (t b : ℕ) → NoneBetween t b (Never ∷ Never ∷ [])
 never t b point later = (λ x. absurd x, (λ x. absurd x, tt))
 
 pub trace : IsTrace row.woken_run row.woken_instants Stop 20
-trace = Runs w (initially_by row.woken_run w refl (refl, (refl, tt)))
+trace = Runs w (initially_by row.woken_run w refl (refl, (refl, tt))) refl
     (Further s0 (row.values 0 0) _ Stop 20 s7 _ (solves_by row.woken_run s0 (row.values 0 0) refl (refl, (refl, tt)))
     (departs_at row.woken_run z0 7 (omega arith) (bound_at_event (plan_by 10 100) z0.timers z0.events 0 7 10 0 (omega arith) (omega arith) refl (bound_10 100 _ (never 0 10)) refl) refl refl refl) refl
     (Further s7 (row.values 0 2) _ Stop 20 s10 _ (solves_by row.woken_run s7 (row.values 0 2) refl (refl, (refl, tt)))

@@ -103,7 +103,7 @@ port_of i v kind role clocks = record {
 }
 
 abbrev pub feed_from : ℕ → Option Feed
-feed_from p = Some (record { from = record { 0 = p } })
+feed_from p = Some (record { from = record { 0 = p }; changes = [] })
 
 abbrev pub port_ids : List ℕ → List PortId
 port_ids [] = []

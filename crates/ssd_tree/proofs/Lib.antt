@@ -9,5 +9,6 @@ mod NameLemmas
 mod NestedLemmas
 mod RootLemmas
 mod RuleLemmas
+mod MisreadLemmas
 mod PartLemmas
 mod ReadLemmas

@@ -151,7 +151,7 @@ contains_cons : (x k : ℕ) (xs : List ℕ) → Contains (x ∷ xs) k → (x ≡
 contains_cons x k xs (zero, within, is) = inl is
 contains_cons x k xs (suc i, within, is) = inr (i, omega (arith, within), is)
 
-contains_later : (x k : ℕ) (xs : List ℕ) → Contains xs k → Contains (x ∷ xs) k
+pub contains_later : (x k : ℕ) (xs : List ℕ) → Contains xs k → Contains (x ∷ xs) k
 contains_later x k xs c = let within = c.1 in (suc c.0, omega (arith, within), c.2)
 
 contains_first : (x : ℕ) (xs : List ℕ) → Contains (x ∷ xs) x

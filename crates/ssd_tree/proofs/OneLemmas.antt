@@ -22,7 +22,10 @@ use Rattle.ssd_tree.specs.Elements.{both, holder, connector_key, element_key, Is
 use Rattle.ssd_tree.specs.Listings.{IsRising}
 use Rattle.ssd_tree.specs.Ends.{IsPartNamed, IsEnd}
 use Rattle.ssd_tree.specs.Rules.{IsSoundStructure}
-use Rattle.ssd_tree.specs.Parts.{PartNodes, ListsParts, IsFullName, InOutermost, InInner, IsPlaceOf, owner_node, IsSystemPart, IsComponentPart, IsConnectorPart, IsConnectionPart, IsBindingPart, HasPath, IsOrigin, IsMappingOrigin, Describes}
+use Rattle.ssd_tree.specs.Parts.{PartNodes, ListsParts, IsFullName, InOutermost, InInner, IsPlaceOf, owner_node, IsSystemPart, IsComponentPart, IsConnectorPart, IsConnectionPart, IsBindingPart, HasPath, IsChangeBy, IsOrigin, IsMappingOrigin, Describes}
+use Rattle.parameter_values.specs.declared.change.Change.{Change}
+use Rattle.transformations.specs.Elements.{first_transformation}
+use Rattle.transformations.proofs.CallerLemmas.{one_change}
 use Rattle.ssd_tree.proofs.ListingLemmas.{one_place, one_listing, contains_at}
 use Rattle.ssd_tree.proofs.ElementLemmas.{holder_cases, named_once, system_no_component, one_first}
 
@@ -172,6 +175,14 @@ one_end t connection element connector j k p q =
     pair_first : (a b : ℕ) (x y : List ℕ) → a ≡ b → x ≡ y → IsFirstWith (connector_key t) (a, x) k → IsFirstWith (connector_key t) (b, y) k
     pair_first a b x y e f h = subst (λ (z : List ℕ). IsFirstWith (connector_key t) (b, z) k) f (subst (λ (z : ℕ). IsFirstWith (connector_key t) (z, x) k) e h)
 
+one_change_by : (t : List Node) (o : Option ℕ) (x y : Option Change) → IsChangeBy t o x → IsChangeBy t o y → x ≡ y
+one_change_by t None None None p q = refl
+one_change_by t None (Some x) y p q = absurd p
+one_change_by t None None (Some y) p q = absurd q
+one_change_by t (Some k) None y p q = absurd p
+one_change_by t (Some k) (Some x) None p q = absurd q
+one_change_by t (Some k) (Some x) (Some y) p q = ap (λ (z : Change). Some z) (one_change t k x y p q)
+
 one_connection : (t : List Node) (nodes : PartNodes) → ListsParts t nodes → (k : ℕ) (x y : Connection) → IsConnectionPart t nodes k x → IsConnectionPart t nodes k y → x ≡ y
 one_connection t nodes lists k x y p q =
     let node : x.node ≡ y.node = p.node ∙ sym q.node in
@@ -179,7 +190,8 @@ one_connection t nodes lists k x y p q =
     let to : q.to ≡ p.to = one_end t k (codes "endElement") (codes "endConnector") q.to p.to q.is_to p.is_to in
     let start : x.start ≡ y.start = one_place nodes.connectors x.start y.start p.from lists.connectors.rising p.start (q.start ∙ ap (λ (z : ℕ). Some z) from) in
     let end : x.end ≡ y.end = one_place nodes.connectors x.end y.end p.to lists.connectors.rising p.end (q.end ∙ ap (λ (z : ℕ). Some z) to) in
-    λ i. record { node = node i; start = start i; end = end i }
+    let changes : x.change ≡ y.change = one_change_by t (first_transformation t k) x.change y.change p.change q.change in
+    λ i. record { node = node i; start = start i; end = end i; change = changes i }
 
 -- ---- the whole
 

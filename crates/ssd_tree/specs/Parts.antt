@@ -21,6 +21,9 @@ use Rattle.ssd_tree.specs.Elements.{first_child, holder, IsSystem, IsComponent, 
 use Rattle.ssd_tree.specs.Listings.{IsListing}
 use Rattle.ssd_tree.specs.Ends.{IsStart, IsStop}
 use Rattle.ssd_tree.specs.Sources.{LeadsDown}
+use Rattle.parameter_values.specs.declared.change.Change.{Change}
+use Rattle.transformations.specs.Changes.{IsChange}
+use Rattle.transformations.specs.Elements.{first_transformation}
 
 -- the elements of each sort, in document order
 pub record PartNodes : Type 0 where
@@ -118,6 +121,13 @@ pub record IsConnectorPart (t : List Node) (nodes : PartNodes) (k : ℕ)
   pub kind : kind_of t k ≡ Some x.kind
   pub child : x.child ≡ type_of t k
 
+-- the change is that of the transformation, and there is none where there is no transformation
+abbrev pub IsChangeBy : List Node → Option ℕ → Option Change → Type 0
+IsChangeBy t None None = Unit {0}
+IsChangeBy t None (Some x) = ⊥
+IsChangeBy t (Some k) None = ⊥
+IsChangeBy t (Some k) (Some x) = IsChange t k x
+
 pub record IsConnectionPart (t : List Node) (nodes : PartNodes) (k : ℕ)
     (x : Connection) : Type 0 where
   pub node : x.node ≡ k
@@ -127,6 +137,7 @@ pub record IsConnectionPart (t : List Node) (nodes : PartNodes) (k : ℕ)
   pub to : ℕ
   pub is_to : IsStop t k to
   pub end : slice_get nodes.connectors x.end ≡ Some to
+  pub change : IsChangeBy t (first_transformation t k) x.change
 
 pub record IsBindingPart (t : List Node) (nodes : PartNodes) (k : ℕ) (x : Binding) : Type 0 where
   pub node : x.node ≡ k

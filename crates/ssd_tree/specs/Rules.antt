@@ -1,7 +1,6 @@
 -- The rules of a system structure description (SSP 1.0: SystemStructure.ssd), each a statement about one tree and one of its elements.
-use Rattle.std.specs.Prelude.{◌≡◌, ◌≢◌, ◌⊎◌, ℕ, ◌+◌, ◌-◌, ◌^◌, ◌<◌, Bool, true, false, if◌then◌else◌, List, Option, Some, None, IsSome, option_and_then, slice_get, length, count_by, codes, bytes_eq}
+use Rattle.std.specs.Prelude.{◌≡◌, ◌≢◌, ◌⊎◌, ℕ, ◌+◌, ◌-◌, ◌^◌, ◌<◌, Bool, true, false, if◌then◌else◌, List, Option, Some, None, IsSome, Contains, option_and_then, slice_get, length, count_by, codes, bytes_eq}
 use Rattle.std.specs.Option.{option_map_or}
-use Rattle.std.specs.List.{list_any}
 use Rattle.doc_grammar.specs.Nodes.{Node}
 use Rattle.doc_tree.specs.declared.rule.SystemRule.{SystemRule}
 use Rattle.doc_tree.specs.declared.rule.SystemRule.TheVariants as r
@@ -18,6 +17,7 @@ use Rattle.ssd_tree.specs.Parts.{IsFullName}
 use Rattle.ssd_tree.specs.Sources.{is_path}
 use Rattle.ssd_tree.specs.Ends.{IsStart, IsStop, start_kind, end_kind}
 use Rattle.doc_tables.specs.Documents.{has_version, is_transformation}
+use Rattle.transformations.specs.Changes.{IsMisread}
 
 -- ---- the root
 
@@ -128,8 +128,13 @@ IsIncomplete t k = IsIncompletePart t k ⊎ IsIncompleteEntry t k
 
 -- ---- connections
 
-abbrev pub has_transformation : List Node → ℕ → Bool
-has_transformation t k = list_any (λ c. is_transformation (name_of t c)) (children t k)
+-- it is a transformation that doesn't read
+abbrev pub IsMisreadChange : List Node → ℕ → Type 0
+IsMisreadChange t c = (is_transformation (name_of t c) ≡ true) × IsMisread t c
+
+-- one of its transformations, be it the first or another, doesn't read
+abbrev pub HasMisread : List Node → ℕ → Type 0
+HasMisread t k = (c : ℕ) × Contains (children t k) c × IsMisreadChange t c
 
 abbrev pub HasNoStart : List Node → ℕ → Type 0
 HasNoStart t k = (c : ℕ) → IsStart t k c → ⊥
@@ -180,8 +185,8 @@ ViolatesStructure s t r.ModelExchange k =
     IsFmu s t k × (attribute t k (codes "implementation") ≡ Some (codes "ModelExchange"))
 -- 35: something required is absent; two connectors of a part have one name; a kind is none of this profile
 ViolatesStructure s t r.Incomplete k = IsIncomplete t k
--- 36: transformations of connections are left out of this profile
-ViolatesStructure s t r.Transformation k = IsConnection t k × (has_transformation t k ≡ true)
+-- 36: the factor, the offset or an entry of a transformation doesn't read, or it maps enumerations, which are left out of this profile
+ViolatesStructure s t r.Transformation k = IsConnection t k × HasMisread t k
 -- 37: an end names no element or no connector
 ViolatesStructure s t r.NoEnd k = IsConnection t k × HasNoEnd t k
 -- 38: it begins or ends at a connector of another kind

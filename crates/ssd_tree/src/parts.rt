@@ -5,9 +5,10 @@ ghost use Rattle.doc_tables.specs.Elements.{attribute, Lacks};
 ghost use Rattle.ssd_tree.specs.Elements.{holder, IsBinding, IsComponent, IsConnection, IsConnector, IsOfPart, IsPart, IsSystem};
 ghost use Rattle.ssd_tree.specs.Indexed.{IsIndexed, nodes_of};
 ghost use Rattle.ssd_tree.specs.Lists.{tree_of};
-ghost use Rattle.ssd_tree.specs.Parts.{base_of, Describes, HasPath, IsBindingPart, IsComponentPart, IsConnectionPart, IsConnectorPart, IsFullName, IsMappingOrigin, IsOrigin, IsPlaceOf, IsSystemPart, IsValuesOrigin, owner_node};
+ghost use Rattle.ssd_tree.specs.Parts.{base_of, Describes, HasPath, IsBindingPart, IsChangeBy, IsComponentPart, IsConnectionPart, IsConnectorPart, IsFullName, IsMappingOrigin, IsOrigin, IsPlaceOf, IsSystemPart, IsValuesOrigin, owner_node};
 ghost use Rattle.ssd_tree.specs.Paths.{LeadsOut};
 ghost use Rattle.ssd_tree.specs.Rules.{IsSoundStructure};
+ghost use Rattle.transformations.specs.Elements.{first_transformation};
 
 use crate::elements::{first_child, holder, kind_of, type_of};
 use crate::indexed::IndexedTree;
@@ -18,8 +19,10 @@ use crate::tree::{
 };
 use doc_tables::{attribute, lacks, text_of};
 use doc_tree::Tree;
-use sim_base::{Text, plain_path};
+use parameter_values::Change;
+use sim_base::{Items, Text, plain_path};
 use std::alloc::{AllocError, Global};
+use transformations::{first_transformation, read_transformation};
 
 /// The text of an attribute that is there.
 pub(crate) fn text(alloc: Global, tree: &Tree, node: usize, name: &str) -> Result<Text, AllocError>
@@ -124,6 +127,18 @@ fn full_name(alloc: Global, tree: &Tree, node: usize) -> Result<Text, AllocError
 {
     let path = path_out(alloc, tree, node)?;
     joined_names(alloc, tree, path, node)
+}
+
+// What a connection does to values, by the first of its transformations.
+fn change(alloc: Global, tree: &Tree, node: usize) -> Result<Option<Change>, AllocError>
+    requires sound { IsSoundStructure tree.now }
+    requires is { IsConnection tree.now node }
+    ensures { IfOk result (IsChangeBy tree.now (first_transformation tree.now node)) }
+{
+    match first_transformation(tree, node) {
+        Some(transformation) => read_transformation(alloc, tree, transformation),
+        None => Ok(None),
+    }
 }
 
 impl IndexedTree<'_> {
@@ -233,19 +248,20 @@ impl IndexedTree<'_> {
         })
     }
 
-    fn connection_part(&self, node: usize) -> Connection
+    fn connection_part(&self, alloc: Global, node: usize) -> Result<Connection, AllocError>
         requires indexed { IsIndexed self.now }
         requires sound { IsSoundStructure self.now.tree.now }
         requires is { IsConnection self.now.tree.now node }
-        ensures { IsConnectionPart self.now.tree.now (nodes_of self.now.lists) node result }
+        ensures { IfOk result (IsConnectionPart self.now.tree.now (nodes_of self.now.lists) node) }
     {
         let from = self.start(node).unwrap();
         let to = self.stop(node).unwrap();
-        Connection {
+        Ok(Connection {
             node,
             start: self.connector_place(from),
             end: self.connector_place(to),
-        }
+            change: change(alloc, self.tree, node)?,
+        })
     }
 
     // Where the mapping of a binding is given, if it has one.
@@ -326,7 +342,7 @@ impl IndexedTree<'_> {
     {
         let mut parts = Vec::new(alloc);
         for node in &self.lists.connections {
-            parts.push(self.connection_part(*node))?;
+            parts.push(self.connection_part(alloc, *node)?)?;
         }
         Ok(parts)
     }

@@ -6,8 +6,8 @@ ghost use Rattle.doc_tables.specs.Violations.{BreaksNoRule, IsLeast};
 ghost use Rattle.ssd_tree.specs.Elements.{IsMappingOf};
 ghost use Rattle.ssd_tree.specs.Indexed.{IsIndexed};
 ghost use Rattle.doc_tree.specs.declared.rule.SystemRule.TheVariants as r;
-ghost use Rattle.ssd_tree.specs.Rules.{has_transformation, BindingHasNoSource, ComponentHasNoSource, HasNoPath, HasNoSource, HasOtherType, MappingHasNoSource, is_of_type, IsFirstStructureViolation, IsIncomplete, IsIncompleteBinding, IsIncompleteComponent, IsIncompleteConnection, IsIncompleteConnector, IsIncompleteEntry, IsIncompletePart, IsIncompleteRoot, IsIncompleteSystem, IsOtherStructure, IsSoundIn, ReadsBelowSystem, system_count, ViolatesStructure};
-ghost use Rattle.doc_tables.specs.Documents.{has_version, is_transformation};
+ghost use Rattle.ssd_tree.specs.Rules.{BindingHasNoSource, ComponentHasNoSource, HasMisread, HasNoPath, HasNoSource, HasOtherType, MappingHasNoSource, is_of_type, IsFirstStructureViolation, IsIncomplete, IsIncompleteBinding, IsIncompleteComponent, IsIncompleteConnection, IsIncompleteConnector, IsIncompleteEntry, IsIncompletePart, IsIncompleteRoot, IsIncompleteSystem, IsMisreadChange, IsOtherStructure, IsSoundIn, ReadsBelowSystem, system_count, ViolatesStructure};
+ghost use Rattle.doc_tables.specs.Documents.{has_version};
 
 use crate::elements::{has_child, kind_of};
 use crate::indexed::IndexedTree;
@@ -15,6 +15,7 @@ use crate::sources::has_no_path;
 use doc_tables::{attribute, children, is_named, lacks, lacks_text, name, parent};
 use doc_tree::{SYSTEM_RULES, SystemRule, Tree};
 use std::alloc::{AllocError, Global};
+use transformations::{is_transformation, read_transformation};
 
 fn has_version(tree: &Tree, node: usize) -> bool
     ensures { result ≡ has_version tree.now node }
@@ -66,21 +67,26 @@ fn is_incomplete_root(tree: &Tree, node: usize) -> bool
     node == 0 && lacks_text(tree, node, "name")
 }
 
-fn is_transformation(name: &str) -> bool
-    ensures { result ≡ is_transformation name.now }
+// Whether an element is a transformation that doesn't read.
+fn is_misread(alloc: Global, tree: &Tree, node: usize) -> Result<bool, AllocError>
+    ensures { IfOk result (λ b. IsTrue b ↔ IsMisreadChange tree.now node) }
 {
-    name == "LinearTransformation"
-        || name == "BooleanMappingTransformation"
-        || name == "IntegerMappingTransformation"
-        || name == "EnumerationMappingTransformation"
+    if !is_transformation(name(tree, node)) {
+        return Ok(false);
+    }
+    Ok(read_transformation(alloc, tree, node)?.is_none())
 }
 
-fn has_transformation(tree: &Tree, node: usize) -> bool
-    ensures { result ≡ has_transformation tree.now node }
+// Whether one of the transformations of an element doesn't read.
+fn has_misread(alloc: Global, tree: &Tree, node: usize) -> Result<bool, AllocError>
+    ensures { IfOk result (λ b. IsTrue b ↔ HasMisread tree.now node) }
 {
-    children(tree, node)
-        .iter()
-        .any(|child| is_transformation(name(tree, *child)))
+    for child in children(tree, node) {
+        if is_misread(alloc, tree, *child)? {
+            return Ok(true);
+        }
+    }
+    Ok(false)
 }
 
 impl IndexedTree<'_> {
@@ -241,6 +247,18 @@ impl IndexedTree<'_> {
         self.is_too_long(node)
     }
 
+    // Whether the element is a connection with a transformation that doesn't read.
+    fn has_misread_change(&self, alloc: Global, node: usize) -> Result<bool, AllocError>
+        requires { IsIndexed self.now }
+        ensures { IfOk result (λ b. IsTrue b ↔
+            ViolatesStructure self.now.setting self.now.tree.now r.Transformation node) }
+    {
+        if !self.is_connection(node) {
+            return Ok(false);
+        }
+        has_misread(alloc, self.tree, node)
+    }
+
     /// Whether an element breaks a rule.
     fn breaks(&self, alloc: Global, rule: SystemRule, node: usize) -> Result<bool, AllocError>
         requires { IsIndexed self.now }
@@ -253,9 +271,7 @@ impl IndexedTree<'_> {
             SystemRule::NoSource => self.has_no_source(alloc, node),
             SystemRule::ModelExchange => Ok(self.is_model_exchange(node)),
             SystemRule::Incomplete => Ok(self.is_incomplete(node)),
-            SystemRule::Transformation => {
-                Ok(self.is_connection(node) && has_transformation(self.tree, node))
-            }
+            SystemRule::Transformation => self.has_misread_change(alloc, node),
             SystemRule::NoEnd => Ok(self.is_connection(node) && self.has_no_end(node)),
             SystemRule::WrongEnd => Ok(self.is_connection(node) && self.has_wrong_end(node)),
             SystemRule::TooManyComponents => self.passes_limits(node),

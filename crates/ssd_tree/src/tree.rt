@@ -1,3 +1,4 @@
+use parameter_values::Change;
 use sim_base::{Items, Text};
 
 /// What a connector is for (SSP 1.0, Connector: `kind`).
@@ -91,12 +92,14 @@ pub struct Connector {
     pub child: Option<TypeChild>,
 }
 
-/// A connection between two connectors, by their places in the list of the tree.
-#[derive(Clone, Copy, Debug, PartialEq, Eq)]
+/// A connection between two connectors, by their places in the list of the tree, and what it does to values.
+#[derive(Debug, Drop)]
 pub struct Connection {
     pub node: usize,
     pub start: usize,
     pub end: usize,
+    /// by the first of its transformations
+    pub change: Option<Change>,
 }
 
 /// Below which folder a file of parameters stands (SSP 1.0, `sourceBase`).

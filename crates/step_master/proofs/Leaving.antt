@@ -3,6 +3,7 @@ use Rattle.std.proofs.Common.{◌≡◌, ℕ, ◌≤◌, inl, inr, true, false, 
 use Rattle.std.specs.Prelude.{◌||◌, All, IfSome, MatchResult, if◌then◌else◌}
 use Rattle.std.specs.List.{list_any}
 use Rattle.std.specs.Result.{is_err, result_ok}
+use Rattle.std.proofs.lemmas.Bool.{both_ways}
 use Rattle.std.proofs.lemmas.List.{append-nil}
 use Rattle.std.proofs.lemmas.List.Elements.{All-nil, All-cons, All-head, All-tail}
 use Rattle.sim_base.specs.Causes.{HasCause, Rose}
@@ -26,7 +27,6 @@ use Rattle.fmi_calls.specs.Permission.{Permitted, can_be_freed, can_be_read, can
 use Rattle.fmi_calls.specs.Worth.{grade_of, is_valid}
 use Rattle.fmu_peer.proofs.CallerLemmas.{phase_from-append}
 use Rattle.fmi_calls.specs.declared.call.Kind.{Kind}
-use Rattle.fmi_calls.specs.declared.call.BadStatus.TheVariants.{Discard, Error, Fatal}
 use Rattle.fmi_calls.specs.KindFacts.{IsRunCall, same_kind}
 use Rattle.fmu_peer.specs.CloseAll.{Instance, IsLeft, Stands}
 use Rattle.fmu_peer.specs.Mode.{is_over}
@@ -186,9 +186,8 @@ bad_start shape phase a b d reply G.Misreply bad = inl refl
 bad_start shape phase a b d reply G.Refused bad = by (bad_status_of reply) refl
   where
     by : (status : BadStatus) → bad_status_of reply ≡ status → IsEnded (graded shape phase (C.Instantiate a b d) reply G.Refused).state
-    by B.Discard is = inl (ap (λ (s : BadStatus). state_after_bad phase.state (C.Instantiate a b d) s) is)
-    by B.Error is = inl (ap (λ (s : BadStatus). state_after_bad phase.state (C.Instantiate a b d) s) is)
     by B.Fatal is = inr (ap (λ (s : BadStatus). state_after_bad phase.state (C.Instantiate a b d) s) is)
+    by status is = inl (ap (λ (s : BadStatus). state_after_bad phase.state (C.Instantiate a b d) s) is)
 
 -- the phase behind it
 start_ended : (shape : Shape) (phase : Phase) (a b d : Bool) (e : Exchange) → e.call ≡ C.Instantiate a b d → (IsGood shape e → ⊥) → IsEnded (next_by shape phase e).state
@@ -203,8 +202,7 @@ start_ended shape phase a b d e is bad =
 
 freed_graded : (shape : Shape) (phase : Phase) (reply : Reply) (g : Grade) → (graded shape phase C.FreeInstance reply g).state ≡ P.Gone
 freed_graded shape phase reply G.Good = refl
-freed_graded shape phase reply G.Refused = refl
-freed_graded shape phase reply G.Misreply = refl
+freed_graded shape phase reply g = refl
 
 freed_ended : (shape : Shape) (phase : Phase) (e : Exchange) → e.call ≡ C.FreeInstance → IsEnded (next_by shape phase e).state
 freed_ended shape phase e is = subst (λ (c : Call). IsEnded (next_of shape phase c (result_ok e.result)).state) (sym is) (by e.result)
@@ -274,9 +272,6 @@ record IsClosable (shape : Shape) (p : Phase) (saved : Bool) : Type 0 where
   state : IsStanding p.state
   kept : p.slot.is_full ≡ true → IsKept shape p.state saved
 
-not_both : {b : Bool} → b ≡ false → b ≡ true → ⊥
-not_both h k = cc
-
 -- a call of the run behind the first
 abbrev IsMid : Call → Type 0
 IsMid (C.Instantiate event_mode early_return batches) = ⊥
@@ -313,14 +308,14 @@ when_refused : (b : Bool) → (if b then G.Refused else G.Misreply) ≡ G.Refuse
 when_refused true e = refl
 when_refused false e = absurd (cc)
 
-discarded : (shape : Shape) (reply : Reply) → grade_of shape C.Free reply ≡ G.Refused → bad_status_of reply ≡ Discard → reply ≡ R.Refused K.Free Discard
+discarded : (shape : Shape) (reply : Reply) → grade_of shape C.Free reply ≡ G.Refused → bad_status_of reply ≡ B.Discard → reply ≡ R.Refused K.Free B.Discard
 discarded shape (R.Done is_warning content) grade status = absurd (never_refused (is_valid shape C.Free content) grade)
 discarded shape (R.Refused kind status) grade is = ap₂ R.Refused (free_kind kind (when_refused (same_kind kind K.Free) grade)) is
 
 module _ (shape : Shape) (p : Phase) (saved : Bool) (h : IsClosable shape p saved) where
   -- in another state than Step Mode it keeps none
   none_in : (s : InstanceState) → p.state ≡ s → is_over s ≡ false → (s ≡ P.Step → ⊥) → p.slot.is_full ≡ true → ⊥
-  none_in s at living other full = elim (h.kept full) [ inl over ↦ not_both living (ap is_over (sym at) ∙ over) | inr kept ↦ other (sym at ∙ kept.1) ]
+  none_in s at living other full = elim (h.kept full) [ inl over ↦ both_ways _ living (ap is_over (sym at) ∙ over) | inr kept ↦ other (sym at ∙ kept.1) ]
 
   good_closable : (call : Call) (reply : Reply) → grade_of shape call reply ≡ G.Good → IsMid call → Permitted shape p call → IsClosable shape (entered shape (counted p call) call reply) (saved_by shape call (Ok reply) saved)
   good_closable (C.Instantiate event_mode early_return batches) reply good m may = absurd m
@@ -329,7 +324,7 @@ module _ (shape : Shape) (p : Phase) (saved : Bool) (h : IsClosable shape p save
     running_freed : (b : Bool) → can_be_freed (if b then P.Event else P.Step) false ≡ true
     running_freed true = refl
     running_freed false = refl
-  good_closable C.EnterEvent reply good m may = record { state = inr refl; kept = λ full. absurd (not_both may.2 full) }
+  good_closable C.EnterEvent reply good m may = record { state = inr refl; kept = λ full. absurd (both_ways _ may.2 full) }
   good_closable C.EnterStep reply good m may = record { state = inr refl; kept = λ full. absurd (none_in P.Event may.0 refl (λ e. cc) full) }
   good_closable C.Save reply good m may = record { state = h.state; kept = λ full. inr (ap (λ (g : Grade). if_good g saved) good, may.0, may.1) }
   good_closable C.Free reply good m may = record { state = h.state; kept = λ full. absurd (cc) }
@@ -357,10 +352,10 @@ module _ (shape : Shape) (p : Phase) (saved : Bool) (h : IsClosable shape p save
     refused : (reply : Reply) (status : BadStatus) → bad_status_of reply ≡ status → grade_of shape call reply ≡ G.Refused →
         IsClosable shape (graded shape (counted p call) call reply G.Refused) (saved_by shape call (Ok reply) saved)
         ⊎ (IsGivenUp (record { call = call; result = Ok reply }) × IsStanding (graded shape (counted p call) call reply G.Refused).state)
-    refused reply Error is g = inl (dead _ _ (ap (state_after_bad p.state call) is ∙ after_mid p.state call Error m))
-    refused reply Fatal is g = inl (lost _ _ (ap (state_after_bad p.state call) is ∙ after_mid p.state call Fatal m))
-    refused reply Discard is g =
-        let at : state_after_bad p.state call (bad_status_of reply) ≡ p.state = ap (state_after_bad p.state call) is ∙ after_mid p.state call Discard m in
+    refused reply B.Error is g = inl (dead _ _ (ap (state_after_bad p.state call) is ∙ after_mid p.state call B.Error m))
+    refused reply B.Fatal is g = inl (lost _ _ (ap (state_after_bad p.state call) is ∙ after_mid p.state call B.Fatal m))
+    refused reply B.Discard is g =
+        let at : state_after_bad p.state call (bad_status_of reply) ≡ p.state = ap (state_after_bad p.state call) is ∙ after_mid p.state call B.Discard m in
         let standing : IsStanding (state_after_bad p.state call (bad_status_of reply)) = subst IsStanding (sym at) h.state in
         elim (free_or_not call) [
           | inl free ↦ inr (
@@ -381,7 +376,7 @@ module _ (shape : Shape) (p : Phase) (saved : Bool) (h : IsClosable shape p save
         ⊎ (IsGivenUp (record { call = call; result = Ok reply }) × IsStanding (graded shape (counted p call) call reply g).state)
     by_grade reply G.Good is may = inl (good_closable call reply is m may)
     by_grade reply G.Refused is may = refused reply (bad_status_of reply) refl is
-    by_grade reply G.Misreply is may = inl (dead _ _ (after_mid p.state call Error m))
+    by_grade reply G.Misreply is may = inl (dead _ _ (after_mid p.state call B.Error m))
 
     next_closable : (result : Result Reply PeerFault) → Permitted shape p call → Behind call result
     next_closable (Err fault) may = inl (lost _ _ refl)
@@ -430,8 +425,7 @@ module _ (shape : Shape) where
 
   good_or_not : (g : Grade) → (g ≡ G.Good) ⊎ (g ≡ G.Good → ⊥)
   good_or_not G.Good = inl refl
-  good_or_not G.Refused = inr (λ h. absurd (cc))
-  good_or_not G.Misreply = inr (λ h. absurd (cc))
+  good_or_not g = inr (λ h. absurd (cc))
 
   -- an Instantiate that is good makes it
   made : (a b d : Bool) (result : Result Reply PeerFault) → (IsClosable shape (next_of shape (fresh shape) (C.Instantiate a b d) (result_ok result)) false)

@@ -1,21 +1,17 @@
 -- The lives of peers, from their seats through a log to their closing.
-use Rattle.std.proofs.Common.{◌≡◌, ℕ, zero, suc, ◌+◌, ◌==◌, Bool, true, false, List, [], ◌∷◌, ◌++◌, Some, refl, sym, ap, ap₂, ◌∙◌, subst, append_assoc, arith, length, map, take, drop, Result}
+use Rattle.std.proofs.Common.{◌≡◌, ℕ, zero, suc, ◌+◌, ◌==◌, Bool, true, false, List, [], ◌∷◌, ◌++◌, Some, refl, sym, ap, ap₂, ◌∙◌, subst, append_assoc, arith, length, map, take, drop}
 use Rattle.std.specs.Prelude.{All, ◌||◌, ◌&&◌, if◌then◌else◌}
 use Rattle.std.specs.List.{slice_get}
 use Rattle.std.proofs.lemmas.List.{append-nil, map-append, take-append-drop, take-map, drop-map}
 use Rattle.std.proofs.lemmas.List.Elements.{All-nil, All-cons, All-head, All-tail, All-append, All-take, All-drop}
 use Rattle.std.proofs.lemmas.List.Folds.{list_any-append}
-use Rattle.std.proofs.lemmas.Bool.{and_from, or_from, or_parts}
+use Rattle.std.proofs.lemmas.Bool.{and_from, both_ways, or_from, or_parts}
 use Rattle.std.proofs.Math.Bool.{and-or_distrib_right, or-true, or_assoc, or_comm}
 use Rattle.std.proofs.lemmas.Option.{same_Some}
 use Rattle.value_types.specs.declared.shape.Shape.{Shape}
-use Rattle.fmi_calls.specs.declared.call.Call.{Call}
-use Rattle.fmi_calls.specs.declared.call.Call.TheVariants as C
-use Rattle.fmi_calls.specs.declared.call.Reply.{Reply}
 use Rattle.fmi_calls.specs.declared.phase.Phase.{Phase}
 use Rattle.fmi_calls.specs.KindFacts.{IsClosingCall, IsRunCall}
 use Rattle.fmu_peer.specs.declared.peer.Exchange.{Exchange}
-use Rattle.fmu_peer.specs.declared.peer.PeerFault.{PeerFault}
 use Rattle.fmu_peer.specs.Close.{any_fatal, closing_calls}
 use Rattle.fmu_peer.specs.CloseAll.{ClosesOne, Closing, InOrder, Instance, afters, befores, is_source_lost, member_of}
 use Rattle.fmu_peer.specs.Lean.{IsLean}
@@ -26,10 +22,11 @@ use Rattle.fmu_peer.proofs.CallerLemmas.{same_number, spared_from, spares_later}
 use Rattle.step_master.specs.Lives.{ClosesInTurn, ComeInTurn, IsLife, Life, any_fatal_closing, any_fatal_run, member_in, shape_in, talk_in}
 use Rattle.fmu_peer.specs.Talk.{calls_in}
 use Rattle.slot_calls.specs.Log.{Has, Sent, Talks, part}
-use Rattle.slot_calls.specs.SavedStates.{IsParted, LeavesState, Talk, saved_after, saved_by}
+use Rattle.slot_calls.specs.SavedStates.{IsParted, LeavesState, Talk, saved_after}
 use Rattle.course_laws.specs.Laws.{IsStateless}
+use Rattle.course_laws.proofs.Unsaved.{never_held}
 use Rattle.step_master.proofs.Leaving.{counts_of, leaves_one, talk_is, talks_legal, talks_phase, turn_all, turn_comes, turn_talks}
-use Rattle.step_master.proofs.Parted.{Closes, all_ending, is_parted, turn_closes}
+use Rattle.step_master.proofs.Parted.{Closes, all_closing, is_parted, turn_closes}
 use Rattle.slot_calls.proofs.CallerLemmas.{talks_fixed, talks_on, replies_of}
 use Rattle.step_master.proofs.SeatLemmas.{IsSeat}
 
@@ -63,31 +60,12 @@ row_at i (s ∷ ss) (k ∷ ks) (suc n) row is = let r = row_at (i + 1) ss ks n r
 row_at i [] ks n row is = absurd (cc)
 row_at i (s ∷ ss) [] n row is = absurd (cc)
 
-pub seats_are : (i : ℕ) (ss : List Instance) (ks : List Closing) → length ks ≡ length ss → map (λ (r : Row). r.seat) (rows_from i ss ks) ≡ ss
-seats_are i [] ks e = refl
-seats_are i (s ∷ ss) [] e = absurd (omega (arith, e))
-seats_are i (s ∷ ss) (k ∷ ks) e = ap (λ (l : List Instance). s ∷ l) (seats_are (i + 1) ss ks (omega (arith, e)))
-
-pub closings_are : (i : ℕ) (ss : List Instance) (ks : List Closing) → length ks ≡ length ss → map (λ (r : Row). r.closing) (rows_from i ss ks) ≡ ks
-closings_are i [] [] e = refl
-closings_are i [] (k ∷ ks) e = absurd (omega (arith, e))
-closings_are i (s ∷ ss) [] e = absurd (omega (arith, e))
-closings_are i (s ∷ ss) (k ∷ ks) e = ap (λ (l : List Closing). k ∷ l) (closings_are (i + 1) ss ks (omega (arith, e)))
-
--- ---- no saved states
-
--- a call that saves none leaves none
-leaves_none : (shape : Shape) (c : Call) (r : Result Reply PeerFault) → IsStateless c → saved_by shape c r false ≡ false
-leaves_none shape C.Save r plain = absurd plain
-leaves_none shape C.Free r plain = refl
-leaves_none shape c r plain = refl
-
--- so it is behind exchanges of such calls
-never_saved : (shape : Shape) (es : List Exchange) → All IsStateless (calls_in es) → saved_after shape false es ≡ false
-never_saved shape [] plain = refl
-never_saved shape (e ∷ es) plain =
-    ap (λ (b : Bool). saved_after shape b es) (leaves_none shape e.call e.result (All-head IsStateless e.call (calls_in es) plain))
-    ∙ never_saved shape es (All-tail IsStateless e.call (calls_in es) plain)
+-- side by side they are the two lists
+pub sides_are : (i : ℕ) (ss : List Instance) (ks : List Closing) → length ks ≡ length ss → (map (λ (r : Row). r.seat) (rows_from i ss ks) ≡ ss) × (map (λ (r : Row). r.closing) (rows_from i ss ks) ≡ ks)
+sides_are i [] [] e = (refl, refl)
+sides_are i [] (k ∷ ks) e = absurd (omega (arith, e))
+sides_are i (s ∷ ss) [] e = absurd (omega (arith, e))
+sides_are i (s ∷ ss) (k ∷ ks) e = let rest = sides_are (i + 1) ss ks (omega (arith, e)) in (ap (λ (l : List Instance). s ∷ l) rest.0, ap (λ (l : List Closing). k ∷ l) rest.1)
 
 -- ---- one row
 
@@ -120,11 +98,6 @@ module _ (talks : List Talk) (log : List Sent) (row : Row) (r : IsRow talks log 
   all_talks : Talks row.seat.view (talk_in life) life.new
   all_talks = talks_on row.seat.view life.run mid life.closing life.new r.has.talks closing_talks
 
-  closing_all : (b saved : Bool) → All IsClosingCall (if b then [] else closing_calls saved)
-  closing_all true saved = All-nil IsClosingCall
-  closing_all false false = all_ending IsClosingCall refl refl
-  closing_all false true = All-cons IsClosingCall C.Free (closing_calls false) refl (all_ending IsClosingCall refl refl)
-
   saved_is : row.closing.old.has_saved ≡ saved_after row.seat.view.fixed.shape false life.run
   saved_is = r.has.saved ∙ ap (λ (b : Bool). saved_after row.seat.view.fixed.shape b life.run) r.new.unsaved
 
@@ -143,7 +116,7 @@ module _ (talks : List Talk) (log : List Sent) (row : Row) (r : IsRow talks log 
     fixed = talks_fixed row.seat.view (talk_in life) life.new all_talks;
     run_calls = r.runs;
     lean = r.lean;
-    closing_calls = turn_all IsClosingCall _ mid life.closing life.new (closing_all r.spared row.closing.old.has_saved) r.one.turn;
+    closing_calls = turn_all IsClosingCall _ mid life.closing life.new (all_closing IsClosingCall r.spared row.closing.old.has_saved (λ saved. refl) refl refl) r.one.turn;
     turn = in_turn;
     legal = subst (λ (p : Phase). T.LegalFrom row.seat.view.fixed.shape p (talk_in life)) r.new.first (talks_legal row.seat.view (talk_in life) life.new all_talks);
     phase = talks_phase row.seat.view (talk_in life) life.new all_talks ∙ ap (λ (p : Phase). T.phase_from row.seat.view.fixed.shape p (talk_in life)) r.new.first;
@@ -152,20 +125,12 @@ module _ (talks : List Talk) (log : List Sent) (row : Row) (r : IsRow talks log 
     replies = λ m s machine state. replies_of m row.seat.view (talk_in life) life.new all_talks s machine state;
   }
 
-  closing_plain : (b saved : Bool) → saved ≡ false → All IsStateless (if b then [] else closing_calls saved)
-  closing_plain true saved none = All-nil IsStateless
-  closing_plain false false none = all_ending IsStateless tt tt
-  closing_plain false true none = absurd (cc)
-
   -- where no call of its run saves a state, goes back to one or frees one, none of its closing does
   pub row_plain : All IsStateless (calls_in life.run) → All IsStateless (calls_in (talk_in life))
   row_plain plain =
       subst (All IsStateless) (sym (map-append (λ (e : Exchange). e.call) life.run life.closing))
       (All-append IsStateless (calls_in life.run) (calls_in life.closing) plain
-      (turn_all IsStateless _ mid life.closing life.new (closing_plain r.spared row.closing.old.has_saved (saved_is ∙ never_saved row.seat.view.fixed.shape life.run plain)) r.one.turn))
-
-  pub same_source : row.closing.old.source ≡ life.source
-  same_source = r.has.source
+      (turn_all IsStateless _ mid life.closing life.new (all_closing IsStateless r.spared row.closing.old.has_saved (λ saved. absurd (both_ways _ (saved_is ∙ never_held row.seat.view.fixed.shape life.run plain) saved)) tt tt) r.one.turn))
 
   pub same_shape : row.closing.old.view.fixed.shape ≡ shape_in life
   same_shape = ap (λ (f : Fixed). f.shape) mid_fixed
@@ -186,7 +151,7 @@ module _ (talks : List Talk) (log : List Sent) (row : Row) (r : IsRow talks log 
   -- its run and its closing are told apart by the talks of all
   pub row_parted : IsParted talks life.run life.closing
   row_parted = is_parted talks row.seat.view.fixed.shape life.run life.closing r.runs r.leaves
-      (subst (λ (b : Bool). Closes b life.closing) (r.has.saved ∙ ap (λ (b : Bool). saved_after row.seat.view.fixed.shape b life.run) r.new.unsaved) (turn_closes r.spared row.closing.old.has_saved mid life.closing life.new r.one.turn))
+      (subst (λ (b : Bool). Closes b life.closing) saved_is (turn_closes r.spared row.closing.old.has_saved mid life.closing life.new r.one.turn))
 
 -- ---- the siblings
 
@@ -204,7 +169,7 @@ module _ (talks : List Talk) (log : List Sent) where
   spared_same source [] rs all = All-nil (IsSpared source)
   spared_same source (row ∷ rows) rs all =
       All-cons (IsSpared source) (member_in (life_of log row)) (map member_in (lives_of rows))
-      (λ same. All-head (IsSpared source) (member_of row.closing) (map member_of (closings_of rows)) all (same_source talks log row (All-head (IsRow talks log) row rows rs) ∙ same))
+      (λ same. All-head (IsSpared source) (member_of row.closing) (map member_of (closings_of rows)) all ((All-head (IsRow talks log) row rows rs).has.source ∙ same))
       (spared_same source rows (All-tail (IsRow talks log) row rows rs) (All-tail (IsSpared source) (member_of row.closing) (map member_of (closings_of rows)) all))
 
   later_same : (rows : List Row) → AreRows rows → SparesLater (map member_of (closings_of rows)) → SparesLater (map member_in (lives_of rows))
@@ -212,7 +177,7 @@ module _ (talks : List Talk) (log : List Sent) where
   later_same (row ∷ rows) rs s =
       let r = All-head (IsRow talks log) row rows rs in
       let rest = All-tail (IsRow talks log) row rows rs in (
-        (λ fatal. subst (λ (n : ℕ). All (IsSpared n) (map member_in (lives_of rows))) (same_source talks log row r)
+        (λ fatal. subst (λ (n : ℕ). All (IsSpared n) (map member_in (lives_of rows))) r.has.source
             (spared_same row.closing.old.source rows rest (s.0 (ap (λ (x : Shape). any_fatal x row.closing.sent) (same_shape talks log row r) ∙ fatal)))),
         later_same rows rest s.1,
       )
@@ -229,7 +194,7 @@ module _ (talks : List Talk) (log : List Sent) where
   lost_before source [] rs = refl
   lost_before source (row ∷ rows) rs =
       let r = All-head (IsRow talks log) row rows rs in
-      ap₂ (λ (a b : Bool). a || b) (ap₂ (λ (f : Bool) (n : ℕ). f && n == source) (old_fatal talks log row r) (same_source talks log row r)) (lost_before source rows (All-tail (IsRow talks log) row rows rs))
+      ap₂ (λ (a b : Bool). a || b) (ap₂ (λ (f : Bool) (n : ℕ). f && n == source) (old_fatal talks log row r) r.has.source) (lost_before source rows (All-tail (IsRow talks log) row rows rs))
 
   lost_after : (source : ℕ) (rows : List Row) → AreRows rows → is_source_lost source (afters (closings_of rows)) ≡ (any_fatal_run source (lives_of rows) || any_fatal_closing source (lives_of rows))
   lost_after source [] rs = refl
@@ -239,7 +204,7 @@ module _ (talks : List Talk) (log : List Sent) where
       let a = any_fatal (shape_in l) l.run in
       let b = any_fatal (shape_in l) l.closing in
       ap₂ (λ (x y : Bool). x || y)
-      (ap₂ (λ (f : Bool) (n : ℕ). f && n == source) (new_fatal talks log row r) (r.one.source ∙ same_source talks log row r) ∙ and-or_distrib_right a b (l.source == source))
+      (ap₂ (λ (f : Bool) (n : ℕ). f && n == source) (new_fatal talks log row r) (r.one.source ∙ r.has.source) ∙ and-or_distrib_right a b (l.source == source))
       (lost_after source rows (All-tail (IsRow talks log) row rows rs))
       ∙ or_mix (a && l.source == source) (b && l.source == source) (any_fatal_run source (lives_of rows)) (any_fatal_closing source (lives_of rows))
 

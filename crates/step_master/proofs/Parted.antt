@@ -23,8 +23,13 @@ pub data Closes (saved : Bool) (sent : List Exchange) : Type 0 where
   Plainly : All IsEnding (calls_in sent) → Closes saved sent
   Freeing : saved ≡ true → (e : Exchange) (rest : List Exchange) → sent ≡ e ∷ rest → e.call ≡ C.Free → All IsEnding (calls_in rest) → Closes saved sent
 
-pub all_ending : (P : Call → Type 0) → P C.Terminate → P C.FreeInstance → All P (closing_calls false)
+all_ending : (P : Call → Type 0) → P C.Terminate → P C.FreeInstance → All P (closing_calls false)
 all_ending P terminate free = All-cons P C.Terminate (C.FreeInstance ∷ []) terminate (All-cons P C.FreeInstance [] free (All-nil P))
+
+pub all_closing : (P : Call → Type 0) (spared saved : Bool) → (saved ≡ true → P C.Free) → P C.Terminate → P C.FreeInstance → All P (if spared then [] else closing_calls saved)
+all_closing P true saved frees terminate free = All-nil P
+all_closing P false true frees terminate free = All-cons P C.Free (closing_calls false) (frees refl) (all_ending P terminate free)
+all_closing P false false frees terminate free = all_ending P terminate free
 
 pub turn_closes : (spared saved : Bool) (v : View) (sent : List Exchange) (w : View) → SendsInTurn (if spared then [] else closing_calls saved) v sent w → Closes saved sent
 turn_closes true saved v sent w turn = Plainly (turn_all IsEnding [] v sent w (All-nil IsEnding) turn)

@@ -16,7 +16,7 @@ use Rattle.fmi_calls.specs.declared.call.Reply.{Reply}
 use Rattle.fmu_peer.specs.declared.peer.Exchange.{Exchange}
 use Rattle.fmu_peer.specs.declared.peer.PeerFault.{PeerFault}
 use Rattle.fmu_peer.specs.declared.ended.Why.{Why}
-use Rattle.fmu_peer.specs.declared.ended.Why.TheVariants.{Refused, Misreply, Link}
+use Rattle.fmu_peer.specs.declared.ended.Why.TheVariants.{Link}
 use Rattle.fmu_peer.specs.Answer.{IsFirstBad, IsLink, IsWhy}
 use Rattle.fmu_peer.specs.CloseAll.{ClosesOne, Closing, InOrder, Instance, afters, befores, is_source_lost}
 use Rattle.fmu_peer.specs.Talk as T
@@ -43,7 +43,7 @@ use Rattle.step_master.specs.Lives.{AreGood, AreLives, EndsLives, IsLeastBad, Is
 use Rattle.step_master.specs.Master.{Closes}
 use Rattle.step_master.specs.Seats.{seated, views_of}
 use Rattle.step_master.specs.System.{ArePeersOf}
-use Rattle.step_master.proofs.Living.{IsRow, Row, at_turn, closings_are, is_life, life_of, row_at, row_closed, row_parted, row_plain, row_siblings, rows_from, seats_are, turn_open}
+use Rattle.step_master.proofs.Living.{IsRow, Row, at_turn, is_life, life_of, row_at, row_closed, row_parted, row_plain, row_siblings, rows_from, sides_are, turn_open}
 use Rattle.step_master.proofs.Leaving.{closed_over}
 use Rattle.step_master.proofs.Parted.{closing_steps, turn_closes}
 use Rattle.step_master.proofs.SeatLemmas.{IsSeat, are_seats, got, length_seated, seated_shapes, sources_seated, unmapped, views_seated}
@@ -79,7 +79,7 @@ module _ (system : System) (olds : List View) (peers : ArePeersOf system olds) (
   talks = talks_in lives
 
   len_rows : length rows ≡ length system.components
-  len_rows = sym (length-map rows (λ (r : Row). r.seat)) ∙ ap length (seats_are 0 seats closings beside) ∙ len_seats
+  len_rows = sym (length-map rows (λ (r : Row). r.seat)) ∙ ap length (sides_are 0 seats closings beside).0 ∙ len_seats
 
   row_here : (k : ℕ) → k < length system.components → (row : Row) × (slice_get rows k ≡ Some row)
   row_here k w = got rows k (let e = len_rows in omega (arith, e, w))
@@ -99,7 +99,7 @@ module _ (system : System) (olds : List View) (peers : ArePeersOf system olds) (
   ends_as : EndAs system log talks
   ends_as = record {
     shapes = map-map (λ (t : Talk). t.shape) (λ (l : Life). record { shape = shape_in l; exchanges = talk_in l }) lives ∙ map-map shape_in (life_of log) rows
-        ∙ sym (map-map (λ (i : Instance). i.view.fixed.shape) (λ (r : Row). r.seat) rows) ∙ ap shapes (seats_are 0 seats closings beside) ∙ seated_shapes system olds peers;
+        ∙ sym (map-map (λ (i : Instance). i.view.fixed.shape) (λ (r : Row). r.seat) rows) ∙ ap shapes (sides_are 0 seats closings beside).0 ∙ seated_shapes system olds peers;
     steps = λ k d w.
         let x = row_here k w in
         let r = row_at 0 seats closings k x.0 x.1 in
@@ -138,7 +138,7 @@ module _ (system : System) (olds : List View) (peers : ArePeersOf system olds) (
   all_rows = λ k d w. row_is k (get_or rows k d) (slice_get-get_or rows k d w)
 
   order : InOrder [] (map (λ (r : Row). r.closing) rows)
-  order = subst (InOrder []) (sym (closings_are 0 seats closings beside)) closes.closes.order
+  order = subst (InOrder []) (sym (sides_are 0 seats closings beside).1) closes.closes.order
 
   run_is : (k : ℕ) (life : Life) → slice_get lives k ≡ Some life → (row : Row) × (slice_get rows k ≡ Some row) × (life ≡ life_of log row) × (row.number ≡ k)
   run_is k life at =
@@ -174,15 +174,15 @@ module _ (system : System) (olds : List View) (peers : ArePeersOf system olds) (
   are_lives = record {
     olds_are = map-map (λ (l : Life). l.old) (life_of log) rows
         ∙ sym (map-map (λ (i : Instance). i.view) (λ (r : Row). r.seat) rows)
-        ∙ ap views_of (seats_are 0 seats closings beside) ∙ views_seated system.components olds peers.len;
+        ∙ ap views_of (sides_are 0 seats closings beside).0 ∙ views_seated system.components olds peers.len;
     news_are = map-map (λ (l : Life). l.new) (life_of log) rows
         ∙ sym (map-map (λ (c : Closing). c.new.view) (λ (r : Row). r.closing) rows)
-        ∙ ap (map (λ (c : Closing). c.new.view)) (closings_are 0 seats closings beside)
+        ∙ ap (map (λ (c : Closing). c.new.view)) (sides_are 0 seats closings beside).1
         ∙ sym (map-map (λ (i : Instance). i.view) (λ (c : Closing). c.new) closings)
         ∙ ap views_of (sym closes.closes.new_is) ∙ sym closes.news_are;
     sources_are = map-map (λ (l : Life). l.source) (life_of log) rows
         ∙ sym (map-map (λ (i : Instance). i.source) (λ (r : Row). r.seat) rows)
-        ∙ ap (map (λ (i : Instance). i.source)) (seats_are 0 seats closings beside) ∙ sources_seated system.components olds peers.len;
+        ∙ ap (map (λ (i : Instance). i.source)) (sides_are 0 seats closings beside).0 ∙ sources_seated system.components olds peers.len;
     runs_are = run_at;
     each = All-map IsLife (life_of log) rows (λ k d w. is_life talks log (get_or rows k d) (all_rows k d w));
     siblings = row_siblings talks log rows all_rows order;
@@ -208,9 +208,8 @@ module _ (system : System) (olds : List View) (peers : ArePeersOf system olds) (
       subst IsGoodLife (sym x.2) (run_by T.AllGood k x.0 x.1 (λ s. good k s))
 
   link_lost : (shape : Shape) (why : Why) (e : Exchange) → IsLink why → IsWhy shape why e → is_unanswered e ≡ true
-  link_lost shape (Refused call status) e l w = absurd l
-  link_lost shape (Misreply call reply) e l w = absurd l
   link_lost shape (Link call fault) e l w = ap (λ (r : Result Reply PeerFault). is_err r) w.1
+  link_lost shape why e l w = absurd l
 
   -- an answer that was lost has raised the count
   lost_rose : (life : Life) (why : Why) → IsLife life → IsFirstBad (shape_in life) why life.run → IsLink why → Rose life.old.faults life.new.faults

@@ -165,5 +165,6 @@ EndsLives E.Stop lives = AreGood lives
 EndsLives (E.Asked point) lives = AreGood lives
 EndsLives (E.EventLimit point) lives = AreGood lives
 EndsLives (E.FixedStep component at end) lives = AreGood lives
+EndsLives (E.Range lost at) lives = AreGood lives
 EndsLives (E.Bad bad) lives = IsLeastBad bad lives
 EndsLives E.WriteFault lives = AreGood lives ⊎ ((bad : BadAnswer) × IsLeastBad bad lives)

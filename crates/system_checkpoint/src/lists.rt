@@ -84,7 +84,7 @@ pub(crate) fn take_all_times(
     let mut values = Vec::new(alloc);
     let mut done = 0;
     for port in ports {
-        match take_times_of(port.role, &bytes[done..]) {
+        match take_times_of(&port.role, &bytes[done..]) {
             Taken::Got { value, length } => {
                 values.push(value)?;
                 done += length;
@@ -100,8 +100,8 @@ pub(crate) fn take_all_times(
 }
 
 // Whether a port is a fixed Clock whose FMU is asked for its interval and its shift.
-fn is_asked(role: Role) -> bool
-    ensures { result ≡ is_asked role }
+fn is_asked(role: &Role) -> bool
+    ensures { result ≡ is_asked role.now }
 {
     match role {
         Role::TimeClock {
@@ -124,8 +124,8 @@ fn is_asked(role: Role) -> bool
 }
 
 // Takes what a port in this role has of them.
-fn take_times_of(role: Role, bytes: &[u8]) -> Taken<Option<ClockTimes>>
-    ensures { Takes (TimesIf (is_asked role)) bytes.now result }
+fn take_times_of(role: &Role, bytes: &[u8]) -> Taken<Option<ClockTimes>>
+    ensures { Takes (TimesIf (is_asked role.now)) bytes.now result }
 {
     take_times_if(is_asked(role), bytes)
 }
@@ -165,7 +165,7 @@ pub(crate) fn take_armings(
     let mut values = Vec::new(alloc);
     let mut done = 0;
     for port in ports {
-        match take_arming_of(low, high, port.role, &bytes[done..]) {
+        match take_arming_of(low, high, &port.role, &bytes[done..]) {
             Taken::Got { value, length } => {
                 values.push(value)?;
                 done += length;
@@ -181,8 +181,8 @@ pub(crate) fn take_armings(
 }
 
 // Whether a port is a countdown or changing Clock.
-fn may_be_armed(role: Role) -> bool
-    ensures { result ≡ may_be_armed role }
+fn may_be_armed(role: &Role) -> bool
+    ensures { result ≡ may_be_armed role.now }
 {
     match role {
         Role::TimeClock {
@@ -205,10 +205,10 @@ fn may_be_armed(role: Role) -> bool
 }
 
 // Takes what a port in this role has of it.
-fn take_arming_of(low: u64, high: u64, role: Role, bytes: &[u8]) -> Taken<Arming>
+fn take_arming_of(low: u64, high: u64, role: &Role, bytes: &[u8]) -> Taken<Arming>
     requires some { low ≤ high }
     requires near { high ≤ 2 ^ 62 }
-    ensures { Takes (ArmingIf low high (may_be_armed role)) bytes.now result }
+    ensures { Takes (ArmingIf low high (may_be_armed role.now)) bytes.now result }
 {
     take_arming_if(low, high, may_be_armed(role), bytes)
 }

@@ -13,6 +13,8 @@ use Rattle.system_model.specs.declared.system.Port.{Port}
 use Rattle.system_model.specs.Ports.{numbers, source_of, is_output_role}
 use Rattle.system_model.specs.Needs.{Needs, ByFeed, ByClock, ByDependency, NeedsInitially, InitiallyByFeed, InitiallyByDependency, DependsOn, is_unclocked_at}
 use Rattle.system_model.specs.Shapes.{IsSoundShape, HasFittingStart, HasNames, NamesClocks}
+use Rattle.system_model.specs.Ports.{feed_of}
+use Rattle.system_model.specs.declared.system.Feed.{Feed}
 use Rattle.system_model.specs.Sound.{IsSound, IsRole, IsUnder, IsFeed, HasSoundComponents, HasSoundPorts}
 use Rattle.system_model.specs.Example.{variable_c, variable_u, variable_y, sampling_shape, sampling_component, port_c, port_u, port_y, sampling_system}
 use Rattle.system_model.proofs.EarlyLemmas.{none_early}
@@ -155,9 +157,9 @@ pub example_sound : IsSound sampling_system
 example_sound = record {
   components = sound_components;
   ports = sound_ports;
-  feeds = λ p q port at from. at_port (λ x. source_of x.role ≡ Some q → IsSomeAnd (slice_get sampling_system.ports q) (λ (source : Port). IsFeed source x))
+  feeds = λ p port feed at from. at_port (λ x. feed_of x.role ≡ Some feed → IsSomeAnd (slice_get sampling_system.ports feed.from.0) (λ (source : Port). IsFeed feed source x))
       (λ e. absurd (none_some _ e))
-      (λ e. subst (λ k. IsSomeAnd (slice_get sampling_system.ports k) (λ (source : Port). IsFeed source port_u)) (same_Some _ _ e) (record { output = refl; types = (refl, λ x h. h) }))
+      (λ e. subst (λ (f : Feed). IsSomeAnd (slice_get sampling_system.ports f.from.0) (λ (source : Port). IsFeed f source port_u)) (same_Some _ _ e) (record { output = refl; same_class = refl; changes = λ k d lt. absurd (omega (arith, lt)); range = λ none x h. h }))
       (λ e. absurd (none_some _ e)) p port at from;
   instant_order = order_by (λ p. p < 3) (Needs sampling_system) (0 ∷ 2 ∷ 1 ∷ []) each only (
     λ m. no_clocks 0 m,

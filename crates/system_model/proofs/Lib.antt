@@ -6,3 +6,5 @@ mod SoundLemmas
 mod OrderLemmas
 mod OutputsSound
 mod ExampleSound
+mod CarriedLemmas
+mod CarriedRows

@@ -18,7 +18,7 @@ use Rattle.system_model.specs.declared.system.Role.{Role}
 use Rattle.system_model.specs.declared.system.Role.TheVariants.{Output}
 use Rattle.system_model.specs.declared.system.Port.{Port}
 use Rattle.system_model.specs.declared.system.System.{System}
-use Rattle.system_model.specs.Ports.{numbers, label_of, labels_from, source_of, is_clock_role}
+use Rattle.system_model.specs.Ports.{feed_of, numbers, label_of, labels_from, source_of, is_clock_role}
 use Rattle.system_model.specs.Needs.{Needs, ByFeed, ByClock, ByDependency, NeedsInitially, InitiallyByFeed, InitiallyByDependency, DependsOn, is_unclocked, is_unclocked_at}
 use Rattle.system_model.specs.Shapes.{IsSoundShape, NamesClocks}
 use Rattle.system_model.specs.Sound.{IsSound, IsPort, IsRole, IsUnder, HasSoundComponents, HasSoundPorts}
@@ -197,7 +197,7 @@ pub outputs_sound : (system : System) → IsOfOutputs system → IsSound system
 outputs_sound system is = record {
   components = sound_components system is;
   ports = sound_ports system is;
-  feeds = λ p q port at from. absurd (no_feed port.role q (plain system is p port at).0 from);
+  feeds = λ p port feed at from. absurd (none_some feed (sym (ap feed_of (plain system is p port at).0) ∙ from));
   instant_order = order_by_number (length system.ports) (λ p. p < length system.ports) (Needs system) (numbers system.instant_order) is.instant_order (λ p h. h) (λ p h. h) (needs_none system is);
   initial_order = order_by_number (length system.ports) (λ p. is_unclocked_at system.ports p ≡ true) (NeedsInitially system) (numbers system.initial_order) is.initial_order
       (unclocked_within system.ports) (within_unclocked system is) (needs_none_initially system is);

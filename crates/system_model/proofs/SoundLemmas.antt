@@ -1,11 +1,15 @@
 -- What a sound system tells of each of its ports: for callers' proofs.
 use Rattle.std.proofs.Common.{◌≡◌, ℕ, zero, suc, ◌+◌, Bool, true, false, List, [], ◌∷◌, refl, sym, ◌∙◌, ap, subst, arith, Contains}
-use Rattle.std.specs.Prelude.{Some, None, IsSomeAnd, is_some, slice_get}
+use Rattle.std.specs.Prelude.{All, Option, Some, None, IsSomeAnd, is_some, slice_get}
 use Rattle.std.specs.Option.{option_map, option_map_or}
 use Rattle.std.specs.List.{AllZip}
 use Rattle.std.proofs.lemmas.Option.{none-some as none_some, same_Some, slice_get-map}
 use Rattle.sim_base.specs.declared.numbers.PortId.{PortId}
-use Rattle.value_types.specs.Joint.{class_of}
+use Rattle.value_types.specs.Joint.{IsWithin, class_of}
+use Rattle.parameter_values.specs.declared.change.Change.{Change}
+use Rattle.parameter_values.specs.declared.change.Change.TheVariants as change
+use Rattle.system_model.specs.Carried.{IsOn}
+use Rattle.system_model.specs.declared.system.Feed.{Feed}
 use Rattle.value_types.specs.Shape.{variable_at, is_at, is_clock, is_clock_type}
 use Rattle.value_types.specs.declared.values.PortType.{PortType}
 use Rattle.value_types.specs.declared.values.PortType.TheVariants as T
@@ -19,7 +23,7 @@ use Rattle.system_model.specs.declared.system.Role.{Role}
 use Rattle.system_model.specs.declared.system.Role.TheVariants.{Input, Output, ClockInput, ClockOutput, TimeClock}
 use Rattle.system_model.specs.declared.system.Port.{Port}
 use Rattle.system_model.specs.declared.system.System.{System}
-use Rattle.system_model.specs.Ports.{label_of, labels_from, numbers, is_output_role, is_clock_role, source_of}
+use Rattle.system_model.specs.Ports.{label_of, labels_from, numbers, is_output_role, is_clock_role, feed_of, source_of}
 use Rattle.system_model.specs.Shapes.{IsSoundShape, IsSoundClock, NamesClocks}
 use Rattle.system_model.specs.Sound.{IsSound, IsPort, IsRole, IsFeed, IsUnder}
 use Rattle.system_model.proofs.Lists.{all_at, at_contains, contains_at, found_under, filtered_partner, true_false}
@@ -154,12 +158,49 @@ clock_class T.Enumeration = refl
 pub record Source (system : System) (port : Port) (q : ℕ) : Type 0 where
   pub source : Port
   pub is : slice_get system.ports q ≡ Some source
-  pub feed : IsFeed source port
+  pub by : Feed
+  pub by_is : feed_of port.role ≡ Some by
+  pub feed : IsFeed by source port
   pub clock : is_clock_role source.role ≡ is_clock_role port.role
+
+record FeedFrom (role : Role) (q : ℕ) : Type 0 where
+  feed : Feed
+  is : feed_of role ≡ Some feed
+  from : feed.from.0 ≡ q
+
+feed_from : (role : Role) (q : ℕ) (feed : Option Feed) → feed_of role ≡ feed → option_map (λ (f : Feed). f.from.0) feed ≡ Some q → FeedFrom role q
+feed_from role q None is e = absurd (none_some _ e)
+feed_from role q (Some feed) is e = record { feed = feed; is = is; from = same_Some _ _ e }
+
+feed_at : (role : Role) (q : ℕ) → source_of role ≡ Some q → FeedFrom role q
+feed_at (Input feed) q e = feed_from (Input feed) q feed refl e
+feed_at Output q e = absurd (none_some _ e)
+feed_at (ClockInput feed) q e = feed_from (ClockInput feed) q feed refl e
+feed_at ClockOutput q e = absurd (none_some _ e)
+feed_at (TimeClock timing) q e = absurd (none_some _ e)
+
+clock_integer : class.Clock ≡ class.Integer → ⊥
+clock_integer e = absurd (cc)
+
+clock_boolean : class.Clock ≡ class.Boolean → ⊥
+clock_boolean e = absurd (cc)
+
+-- no change is one of Clocks
+changes_none : (cs : List Change) → All (IsOn class.Clock) cs → cs ≡ []
+changes_none [] h = refl
+changes_none (change.Linear factor offset ∷ cs) h = absurd (clock_integer (h 0 (change.Linear factor offset) (omega arith)))
+changes_none (change.Integers pairs ∷ cs) h = absurd (clock_integer (h 0 (change.Integers pairs) (omega arith)))
+changes_none (change.Booleans pairs ∷ cs) h = absurd (clock_boolean (h 0 (change.Booleans pairs) (omega arith)))
+
+-- where it feeds a Clock, each value of the source is one of the input's type
+pub within_of_clock : (feed : Feed) (source target : Port) → IsFeed feed source target → target.kind ≡ T.Clock → IsWithin source.kind target.kind
+within_of_clock feed source target f e =
+    f.range (changes_none feed.changes (subst (λ (k : PortType). All (IsOn (class_of k)) feed.changes) e f.changes))
 
 pub source_at : (system : System) → IsSound system → (p q : ℕ) (port : Port) → slice_get system.ports p ≡ Some port → source_of port.role ≡ Some q → Source system port q
 source_at system sound p q port is from =
-    (elim (slice_get system.ports q) as (λ o. slice_get system.ports q ≡ o → IsSomeAnd o (λ (source : Port). IsFeed source port) → Source system port q) [
+    let f = feed_at port.role q from in
+    (elim (slice_get system.ports q) as (λ o. slice_get system.ports q ≡ o → IsSomeAnd o (λ (source : Port). IsFeed f.feed source port) → Source system port q) [
       | None ↦ λ e h. absurd h
       | Some source ↦ λ e h.
           let there = place_of system sound q source e in
@@ -167,10 +208,12 @@ source_at system sound p q port is from =
           record {
             source = source;
             is = e;
+            by = f.feed;
+            by_is = f.is;
             feed = h;
-            clock = sym (clock_type_of system q source there) ∙ sym (clock_class source.kind) ∙ ap is_clock_class h.types.0 ∙ clock_class port.kind ∙ clock_type_of system p port here;
+            clock = sym (clock_type_of system q source there) ∙ sym (clock_class source.kind) ∙ ap is_clock_class h.same_class ∙ clock_class port.kind ∙ clock_type_of system p port here;
           }
-    ]) refl (sound.feeds p q port is from)
+    ]) refl (subst (λ n. IsSomeAnd (slice_get system.ports n) (λ (source : Port). IsFeed f.feed source port)) f.from (sound.feeds p port f.feed is f.is))
 
 -- ---- Clocks of ports
 

@@ -98,7 +98,7 @@ port_u = record {
   name = codes "u";
   kind = T.Int32;
   reference = 2;
-  role = Input (Some (record { from = record { 0 = 2 } }));
+  role = Input (Some (record { from = record { 0 = 2 }; changes = [] }));
   clocks = record { 0 = 0 } ∷ [];
 }
 

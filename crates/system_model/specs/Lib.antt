@@ -10,3 +10,4 @@ pub mod Outputs
 pub mod Example
 pub mod Plans
 pub mod Values
+pub mod Carried

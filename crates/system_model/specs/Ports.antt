@@ -18,7 +18,15 @@ numbers ports = map (λ (p : PortId). p.0) ports
 
 -- ---- roles
 
--- the output that feeds a connected input
+-- what feeds a connected input
+abbrev pub feed_of : Role → Option Feed
+feed_of (Input feed) = feed
+feed_of Output = None
+feed_of (ClockInput feed) = feed
+feed_of ClockOutput = None
+feed_of (TimeClock timing) = None
+
+-- the output that feeds it
 abbrev pub source_of : Role → Option ℕ
 source_of (Input feed) = option_map (λ (f : Feed). f.from.0) feed
 source_of Output = None

@@ -1,11 +1,10 @@
 -- Sound systems (SSP 1.0: a system, its components and connections; FMI 3.0, 2.4: their model descriptions): what flattening makes, and what each run asks for.
-use Rattle.std.specs.Prelude.{◌≡◌, ℕ, ◌<◌, ◌≤◌, ◌^◌, true, false, length, map, Some, IsSomeAnd, All}
+use Rattle.std.specs.Prelude.{◌≡◌, ℕ, ◌<◌, ◌≤◌, ◌^◌, true, false, [], length, map, Some, IsSomeAnd, All}
 use Rattle.std.specs.List.{AllZip, slice_get}
 use Rattle.sim_base.specs.declared.numbers.PortId.{PortId}
 use Rattle.clock_fraction.specs.Counts.{IsCounts}
 use Rattle.clock_fraction.specs.declared.fraction.Fraction.{Fraction}
-use Rattle.value_types.specs.Joint.{Joins}
-use Rattle.value_types.specs.declared.joint.Joint.TheVariants.{Fit}
+use Rattle.value_types.specs.Joint.{IsWithin, class_of}
 use Rattle.value_types.specs.Shape.{is_clock, timing_at, variable_at}
 use Rattle.value_types.specs.declared.shape.Causality.TheVariants as c
 use Rattle.value_types.specs.declared.shape.IntervalVariability.TheVariants as v
@@ -18,8 +17,10 @@ use Rattle.system_model.specs.declared.system.Timing.TheVariants.{Periodic, Answ
 use Rattle.system_model.specs.declared.system.Role.{Role}
 use Rattle.system_model.specs.declared.system.Role.TheVariants.{Input, Output, ClockInput, ClockOutput, TimeClock}
 use Rattle.system_model.specs.declared.system.Port.{Port}
+use Rattle.system_model.specs.declared.system.Feed.{Feed}
 use Rattle.system_model.specs.declared.system.System.{System}
-use Rattle.system_model.specs.Ports.{numbers, source_of, is_output_role, label_of, labels_from}
+use Rattle.system_model.specs.Carried.{IsOn}
+use Rattle.system_model.specs.Ports.{numbers, feed_of, is_output_role, label_of, labels_from}
 use Rattle.system_model.specs.Needs.{Needs, NeedsInitially, is_unclocked_at}
 use Rattle.system_model.specs.EarlyReturn.{early_count}
 use Rattle.system_model.specs.Orders.{IsOrder}
@@ -97,16 +98,19 @@ pub record HasSoundPorts (system : System) : Type 0 where
 
 -- ---- connections
 
--- an input's source is an output, and each of its values is one of the input's type
-pub record IsFeed (source target : Port) : Type 0 where
+-- an input's source is an output of its class, and each change on the way is for that class; without any, each value of the source is one of the input's type
+pub record IsFeed (feed : Feed) (source target : Port) : Type 0 where
   pub output : is_output_role source.role ≡ true
-  pub types : Joins source.kind target.kind Fit
+  pub same_class : class_of source.kind ≡ class_of target.kind
+  pub changes : All (IsOn (class_of target.kind)) feed.changes
+  pub range : feed.changes ≡ [] → IsWithin source.kind target.kind
 
 -- each connected input has its source
 abbrev pub HasSoundFeeds : System → Type 0
 HasSoundFeeds system =
-    (p q : ℕ) (port : Port) → slice_get system.ports p ≡ Some port → source_of port.role ≡ Some q →
-    IsSomeAnd (slice_get system.ports q) (λ (source : Port). IsFeed source port)
+    (p : ℕ) (port : Port) (feed : Feed) → slice_get system.ports p ≡ Some port →
+    feed_of port.role ≡ Some feed →
+    IsSomeAnd (slice_get system.ports feed.from.0) (λ (source : Port). IsFeed feed source port)
 
 -- ---- the whole
 

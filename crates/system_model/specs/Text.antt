@@ -10,7 +10,7 @@ use Rattle.system_model.specs.declared.system.Port.{Port}
 use Rattle.system_model.specs.declared.system.System.{System}
 use Rattle.system_model.specs.declared.plan.Plan.{Plan}
 use Rattle.system_model.specs.declared.plan.EndKind.{EndKind}
-use Rattle.system_model.specs.declared.plan.EndKind.TheVariants.{Stop, Asked, Limit, Fixed, Fault}
+use Rattle.system_model.specs.declared.plan.EndKind.TheVariants.{Stop, Asked, Limit, Fixed, Range, Fault}
 
 -- the values of the ports, where they have one, in the n-th instant at the point t
 pub record Instant : Type 0 where
@@ -57,6 +57,7 @@ kind_text Stop = codes "stop"
 kind_text Asked = codes "asked"
 kind_text Limit = codes "limit"
 kind_text Fixed = codes "fixed"
+kind_text Range = codes "range"
 kind_text Fault = codes "fault"
 
 abbrev pub end_line : EndKind → ℕ → List ℕ

@@ -1,4 +1,8 @@
+ghost use Rattle.std.specs.Prelude.{◌≡◌, [], IfOk};
+
+use parameter_values::Change;
 use sim_base::{CompId, Items, PortId, SourceId, Text};
+use std::alloc::{AllocError, Global};
 use value_types::{PortType, Shape};
 
 /// A component: one FMU instance under its full name.
@@ -9,10 +13,38 @@ pub struct Component {
     pub shape: Shape,
 }
 
-/// Where an input has its value from: a path of connections leads to it from this output.
-#[derive(Clone, Copy, Debug, PartialEq, Eq)]
+/// Where an input has its value from: a path of connections leads to it from this output, and makes these changes of its
+/// values, one after another.
+#[derive(Debug, Drop)]
 pub struct Feed {
     pub from: PortId,
+    pub changes: Items<Change>,
+}
+
+impl Feed {
+    /// A feed from this port along a path without changes. It takes no memory.
+    pub fn plain(alloc: Global, from: PortId) -> Feed
+        ensures { result ≡ record { from = from; changes = [] } }
+    {
+        Feed {
+            from,
+            changes: Items::from_vec(Vec::new(alloc)),
+        }
+    }
+
+    /// The same feed with lists of its own.
+    pub fn copy(&self, alloc: Global) -> Result<Feed, AllocError>
+        ensures { IfOk result (λ feed. feed ≡ self.now) }
+    {
+        let mut changes = Vec::with_capacity(alloc, self.changes.len())?;
+        for change in self.changes.as_slice() {
+            changes.push(change.copy(alloc)?)?;
+        }
+        Ok(Feed {
+            from: self.from,
+            changes: Items::from_vec(changes),
+        })
+    }
 }
 
 /// When a time-based Clock ticks, as far as its description says it. Interval and shift are counts.
@@ -30,7 +62,7 @@ pub enum Timing {
 }
 
 /// What a port is, and where its value comes from.
-#[derive(Clone, Copy, Debug, PartialEq, Eq)]
+#[derive(Debug, Drop)]
 pub enum Role {
     /// an input that is no Clock
     Input { feed: Option<Feed> },

@@ -152,7 +152,7 @@ static REFUSED_ELEMENTS: [(&str, usize, u32); 34] = [
         35,
     ),
     (
-        r#"<System name="a"><Connectors><Connector name="u" kind="input"/><Connector name="y" kind="output"/></Connectors><Connections><Connection startConnector="u" endConnector="y"><LinearTransformation/></Connection></Connections></System>"#,
+        r#"<System name="a"><Connectors><Connector name="u" kind="input"/><Connector name="y" kind="output"/></Connectors><Connections><Connection startConnector="u" endConnector="y"><LinearTransformation factor="x"/></Connection></Connections></System>"#,
         8,
         36,
     ),

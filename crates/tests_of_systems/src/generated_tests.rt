@@ -23,7 +23,7 @@ fn told_components(alloc: Global, made: &GeneratedSystem) -> Result<String, Allo
 
 fn told_port(alloc: Global, port: &Port) -> Result<String, AllocError> {
     let (component, name, reference) = (port.component.0, port.name.as_str(), port.reference);
-    match port.role {
+    match &port.role {
         Role::Input { feed: Some(feed) } => {
             format!(in alloc; "b{component} {name} {reference} from {}\n", feed.from.0)
         }

@@ -1,6 +1,8 @@
-//! Tests of the crates of systems: orders and loops, paths of connections, orders of ports, generated systems.
+//! Tests of the crates of systems: orders and loops, paths of connections and the values that come along them, orders of ports, generated systems.
 #![tactic(auto)]
 
+#[cfg(test)]
+mod carrying_tests;
 #[cfg(test)]
 mod generated_tests;
 #[cfg(test)]

@@ -140,9 +140,9 @@ fn port(
     })
 }
 
-fn fed_input(by: u32) -> Role {
+fn fed_input(alloc: Global, by: u32) -> Role {
     Role::Input {
-        feed: Some(Feed { from: PortId(by) }),
+        feed: Some(Feed::plain(alloc, PortId(by))),
     }
 }
 
@@ -195,7 +195,7 @@ fn ports_of_ring(alloc: Global) -> Result<Vec<Port>, AllocError> {
             of,
             2,
             int,
-            fed_input(if of == 0 { 3 } else { 1 }),
+            fed_input(alloc, if of == 0 { 3 } else { 1 }),
             &[],
         )?)?;
         ports.push(port(alloc, of, 3, int, Role::Output, &[])?)?;

@@ -130,11 +130,9 @@ fn components(alloc: Global) -> Result<Vec<Component>, AllocError> {
     Ok(vec![in alloc; first, sampler(alloc, "b", hundredth, of_second(0, 1))?]?)
 }
 
-fn ports(alloc: Global) -> Result<Vec<Port>, AllocError> {
+fn ports(alloc: Global, feed: Feed) -> Result<Vec<Port>, AllocError> {
     let unconnected = Role::Input { feed: None };
-    let connected = Role::Input {
-        feed: Some(Feed { from: PortId(2) }),
-    };
+    let connected = Role::Input { feed: Some(feed) };
     let mut ports = Vec::new(alloc);
     ports.push(port(alloc, 0, "c", 1, clock(1000, 10), None)?)?;
     ports.push(port(alloc, 0, "u", 2, unconnected, Some(0))?)?;
@@ -145,13 +143,28 @@ fn ports(alloc: Global) -> Result<Vec<Port>, AllocError> {
     Ok(ports)
 }
 
-fn samplers(alloc: Global) -> Result<System, AllocError> {
-    let ports = ports(alloc)?;
+// The samplers, of which the second is fed so.
+fn samplers(alloc: Global, feed: Feed) -> Result<System, AllocError> {
+    let ports = ports(alloc, feed)?;
     Ok(System {
         components: Items::from_vec(components(alloc)?),
         ports: Items::from_vec(ports),
         instant_order: Items::from_vec(Vec::new(alloc)),
         initial_order: Items::from_vec(Vec::new(alloc)),
+    })
+}
+
+// A feed by the thirtyfold of the first's output.
+fn thirtyfold(alloc: Global) -> Result<Feed, AllocError> {
+    let change = parameter_values::Change::Linear {
+        factor: 30,
+        offset: 0,
+    };
+    let mut changes = Vec::with_capacity(alloc, 1)?;
+    changes.push(change)?;
+    Ok(Feed {
+        from: PortId(2),
+        changes: Items::from_vec(changes),
     })
 }
 
@@ -248,6 +261,31 @@ static ORDERS: [Change; 9] = [
     (8, 23, "", "end fault 0\n", (0, 0)),
 ];
 
+// Of the samplers whose second takes the thirtyfold.
+static SCALED: [Change; 3] = [
+    (
+        12,
+        23,
+        "at 10 0\n0 1\n2 7\n3 1\n4 210\n5 7\n",
+        "end range 20\n",
+        (0, 0),
+    ),
+    (
+        12,
+        23,
+        "at 10 0\n0 1\n2 7\n3 1\n4 7\n5 7\n",
+        "end range 20\n",
+        (16, 3),
+    ),
+    (
+        12,
+        23,
+        "at 10 0\n0 1\n2 7\n3 1\n5 7\n",
+        "end range 20\n",
+        (12, 3),
+    ),
+];
+
 // The place of the first change of which something else is told.
 fn first_wrong(alloc: Global, system: &System, changes: &[Change]) -> Option<usize>
     requires { HasLimitedClocks system.now }
@@ -262,9 +300,17 @@ fn first_wrong(alloc: Global, system: &System, changes: &[Change]) -> Option<usi
 
 #[test]
 fn the_first_line_that_breaks_a_rule_is_told(rt: HostRuntime) -> Result<(), Fail> {
-    let system = samplers(rt.alloc())?;
+    let system = samplers(rt.alloc(), Feed::plain(rt.alloc(), PortId(2)))?;
     assert!(rt; keeps_limits(&system));
     assert_eq!(rt; first_wrong(rt.alloc(), &system, &VALUES), None);
     assert_eq!(rt; first_wrong(rt.alloc(), &system, &ORDERS), None);
+    Ok(())
+}
+
+#[test]
+fn an_input_has_what_its_path_makes(rt: HostRuntime) -> Result<(), Fail> {
+    let system = samplers(rt.alloc(), thirtyfold(rt.alloc())?)?;
+    assert!(rt; keeps_limits(&system));
+    assert_eq!(rt; first_wrong(rt.alloc(), &system, &SCALED), None);
     Ok(())
 }

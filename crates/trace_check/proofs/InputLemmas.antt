@@ -4,9 +4,13 @@ use Rattle.std.specs.Prelude.{is_some, slice_get, Contains, ◌||◌}
 use Rattle.std.specs.List.{list_any}
 use Rattle.std.proofs.lemmas.List.{take_all, take_more}
 use Rattle.std.proofs.lemmas.List.Elements.{Contains-append_left, Contains-append_right, Contains-push, Contains-push_cases}
-use Rattle.std.proofs.lemmas.Option.{slice_get_within}
+use Rattle.std.proofs.lemmas.Option.{none-some as none_some, slice_get_within}
 use Rattle.sim_base.specs.declared.numbers.PortId.{PortId}
+use Rattle.value_types.specs.declared.values.PortType.{PortType}
+use Rattle.system_model.specs.Carried.{comes_to}
 use Rattle.system_model.specs.declared.system.Port.{Port}
+use Rattle.system_model.specs.declared.system.Role.{Role}
+use Rattle.system_model.specs.declared.system.Role.TheVariants.{Input, Output, ClockInput, ClockOutput, TimeClock}
 use Rattle.system_model.specs.declared.system.System.{System}
 use Rattle.system_model.specs.Ports.{source_of}
 use Rattle.system_model.specs.Values.{value, is_active}
@@ -133,12 +137,22 @@ pub data Listed (steady : List ℕ) (lists : List (List ℕ)) (told : List Trace
   Always : Contains steady p → Listed steady lists told p
   AtTick : (line c : ℕ) → slice_get told line ≡ Some (Value c (pos 1)) → Contains (get_or lists c []) p → Listed steady lists told p
 
+-- what something comes to has a source
+has_source : (role : Role) (kind : PortType) (values : List (Option ℤ)) (comes : Option ℤ) → comes_to role kind values ≡ Some comes → is_some (source_of role) ≡ true
+has_source (Input None) kind values comes e = absurd (none_some comes e)
+has_source (Input (Some feed)) kind values comes e = refl
+has_source Output kind values comes e = absurd (none_some comes e)
+has_source (ClockInput None) kind values comes e = absurd (none_some comes e)
+has_source (ClockInput (Some feed)) kind values comes e = refl
+has_source ClockOutput kind values comes e = absurd (none_some comes e)
+has_source (TimeClock timing) kind values comes e = absurd (none_some comes e)
+
 pub listed : (system : System) (steady : List ℕ) (lists : List (List ℕ)) (told : List TraceLine) (values : List (Option ℤ)) (p : ℕ) → HoldInputs system.ports (length system.ports) steady lists →
     told ≡ told_values_from 0 values → length values ≡ length system.ports → DiffersFromSource system values p → Listed steady lists told p
 listed system steady lists told values p hold same size differs =
     let port = differs.port in
     let low = slice_get_within system.ports p port differs.at in
-    let fed : is_some (source_of port.role) ≡ true = ap is_some differs.fed in
+    let fed : is_some (source_of port.role) ≡ true = has_source port.role port.kind values differs.comes differs.fed in
     (elim (is_steady port) as (λ b. is_steady port ≡ b → (b || list_any (λ (c : PortId). is_active (value values c.0)) port.clocks) ≡ true → Listed steady lists told p) [
       | true ↦ λ is present. Always (hold.always p port low (record { at = differs.at; fed = fed; kind = is }))
       | false ↦ λ is present.

@@ -16,7 +16,7 @@ pub data BreaksIn (system : System) (t : Trace) (last : Option (ℕ × ℕ)) (i 
   -- 2: it stands out of order (FMI 3.0, 2.1.5: super-dense time)
   OutOfOrder : offset ≡ 0 → rule ≡ 2 → (IsInOrder t.start t.stop last i.t i.n → ⊥) →
       BreaksIn system t last i offset rule
-  -- 3: the value of an input isn't its source's (SSP 1.0: connections)
+  -- 3: the value of an input isn't what its path makes of its source's (SSP 1.0: connections)
   OffSource : (p : ℕ) → offset ≡ lines_to i.values p → rule ≡ 3 →
       DiffersFromSource system i.values p → BreaksIn system t last i offset rule
   -- 4: a constant Clock doesn't tick where it is due (FMI 3.0, 2.2.8: Clocks)

@@ -52,7 +52,7 @@ pub record BeginsWithValues (lines : List TraceLine) (ports : ℕ) (values : Lis
 
 -- ---- the first of them that breaks a rule
 
--- so many lines behind the `at` line stands that of an input that hasn't its source's value
+-- so many lines behind the `at` line stands that of an input that hasn't what comes to it from its source
 pub record IsOtherValue (system : System) (values : List (Option ℤ)) (lines : ℕ) : Type 0 where
   pub input : ℕ
   pub differs : DiffersFromSource system values input

@@ -28,8 +28,8 @@ impl FedInputs {
         let mut steady = Vec::new(alloc);
         let mut at_ticks = Lists::new(alloc, system.ports.len())?;
         for (p, port) in system.ports.as_slice().iter().enumerate() {
-            if source_of(port.role).is_some() {
-                if is_clock(port.role) || port.clocks.len() == 0 {
+            if source_of(&port.role).is_some() {
+                if is_clock(&port.role) || port.clocks.len() == 0 {
                     steady.push(p)?;
                 } else {
                     await_ticks(&mut at_ticks, port.clocks.as_slice(), p)?;

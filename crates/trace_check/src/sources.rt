@@ -1,9 +1,8 @@
 ghost use Rattle.std.specs.Prelude.{◌≡◌, ◌≤◌, ◌<◌, ◌↔◌, ℕ, None, Contains, IfNone, IfSome, IsTrue, length};
 ghost use Rattle.std.specs.List.{list_any};
-ghost use Rattle.std.specs.Option.{option_map};
 ghost use Rattle.sim_base.specs.declared.numbers.PortId.{PortId};
+ghost use Rattle.system_model.specs.Carried.{comes_to, fed};
 ghost use Rattle.system_model.specs.Ports.{is_clock_role, source_of};
-ghost use Rattle.system_model.specs.declared.system.Feed.{Feed};
 ghost use Rattle.trace_check.specs.Instants.{lines_to};
 ghost use Rattle.system_model.specs.Values.{value, is_active, is_present};
 ghost use Rattle.trace_reading.specs.Form.{told_values_from};
@@ -13,8 +12,9 @@ ghost use Rattle.trace_check.specs.Values.{DiffersFromSource};
 
 use crate::inputs::FedInputs;
 use sim_base::PortId;
-use system_model::{Feed, Port, Role, System};
+use system_model::{Feed, Port, Role, System, carried};
 use trace_reading::TraceLine;
+use value_types::PortType;
 
 /// The value of a port, or none.
 pub(crate) fn value(values: &[Option<i128>], p: usize) -> Option<i128>
@@ -36,8 +36,8 @@ pub(crate) fn is_active(value: Option<i128>) -> bool
     }
 }
 
-pub(crate) fn is_clock(role: Role) -> bool
-    ensures { result ≡ is_clock_role role }
+pub(crate) fn is_clock(role: &Role) -> bool
+    ensures { result ≡ is_clock_role role.now }
 {
     match role {
         Role::Input { .. } | Role::Output => false,
@@ -45,22 +45,44 @@ pub(crate) fn is_clock(role: Role) -> bool
     }
 }
 
-fn place_from(feed: Option<Feed>) -> Option<usize>
-    ensures { result ≡ option_map (λ (f : Feed). f.from.0) feed }
+// What comes to an input of a type from its source, along its path.
+fn fed(kind: PortType, feed: &Feed, values: &[Option<i128>]) -> Option<i128>
+    ensures { result ≡ fed kind feed.now values.now }
 {
-    match feed {
-        Some(feed) => Some(feed.from.0 as usize),
+    match value(values, feed.from.0 as usize) {
+        Some(value) => carried(feed.changes.as_slice(), kind, value),
         None => None,
     }
 }
 
-// The port that feeds a port of this role.
-pub(crate) fn source_of(role: Role) -> Option<usize>
-    ensures { result ≡ source_of role }
+// What comes to a port that is fed.
+fn comes_to(port: &Port, values: &[Option<i128>]) -> Option<Option<i128>>
+    ensures { result ≡ comes_to port.now.role port.now.kind values.now }
+{
+    match &port.role {
+        Role::Input { feed: Some(feed) } => Some(fed(port.kind, feed, values)),
+        Role::ClockInput { feed: Some(feed) } => Some(value(values, feed.from.0 as usize)),
+        Role::Input { feed: None }
+        | Role::ClockInput { feed: None }
+        | Role::Output
+        | Role::ClockOutput
+        | Role::TimeClock { .. } => None,
+    }
+}
+
+/// The port that feeds a port of this role.
+pub(crate) fn source_of(role: &Role) -> Option<usize>
+    ensures { result ≡ source_of role.now }
 {
     match role {
-        Role::Input { feed } | Role::ClockInput { feed } => place_from(feed),
-        Role::Output | Role::ClockOutput | Role::TimeClock { .. } => None,
+        Role::Input { feed: Some(feed) } | Role::ClockInput { feed: Some(feed) } => {
+            Some(feed.from.0 as usize)
+        }
+        Role::Input { feed: None }
+        | Role::ClockInput { feed: None }
+        | Role::Output
+        | Role::ClockOutput
+        | Role::TimeClock { .. } => None,
     }
 }
 
@@ -68,7 +90,7 @@ pub(crate) fn source_of(role: Role) -> Option<usize>
 fn is_present(port: &Port, values: &[Option<i128>]) -> bool
     ensures { result ≡ is_present port.now values.now }
 {
-    is_clock(port.role) || port.clocks.len() == 0 || some_active(port.clocks.as_slice(), values)
+    is_clock(&port.role) || port.clocks.len() == 0 || some_active(port.clocks.as_slice(), values)
 }
 
 fn some_active(clocks: &[PortId], values: &[Option<i128>]) -> bool
@@ -79,20 +101,20 @@ fn some_active(clocks: &[PortId], values: &[Option<i128>]) -> bool
         .any(|clock| is_active(value(values, clock.0 as usize)))
 }
 
-// Whether a port is an input that is present and hasn't its source's value.
+// Whether a port is an input that is present and hasn't what comes to it from its source.
 fn differs(system: &System, values: &[Option<i128>], p: usize) -> bool
     ensures { IsTrue result ↔ DiffersFromSource system.now values.now p }
 {
     let Some(port) = system.ports.get(p) else {
         return false;
     };
-    match source_of(port.role) {
-        Some(source) => is_present(port, values) && value(values, p) != value(values, source),
+    match comes_to(port, values) {
+        Some(comes) => is_present(port, values) && value(values, p) != comes,
         None => false,
     }
 }
 
-/// An input that is present and has no value, where its source has one. These lines tell the values. Of the inputs with
+/// An input that is present and has no value, where one comes to it from its source. These lines tell the values. Of the inputs with
 /// Clocks it looks at those of which a Clock is active.
 pub(crate) fn first_without_value(
     system: &System,
@@ -120,7 +142,7 @@ pub(crate) fn first_without_value(
     None
 }
 
-// Of these ports the first input that is present and has no value, where its source has one.
+// Of these ports the first input that is present and has no value, where one comes to it from its source.
 fn first_lacking(system: &System, ports: &[usize], values: &[Option<i128>]) -> Option<usize>
     ensures found { IfSome result (λ p. DiffersFromSource system.now values.now p ×
         (value values.now p ≡ None)) }
@@ -135,8 +157,8 @@ fn first_lacking(system: &System, ports: &[usize], values: &[Option<i128>]) -> O
     None
 }
 
-/// Of the inputs that have a value, are present and haven't their source's the first: how many lines its line stands
-/// behind the `at` line. These lines tell the values.
+/// Of the inputs that have a value, are present and haven't what comes to them from their source the first: how many lines its
+/// line stands behind the `at` line. These lines tell the values.
 pub(crate) fn first_other_value(
     system: &System,
     told: &[TraceLine],

@@ -121,7 +121,7 @@ module _ (s u : System) (same : HaveSameParts s u) (t : Trace) where
   clock_there p interval shift c = record { port = c.port; at = port_there p c.port c.at; role = c.role; constant = constant_there c.port c.constant }
 
   differs_there : (values : List (Option ℤ)) (p : ℕ) → DiffersFromSource s values p → DiffersFromSource u values p
-  differs_there values p d = record { port = d.port; source = d.source; at = port_there p d.port d.at; fed = d.fed; present = d.present; differs = d.differs }
+  differs_there values p d = record { port = d.port; comes = d.comes; at = port_there p d.port d.at; fed = d.fed; present = d.present; differs = d.differs }
 
   told_there : ports_told s ≡ ports_told u
   told_there = ap (λ (components : List Component). map (port_told components) s.ports) same.0 ∙ ap (λ (ports : List Port). map (port_told u.components) ports) same.1

@@ -15,8 +15,10 @@ use Rattle.run_model.specs.Run.{Every, Run, Situation, each, each_from}
 use Rattle.system_model.specs.Values.{value}
 use Rattle.run_model.specs.Equations.{Solves}
 use Rattle.run_model.specs.Initial as I
-use Rattle.run_model.specs.AfterInstant.{Again, AtLimit, Done, Ended, Following, any_update, asks_for_end, following, goes_again, updated, written}
-use Rattle.run_model.specs.Stepping.{AtStop, ByStep, Departs, Ends, GoesOn, IsStep, Next, WhereAsked, WhereFixed, departing, stepped}
+use Rattle.std.specs.List.{list_any}
+use Rattle.run_model.specs.Equations.{is_bad}
+use Rattle.run_model.specs.AfterInstant.{Again, AtLimit, Done, Ended, Following, OutOfRange, any_update, asks_for_end, following, goes_again, updated, written}
+use Rattle.run_model.specs.Stepping.{AtStop, ByStep, Departs, Ends, EndsBefore, GoesOn, IsStep, Next, WhereAsked, WhereFixed, departing, stepped}
 use Rattle.run_model.specs.Trace.{Leads, LeadsBy, instant_of}
 use Rattle.run_model.specs.Machines.{AreFitting}
 use Rattle.run_model.specs.Behaved.{AtFirst, Departed, Onward, Reached}
@@ -75,25 +77,26 @@ again_below n limit below other = by (λ same. true_false (sym (eq-eqb (suc n) l
     by : (suc n ≡ limit → ⊥) → suc n < limit
     by apart = omega (arith, below, apart)
 
-no_limit : (ends again at_limit : Bool) → (if ends then Ended else (if again then (if at_limit then AtLimit else Again) else Done)) ≡ Again → at_limit ≡ false
-no_limit true again at_limit e = absurd (cc e)
-no_limit false true true e = absurd (cc e)
-no_limit false true false e = refl
-no_limit false false at_limit e = absurd (cc e)
+no_limit : (bad ends again at_limit : Bool) → (if bad then OutOfRange else (if ends then Ended else (if again then (if at_limit then AtLimit else Again) else Done))) ≡ Again → at_limit ≡ false
+no_limit true ends again at_limit e = absurd (cc e)
+no_limit false true again at_limit e = absurd (cc e)
+no_limit false false true true e = absurd (cc e)
+no_limit false false true false e = refl
+no_limit false false false at_limit e = absurd (cc e)
 
 module _ (r : Run) (well : RunsWell r) (fitting : SolvedByFitting) where
   size_of : {X : Type 0} (states : List MachineState) → length states ≡ length r.system.components → (f : ℕ → Component → Machine → MachineState → X) → length (each r states f) ≡ length r.system.components
   size_of states size f = each_length f 0 r.system.components r.machines states well.count size
 
-  pub first_stands : (W : List (Option ℤ)) → I.SolvesInitially r W → Stands r (I.beginning r W)
-  first_stands W solves =
+  pub first_stands : (W : List (Option ℤ)) → I.SolvesInitially r W → list_any (I.is_bad_initially r.system W) r.system.ports ≡ false → Stands r (I.beginning r W)
+  first_stands W solves kept =
       let first : length (I.first_states r) ≡ length r.system.components = length-map r.machines (λ (m : Machine). m.first) ∙ well.count in
       let two = size_of (I.first_states r) first _ in
       let three = size_of (I.instantiated r) two _ in
       let four = size_of (I.configured r) three _ in
       let five = size_of (I.initializing r) four _ in
       record {
-        reached = AtFirst (I.beginning r W) W solves refl;
+        reached = AtFirst (I.beginning r W) W solves kept refl;
         states = size_of (I.initialized r W) five (λ i c m s. after m s C.ExitInitialization);
         types = none_fits r.system.ports;
         periods = first_periods r (I.initialized r W);
@@ -122,7 +125,7 @@ module _ (r : Run) (well : RunsWell r) (fitting : SolvedByFitting) where
 
     goes_again_to : following r s V ≡ Again → Reached r (updated r s V) → Goes r s.t s.n (updated r s V)
     goes_again_to again reached =
-        let other : (suc s.n == r.plan.limit) ≡ false = no_limit (any_update asks_for_end r s V) (goes_again r s V) (suc s.n == r.plan.limit) again in
+        let other : (suc s.n == r.plan.limit) ≡ false = no_limit (list_any (is_bad V) r.system.ports) (any_update asks_for_end r s V) (goes_again r s V) (suc s.n == r.plan.limit) again in
         record {
           stands = record {
             reached = reached;
@@ -160,6 +163,7 @@ module _ (r : Run) (well : RunsWell r) (fitting : SolvedByFitting) where
         }
 
     next_of : (f : Following) → following r s V ≡ f → (next : Situation) → LeadsBy f r s V (GoesOn next) → Reached r next → Goes r s.t s.n next
+    next_of OutOfRange is next leads reached = absurd (cc leads)
     next_of Ended is next leads reached = absurd (cc leads)
     next_of AtLimit is next leads reached = absurd (cc leads)
     next_of Again is next leads reached =
@@ -179,6 +183,7 @@ module _ (r : Run) (well : RunsWell r) (fitting : SolvedByFitting) where
     ends_here kind other end same there apart = record { within = omega (arith, there, at.point); stop = λ stop. absurd (apart (sym same ∙ stop)) }
 
     finish : (f : Following) → following r s V ≡ f → (kind : EndKind) (end : ℕ) → LeadsBy f r s V (Ends kind end) → Finishes r s.t kind end
+    finish OutOfRange is kind end leads = absurd (cc leads)
     finish Ended is kind end leads = ends_here kind K.Asked end (cc leads) (cc leads) (λ same. cc same)
     finish AtLimit is kind end leads = ends_here kind K.Limit end (cc leads) (cc leads) (λ same. cc same)
     finish Again is kind end leads = absurd (cc leads)
@@ -209,6 +214,23 @@ module _ (r : Run) (well : RunsWell r) (fitting : SolvedByFitting) where
 
     pub leads_on : (next : Situation) → Leads r s V (GoesOn next) → Goes r s.t s.n next
     leads_on next leads = next_of (following r s V) refl next leads (Onward s V next at.reached solves leads)
+
+    -- where a value is lost the run ends at the point
+    pub leads_off : (kind : EndKind) (end : ℕ) → Leads r s V (EndsBefore kind end) → (end ≡ s.t) × (kind ≡ K.Range)
+    leads_off kind end leads = by (following r s V) leads
+      where
+        by : (f : Following) → LeadsBy f r s V (EndsBefore kind end) → (end ≡ s.t) × (kind ≡ K.Range)
+        by OutOfRange leads = (cc leads, cc leads)
+        by Ended leads = absurd (cc leads)
+        by AtLimit leads = absurd (cc leads)
+        by Again leads = absurd (cc leads)
+        by Done leads = off leads refl
+          where
+            off : {x : Next} → Departs r (updated r s V) x → x ≡ EndsBefore kind end → (end ≡ s.t) × (kind ≡ K.Range)
+            off (AtStop x here a) e = absurd (cc (a, e))
+            off (WhereAsked x kept point step asks a) e = absurd (cc (a, e))
+            off (WhereFixed x i e_step lacks a) e = absurd (cc (a, e))
+            off (ByStep x kept point step asks a) e = absurd (cc (a, e))
 
     pub leads_out : (kind : EndKind) (end : ℕ) → Leads r s V (Ends kind end) → Finishes r s.t kind end
     leads_out kind end leads = finish (following r s V) refl kind end leads

@@ -23,7 +23,7 @@ module _ (one other : System) (components : one.components ≡ other.components)
   port_there p port at = ap (λ (ps : List Port). slice_get ps p) ports ∙ at
 
   differs_there : (values : List (Option ℤ)) (p : ℕ) → DiffersFromSource other values p → DiffersFromSource one values p
-  differs_there values p d = record { port = d.port; source = d.source; at = port_there p d.port d.at; fed = d.fed; present = d.present; differs = d.differs }
+  differs_there values p d = record { port = d.port; comes = d.comes; at = port_there p d.port d.at; fed = d.fed; present = d.present; differs = d.differs }
 
   clock_there : (p interval shift : ℕ) → IsConstantClock other p interval shift → IsConstantClock one p interval shift
   clock_there p interval shift clock = record {

@@ -5,16 +5,16 @@ use Rattle.std.specs.List.{AllByRecursion}
 use Rattle.std.specs.Option.{option_map}
 use Rattle.std.proofs.lemmas.Option.{get_or_from_slice_get, none-some as none_some, same_Some}
 use Rattle.system_model.specs.declared.plan.EndKind.{EndKind}
-use Rattle.system_model.specs.declared.plan.EndKind.TheVariants.{Stop}
+use Rattle.system_model.specs.declared.plan.EndKind.TheVariants.{Range, Stop}
 use Rattle.system_model.specs.declared.system.Role.{Role}
 use Rattle.system_model.specs.declared.system.Role.TheVariants.{Input, Output, ClockInput, ClockOutput, TimeClock}
-use Rattle.system_model.specs.Ports.{source_of}
+use Rattle.system_model.specs.Carried.{comes_to, fed, source_value}
 use Rattle.system_model.specs.Text.{Instant}
 use Rattle.run_model.specs.Run.{Every, Never, Run, Situation, Timer}
 use Rattle.system_model.specs.Values.{value}
 use Rattle.run_model.specs.Timers.{IsDue}
 use Rattle.run_model.specs.Equations.{IsTickValue, Solves, SolvesAt, timer_of}
-use Rattle.run_model.specs.Trace.{Continues, Further, IsTrace, Last, Runs, instant_of}
+use Rattle.run_model.specs.Trace.{Continues, Fails, Further, IsTrace, Last, Runs, Unwritten, instant_of}
 use Rattle.run_model.specs.Laws.{SolvedByFitting}
 use Rattle.trace_reading.specs.Form.{IsInstant, kinds_of}
 use Rattle.trace_reading.specs.Written.{IsWritable, ports_told, trace_told}
@@ -28,7 +28,7 @@ use Rattle.trace_check.specs.Rules.BreaksIn.{OutOfOrder, OffSource, OffTick}
 use Rattle.trace_laws.specs.Laws.{IsTraceOf, RunsWell}
 use Rattle.trace_laws.proofs.Timers.{IsPeriodicPort}
 use Rattle.trace_laws.proofs.Lines.{same_instants}
-use Rattle.trace_laws.proofs.Along.{Comes, Stands, first_comes, first_stands, in_form, leads_on, leads_out}
+use Rattle.trace_laws.proofs.Along.{Comes, Stands, first_comes, first_stands, in_form, leads_off, leads_on, leads_out}
 
 -- ---- one instant
 
@@ -42,15 +42,15 @@ pub record KeepsIn (r : Run) (last : Option (ℕ × ℕ)) (i : Instant) : Type 0
 sources_same : (r : Run) (s : Situation) (V : List (Option ℤ)) → Solves r s V → (p : ℕ) → DiffersFromSource r.system V p → ⊥
 sources_same r s V solves p d = by d.port.role d.fed (solves.equations p d.port d.at)
   where
-    by : (role : Role) → source_of role ≡ Some d.source → SolvesAt role r s V p d.port (value s.before p) (value V p) → ⊥
-    by (Input None) from h = none_some d.source from
+    by : (role : Role) → comes_to role d.port.kind V ≡ Some d.comes → SolvesAt role r s V p d.port (value s.before p) (value V p) → ⊥
+    by (Input None) from h = absurd (none_some d.comes from)
     by (Input (Some feed)) from h =
-        d.differs (h ∙ ap (λ (b : Bool). if b then value V feed.from.0 else value s.before p) d.present ∙ ap (λ (q : ℕ). value V q) (same_Some feed.from.0 d.source from))
-    by Output from h = none_some d.source from
-    by (ClockInput None) from h = none_some d.source from
-    by (ClockInput (Some feed)) from h = d.differs (h ∙ ap (λ (q : ℕ). value V q) (same_Some feed.from.0 d.source from))
-    by ClockOutput from h = none_some d.source from
-    by (TimeClock timing) from h = none_some d.source from
+        d.differs (h ∙ ap (λ (b : Bool). if b then fed d.port.kind feed V else value s.before p) d.present ∙ same_Some (fed d.port.kind feed V) d.comes from)
+    by Output from h = absurd (none_some d.comes from)
+    by (ClockInput None) from h = absurd (none_some d.comes from)
+    by (ClockInput (Some feed)) from h = d.differs (h ∙ same_Some (source_value feed V) d.comes from)
+    by ClockOutput from h = absurd (none_some d.comes from)
+    by (TimeClock timing) from h = absurd (none_some d.comes from)
 
 one_zero : (v : Option ℤ) → v ≡ Some (pos 1) → v ≡ Some (pos 0) → ⊥
 one_zero v one none =
@@ -124,6 +124,15 @@ module _ (r : Run) (well : RunsWell r) (fitting : SolvedByFitting) where
         low = out.within;
         stops = λ stop. ((out.stop stop).0, record { place = 0; instant = instant_of s V; at = refl; there = (out.stop stop).1 });
       })
+  told (Unwritten s V is kind end solves leads e) last at comes =
+      let off = leads_off r well fitting s V at solves kind end leads in
+      let range : kind ≡ Range = off.1 in
+      subst (λ (xs : List Instant). Told r last xs kind end) (sym e) (record {
+        keep = tt;
+        form = tt;
+        low = (let there = off.0 in let most = at.point in omega (arith, there, most));
+        stops = λ stop. absurd (cc (range, stop));
+      })
   told (Further s V is kind end next rest solves leads e more) last at comes =
       let goes = leads_on r well fitting s V at solves next leads in
       let later = told more (Some (s.t, s.n)) goes.stands goes.comes in
@@ -135,7 +144,14 @@ module _ (r : Run) (well : RunsWell r) (fitting : SolvedByFitting) where
       })
 
   told_trace : {is : List Instant} {kind : EndKind} {end : ℕ} → IsTrace r is kind end → Told r None is kind end
-  told_trace (Runs initial solves continues) = told continues None (first_stands r well fitting initial solves) (first_comes r well fitting)
+  told_trace (Runs initial solves kept continues) = told continues None (first_stands r well fitting initial solves kept) (first_comes r well fitting)
+  told_trace {is} {kind} {end} (Fails initial solves bad none range start) =
+      subst (λ (xs : List Instant). Told r None xs kind end) (sym none) (record {
+        keep = tt;
+        form = tt;
+        low = (let order = well.plan.range.order in omega (arith, start, order));
+        stops = λ stop. absurd (cc (range, stop));
+      })
 
 -- ---- the trace
 

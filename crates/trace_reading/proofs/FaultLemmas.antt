@@ -5,7 +5,7 @@ use Rattle.std.specs.Option.{option_and_then}
 use Rattle.std.proofs.lemmas.Fmt.{decimal_injective}
 use Rattle.value_types.specs.declared.values.PortType.{PortType}
 use Rattle.system_model.specs.declared.plan.EndKind.{EndKind}
-use Rattle.system_model.specs.declared.plan.EndKind.TheVariants.{Stop, Asked, Limit, Fixed, Fault}
+use Rattle.system_model.specs.declared.plan.EndKind.TheVariants.{Stop, Asked, Limit, Fixed, Range, Fault}
 use Rattle.system_model.specs.Text.{kind_text}
 use Rattle.trace_reading.specs.declared.trace.TraceLine.TheVariants.{At, Value}
 use Rattle.trace_reading.specs.declared.item.Item.{Item}
@@ -39,13 +39,14 @@ one_value (negsuc m) (negsuc n) sv sw e =
 abbrev kind_back : List ℕ → EndKind
 kind_back [] = Stop
 kind_back (c ∷ []) = Stop
-kind_back (c ∷ d ∷ rest) = cond (c == 115) Stop (cond (c == 97) Asked (cond (c == 108) Limit (cond (d == 105) Fixed Fault)))
+kind_back (c ∷ d ∷ rest) = cond (c == 115) Stop (cond (c == 97) Asked (cond (c == 108) Limit (cond (c == 114) Range (cond (d == 105) Fixed Fault))))
 
 kept : (kind : EndKind) → kind_back (kind_text kind) ≡ kind
 kept Stop = refl
 kept Asked = refl
 kept Limit = refl
 kept Fixed = refl
+kept Range = refl
 kept Fault = refl
 
 lacks_kind : (kind : EndKind) → Lacks 32 (kind_text kind)
@@ -53,6 +54,7 @@ lacks_kind Stop = search rules
 lacks_kind Asked = search rules
 lacks_kind Limit = search rules
 lacks_kind Fixed = search rules
+lacks_kind Range = search rules
 lacks_kind Fault = search rules
 
 -- a line has one item

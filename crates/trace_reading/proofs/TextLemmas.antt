@@ -8,7 +8,7 @@ use Rattle.sim_base.specs.Escape.{escaped, escaped_byte, is_escaped, hex_digit}
 use Rattle.value_types.specs.declared.values.PortType.{PortType}
 use Rattle.value_types.specs.declared.values.PortType.TheVariants.{Int8, UInt8, Int16, UInt16, Int32, UInt32, Int64, UInt64, Boolean, Enumeration, Clock}
 use Rattle.system_model.specs.declared.plan.EndKind.{EndKind}
-use Rattle.system_model.specs.declared.plan.EndKind.TheVariants.{Stop, Asked, Limit, Fixed, Fault}
+use Rattle.system_model.specs.declared.plan.EndKind.TheVariants.{Stop, Asked, Limit, Fixed, Range, Fault}
 use Rattle.system_model.specs.Text.{type_name, kind_text, header_line, lines_text}
 use Rattle.trace_reading.specs.declared.trace.TracePort.{TracePort}
 use Rattle.trace_reading.specs.declared.trace.TraceLine.TheVariants.{At, Value}
@@ -31,6 +31,7 @@ lacks_kind Stop = search rules
 lacks_kind Asked = search rules
 lacks_kind Limit = search rules
 lacks_kind Fixed = search rules
+lacks_kind Range = search rules
 lacks_kind Fault = search rules
 
 pub lacks_type_10 : (kind : PortType) → Lacks 10 (type_name kind)

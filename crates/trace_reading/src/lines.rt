@@ -117,6 +117,7 @@ fn kind_of(word: &[u8]) -> Option<EndKind>
         b"asked" => Some(EndKind::Asked),
         b"limit" => Some(EndKind::Limit),
         b"fixed" => Some(EndKind::Fixed),
+        b"range" => Some(EndKind::Range),
         b"fault" => Some(EndKind::Fault),
         _ => None,
     }

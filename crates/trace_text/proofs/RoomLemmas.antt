@@ -11,7 +11,7 @@ use Rattle.system_model.specs.declared.system.Component.{Component}
 use Rattle.system_model.specs.declared.system.Port.{Port}
 use Rattle.system_model.specs.declared.system.System.{System}
 use Rattle.system_model.specs.declared.plan.EndKind.{EndKind}
-use Rattle.system_model.specs.declared.plan.EndKind.TheVariants.{Stop, Asked, Limit, Fixed, Fault}
+use Rattle.system_model.specs.declared.plan.EndKind.TheVariants.{Stop, Asked, Limit, Fixed, Range, Fault}
 use Rattle.system_model.specs.Text.{at_line, component_name, end_text, header_line, lines_text, port_line, port_lines_from, type_name, value_line, value_lines_from}
 use Rattle.trace_text.specs.Lines.{ended}
 use Rattle.trace_text.specs.Room.{port_room, room_of, IsCount, AreValues, HoldsEach}
@@ -94,6 +94,7 @@ length-end_text Stop t is_t = let number = length-decimal t is_t in grind (arith
 length-end_text Asked t is_t = let number = length-decimal t is_t in grind (arith, common_steps)
 length-end_text Limit t is_t = let number = length-decimal t is_t in grind (arith, common_steps)
 length-end_text Fixed t is_t = let number = length-decimal t is_t in grind (arith, common_steps)
+length-end_text Range t is_t = let number = length-decimal t is_t in grind (arith, common_steps)
 length-end_text Fault t is_t = let number = length-decimal t is_t in grind (arith, common_steps)
 
 -- each port has room for a line

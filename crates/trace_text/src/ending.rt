@@ -25,6 +25,7 @@ fn kind_text(kind: EndKind) -> &'static str
         EndKind::Asked => "asked",
         EndKind::Limit => "limit",
         EndKind::Fixed => "fixed",
+        EndKind::Range => "range",
         EndKind::Fault => "fault",
     }
 }

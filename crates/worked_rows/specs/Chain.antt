@@ -50,7 +50,7 @@ chain = record {
       component (codes "second") 1 (gain_on (2 ∷ [])) ∷ [];
   ports =
       port_of 0 (codes "u") 2 (Input None) ∷ port_of 0 (codes "y") 3 Output ∷
-      port_of 1 (codes "u") 2 (Input (Some (record { from = record { 0 = 1 } }))) ∷
+      port_of 1 (codes "u") 2 (Input (Some (record { from = record { 0 = 1 }; changes = [] }))) ∷
       port_of 1 (codes "y") 3 Output ∷ [];
   instant_order = by_place;
   initial_order = by_place;

@@ -51,7 +51,7 @@ clock_port = record (port_of 1 (codes "c") 2 (TimeClock (Periodic 10 0))) { kind
 
 abbrev pub clocked_port : Port
 clocked_port =
-    record (port_of 1 (codes "u") 5 (Input (Some (record { from = record { 0 = 0 } })))) {
+    record (port_of 1 (codes "u") 5 (Input (Some (record { from = record { 0 = 0 }; changes = [] })))) {
       clocks = record { 0 = 1 } ∷ [];
     }
 

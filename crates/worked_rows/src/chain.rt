@@ -73,7 +73,7 @@ pub(crate) fn make_chain(alloc: Global) -> Result<System, AllocError>
         make_component(alloc, "first", 0, make_gain(alloc, &[])?)?,
         make_component(alloc, "second", 1, make_gain(alloc, &[2])?)?,
     ]?;
-    let feed = Some(Feed { from: PortId(1) });
+    let feed = Some(Feed::plain(alloc, PortId(1)));
     let ports = vec![in alloc;
         make_port(alloc, 0, "u", 2, Role::Input { feed: None })?,
         make_port(alloc, 0, "y", 3, Role::Output)?,

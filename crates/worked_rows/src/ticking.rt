@@ -120,7 +120,7 @@ fn make_clock_port(alloc: Global) -> Result<Port, AllocError>
 fn make_clocked_port(alloc: Global) -> Result<Port, AllocError>
     ensures { IfOk result (λ port. port ≡ clocked_port) }
 {
-    let feed = Some(Feed { from: PortId(0) });
+    let feed = Some(Feed::plain(alloc, PortId(0)));
     Ok(Port {
         clocks: Items::from_vec(vec![in alloc; PortId(1)]?),
         ..make_port(alloc, 1, "u", 5, Role::Input { feed })?

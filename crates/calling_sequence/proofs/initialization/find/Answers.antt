@@ -1,10 +1,11 @@
-use Rattle.std.proofs.Common.{refl}
+use Rattle.std.proofs.Common.{refl, sym, ◌∙◌}
+use Rattle.std.proofs.lemmas.List.{with_items_is}
 use Rattle.system_model.specs.Ports.{numbers}
 use Rattle.event_iteration.specs.Initialization.{initially, no_values}
-use Rattle.calling_sequence.specs.Course.{Entered, Finds, Found}
+use Rattle.calling_sequence.specs.Course.{Entered, Finds}
 use Rattle.calling_sequence.specs.Place.{IsInitializing}
 use Rattle.calling_sequence.proofs.Phases.{finding_keeps}
-use Rattle.calling_sequence.proofs.Stages.{by_walk, keeping_walk}
+use Rattle.calling_sequence.proofs.Stages.{by_walk, keeping_walk, walks_as}
 use Rattle.calling_sequence.proofs.Walks.{IsGetOrSet, finding_goodly}
 use Rattle.calling_sequence.proofs.initialization.find.Goals as goal
 
@@ -21,4 +22,7 @@ returns-clause-ready g c =
 pub returns-clause-goes : goal.returns-clause-goes
 returns-clause-goes g c =
     let e = c.args.experiment.now in
-    by_walk e Entered Found refl _ _ _ (initially e.system) (no_values e.system) (numbers e.system.initial_order) _ refl (λ log. Finds _ log) c.initialize.result c.initialize.ensures.walks
+    let rules = initially e.system in
+    let order = numbers e.system.initial_order in
+    let found = with_items_is c.args.buffers.now.values c.initialize.new.values (c.initialize.auto.values ∙ c.deref_mut.ensures.len) in
+    by_walk e Entered _ refl _ _ _ rules (no_values e.system) order _ refl (λ log. Finds _ log) c.initialize.result (walks_as e.system rules order _ _ c.initialize.result _ _ _ _ refl (sym found) c.initialize.ensures.walks)

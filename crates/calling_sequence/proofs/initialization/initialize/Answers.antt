@@ -1,16 +1,30 @@
-use Rattle.std.proofs.Common.{refl}
-use Rattle.calling_sequence.proofs.Stages.{then_goes}
+use Rattle.std.proofs.Common.{◌≡◌, ℤ, List, Option, false, ap, length, subst, ◌∙◌}
+use Rattle.std.specs.List.{list_any}
+use Rattle.run_model.specs.Initial.{is_bad_initially}
+use Rattle.event_iteration.specs.Lost.{IsFirstLost}
+use Rattle.calling_sequence.specs.Course.{Found}
+use Rattle.calling_sequence.specs.Ends.{LostAtFirst}
+use Rattle.calling_sequence.specs.declared.run_end.RunEnd.TheVariants as E
+use Rattle.calling_sequence.proofs.Onto.{ends}
 use Rattle.calling_sequence.proofs.initialization.initialize.Goals as goal
 
-pub returns-in-Err-enter-clause-goes : goal.returns-in-Err-enter-clause-goes
-returns-in-Err-enter-clause-goes g c v olds before h = c.in-Err-enter.ensures.goes _ v olds before (c.in-Ok.ensures.goes _ v olds before h)
+pub lost_initially-requires-clause-values : goal.lost_initially-requires-clause-values
+lost_initially-requires-clause-values g c = ap length c.deref.ensures.value ∙ c.in-Ok.ensures.fresh.places
 
-pub returns-in-Err-find-clause-goes : goal.returns-in-Err-find-clause-goes
-returns-in-Err-find-clause-goes g c v olds before h = c.in-Err-find.ensures.goes v olds before (c.in-Ok-enter.ensures.goes _ v olds before (c.in-Ok.ensures.goes _ v olds before h))
+pub returns-in-Some-clause-crosses : goal.returns-in-Some-clause-crosses
+returns-in-Some-clause-crosses g c v olds before h =
+    let e = c.args.experiment.now in
+    let values = c.find_values.new.buffers.values.items in
+    ends e olds before (Found values) _ _ _ (c.in-Ok.ensures.goes v olds before h) (E.Range c.in-Some.lost e.plan.start)
+    (LostAtFirst values c.in-Some.lost (subst (λ (vs : List (Option ℤ)). IsFirstLost (is_bad_initially e.system vs) e.system.ports vs c.in-Some.lost) c.deref.ensures.value c.in-Some.ensures))
 
-pub returns-in-Err-ask-clause-goes : goal.returns-in-Err-ask-clause-goes
-returns-in-Err-ask-clause-goes g c v olds before h = c.in-Err-ask.ensures.goes v olds before (c.in-Ok-find.ensures.goes v olds before (c.in-Ok-enter.ensures.goes _ v olds before (c.in-Ok.ensures.goes _ v olds before h)))
+pub leave-requires-clause-kept : goal.leave-requires-clause-kept
+leave-requires-clause-kept g c κs lives =
+    let e = c.args.experiment.now in
+    subst (λ (vs : List (Option ℤ)). list_any (is_bad_initially e.system vs) e.system.ports ≡ false) c.deref.ensures.value c.in_default.ensures
 
-pub returns-clause-goes : goal.returns-clause-goes
-returns-clause-goes g c =
-    then_goes c.args.experiment.now _ _ _ _ _ _ _ _ _ refl (λ v olds before h. c.in-Ok-ask.ensures.goes v olds before (c.in-Ok-find.ensures.goes v olds before (c.in-Ok-enter.ensures.goes _ v olds before (c.in-Ok.ensures.goes _ v olds before h)))) c.exit.result c.exit.ensures.goes
+pub returns-in-Ok-leave-clause-crosses : goal.returns-in-Ok-leave-clause-crosses
+returns-in-Ok-leave-clause-crosses g c v olds before h = c.in-Ok-leave.ensures.goes v olds before (c.in-Ok.ensures.goes v olds before h)
+
+pub returns-in-Err-leave-clause-crosses : goal.returns-in-Err-leave-clause-crosses
+returns-in-Err-leave-clause-crosses g c v olds before h = c.in-Err-leave.ensures.goes v olds before (c.in-Ok.ensures.goes v olds before h)

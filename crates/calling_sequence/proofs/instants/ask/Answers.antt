@@ -27,4 +27,4 @@ returns-clause-goes g c =
     let s = spot c.args.t c.args.n c.args.buffers.now in
     let next = timers_in c.ask_intervals.new.schedule in
     goes_as e (Read s) (record s { timers = next }) c.ask_intervals.new.schedule.events (sym c.ask_intervals.ensures.events) _ _ c.args.buffers.now.instants c.args.buffers.now.instants c.ask_intervals.result
-    (by_asking e s next _ _ c.args.buffers.now.instants c.ask_intervals.result (asks_as e.system e.plan.resolution c.args.t _ _ _ _ c.ask_intervals.result _ _ c.deref.ensures.value c.ask_intervals.ensures.asks))
+    (by_asking e s c.requires.kept next _ _ c.args.buffers.now.instants c.ask_intervals.result (asks_as e.system e.plan.resolution c.args.t _ _ _ _ c.ask_intervals.result _ _ c.deref.ensures.value c.ask_intervals.ensures.asks))

@@ -19,6 +19,16 @@ breaks_from : (e : Experiment) (p q : Place) (firsts mids news : List Instance) 
 breaks_from e p q firsts mids news first present after start count counted onward (B.Ends ending) breaks = λ olds before h. breaks olds before (onward olds before h)
 breaks_from e p q firsts mids news first present after start count counted onward B.Write breaks = λ olds before h. breaks olds before (onward olds before h)
 
+pub instants-init : goal.instants-init
+instants-init g c = record {
+  ready = c.in-Ok.ensures.ready;
+  timed = c.in-Ok.ensures.timed;
+  begun = omega arith;
+  below = c.requires.ready.may.plan.limit_above;
+  text = c.in-Ok.ensures.text;
+  onward = λ olds before h. c.in-Ok.ensures.crosses _ olds before h;
+}
+
 pub returns-in-Err-take-clause-arrives : goal.returns-in-Err-take-clause-arrives
 returns-in-Err-take-clause-arrives g c = breaks_from c.args.experiment.now _ _ _ _ _ _ _ _ _ _ _ c.instants.invariant.onward c.in-Err-take.broken c.in-Err-take.ensures.puts
 
@@ -52,6 +62,9 @@ returns-in-Some-clause-arrives g c olds before h =
     let before_stop : c.instants.t < c.args.experiment.now.plan.stop = let other = c.if-t-plan.false in omega (arith, other, within, stops) in
     let bound : IsBoundOf c.args.experiment.now.plan (timers_in c.take.new.buffers.schedule) c.take.new.buffers.schedule.events c.instants.t c.next_bound-bound.result = record { before_stop = before_stop; bound = c.next_bound-bound.ensures } in
     unfit_there c.args.experiment.now _ _ c.take.new.buffers c.in-Ok-take.updated olds before _ _ _ (c.in-Ok-take.ensures.puts olds before (c.instants.invariant.onward olds before h)) c.if-updated-2.false c.if-updated.false c.in-Some.component _ bound (sym c.in-Some.ensures)
+
+pub next_bound-bound-requires-clause-done : goal.next_bound-bound-requires-clause-done
+next_bound-bound-requires-clause-done g c = c.in-Ok-take.ensures.unarmed c.if-updated-2.false
 
 pub cross-requires-clause-ready : goal.cross-requires-clause-ready
 cross-requires-clause-ready g c κs within = c.in-Ok-take.ensures.settled c.if-updated-2.false

@@ -29,6 +29,7 @@ returns-clause-runs c =
       trace = c.orders_are_free.ensures.trace;
       behave = c.orders_are_free.ensures.behaved;
       fixed = c.one_fixed_end.ensures;
+      lost = c.one_lost_value.ensures;
     } in
     runs_alike laws
 

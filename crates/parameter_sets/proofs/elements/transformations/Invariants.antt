@@ -1,6 +1,6 @@
 use Rattle.std.proofs.Common.{◌≡◌, take}
 use Rattle.std.specs.List.{flat_map}
-use Rattle.parameter_sets.specs.Elements.{transformations_of}
+use Rattle.transformations.specs.Elements.{transformations_of}
 use Rattle.parameter_sets.proofs.elements.transformations.Given as goal
 
 abbrev pub invariant-loop-node : goal.invariant-loop-node

@@ -1,7 +1,8 @@
 use Rattle.std.proofs.Common.{arith}
-use Rattle.parameter_sets.specs.Elements.{transformations_of}
+use Rattle.transformations.specs.Elements.{transformations_of}
 use Rattle.parameter_sets.specs.Sets.{IsEntry}
-use Rattle.parameter_sets.proofs.ListLemmas.{inside_one, part_more}
+use Rattle.parameter_sets.proofs.ListLemmas.{inside_one}
+use Rattle.transformations.proofs.CallerLemmas.{part_more}
 use Rattle.parameter_sets.proofs.entries.entries.Goals as goal
 
 pub entry-requires-clause-read : goal.entry-requires-clause-read

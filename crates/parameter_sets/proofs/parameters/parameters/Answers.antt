@@ -1,6 +1,6 @@
 use Rattle.std.proofs.Common.{arith}
 use Rattle.parameter_sets.specs.Sets.{IsParameter}
-use Rattle.parameter_sets.proofs.ListLemmas.{part_more}
+use Rattle.transformations.proofs.CallerLemmas.{part_more}
 use Rattle.parameter_sets.proofs.parameters.parameters.Goals as goal
 
 pub loop-node-preserved : goal.loop-node-preserved

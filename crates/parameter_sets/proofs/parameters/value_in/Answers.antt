@@ -1,6 +1,7 @@
 use Rattle.std.proofs.Common.{codes, sym, ◌∙◌}
-use Rattle.parameter_sets.specs.Numbers.{IsBoolean, IsWholeNumber}
-use Rattle.parameter_sets.proofs.ReadLemmas.{no_boolean, no_integer, unread}
+use Rattle.transformations.specs.Numbers.{IsBoolean, IsWholeNumber}
+use Rattle.parameter_sets.proofs.ReadLemmas.{no_boolean, no_integer}
+use Rattle.transformations.proofs.CallerLemmas.{unread}
 use Rattle.parameter_sets.proofs.parameters.value_in.Goals as goal
 
 pub returns-in_err-whole_number : goal.returns-in_err-whole_number

@@ -1,7 +1,7 @@
 use Rattle.std.proofs.Common.{◌∙◌, subst}
 use Rattle.std.specs.List.{Contains, flat_map}
 use Rattle.doc_tree.specs.declared.rule.ParameterRule.TheVariants as r
-use Rattle.parameter_sets.specs.Elements.{transformations_of}
+use Rattle.transformations.specs.Elements.{transformations_of}
 use Rattle.parameter_sets.proofs.reader.describe_mapping.Goals as goal
 
 pub entries-requires-clause-complete : goal.entries-requires-clause-complete

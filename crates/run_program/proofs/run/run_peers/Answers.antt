@@ -13,7 +13,7 @@ use Rattle.run_program.specs.declared.outcome.Outcome.{Outcome}
 use Rattle.run_program.specs.Bench.{RanFacts}
 use Rattle.run_program.specs.Happened.{scene}
 use Rattle.run_program.specs.Peers.{with_all_retired, with_all_started}
-use Rattle.run_program.specs.Runs.{Broke, IsEndOf, NamesOne, RunsPeers, Task, Went}
+use Rattle.run_program.specs.Runs.{Broke, IsEndOf, Names, NamesOne, RunsPeers, Task, Went}
 use Rattle.run_program.proofs.Counting.{are_numbers, no_numbers, numbers_of}
 use Rattle.run_program.proofs.Running.{account_of, fails, given_back, goes, lived_names, lived_news, new_peers, unmade_names}
 use Rattle.run_program.proofs.run.run_peers.Goals as goal
@@ -58,7 +58,7 @@ report_end-requires g c =
     let peers = new_peers c.args.options.host.now c.args.folders.now c.args.system olds c.requires.started (length-map c.args.peers.items view ∙ c.requires.each) in
     let account = account_of c.args.system c.args.bound c.args.options.plan olds news (g.O.Sink.view c.args.out.now) (g.O.Sink.view c.run-end.new.out) (standing view c.run-end.new.self) c.run-end.result in
     let lived : Lived account = c.lives_of_peers.ensures.run account (standing view c.in-Ok.master) (standing view c.run-end.new.self) c.requires.runnable.sound c.requires.bound c.requires.counts peers c.in-Ok.ensures.ok c.run-end.ensures c.close-peers.ensures refl in
-    subst (λ (n : ℕ). NamesOne n c.run-end.result) (sym (ap length c.requires.names ∙ length-map c.args.system.components (λ (x : Component). x.name))) (lived_names account lived)
+    subst (λ (n : Names). NamesOne n c.run-end.result) (sym c.requires.names) (lived_names account c.requires.runnable.sound lived)
 
 pub retire_each-requires-in-Err-after_bounds : goal.retire_each-requires-in-Err-after_bounds
 retire_each-requires-in-Err-after_bounds g c κs within =
@@ -80,7 +80,7 @@ report_end-requires-in-Bad g c =
     let peers = new_peers c.args.options.host.now c.args.folders.now c.args.system olds c.requires.started (length-map c.args.peers.items view ∙ c.requires.each) in
     let unmade : Unmade c.args.system c.args.options.plan.link olds c.in-Bad.bad news =
     c.lives_of_peers.ensures.unmade c.args.system c.args.options.plan.link olds news c.in-Bad.bad c.requires.runnable.sound peers (subst (λ (f : PrepareFault). FailsToPrepare c.args.system c.args.options.plan.link olds f news) c.in-Bad.is c.in-Err.ensures.err) in
-    subst (λ (n : ℕ). c.in-Bad.bad.component.0 < n) (sym (ap length c.requires.names ∙ length-map c.args.system.components (λ (x : Component). x.name))) (unmade_names c.args.system c.args.options.plan.link olds news c.in-Bad.bad unmade)
+    subst (λ (n : ℕ). c.in-Bad.bad.component.0 < n) (sym (ap (λ (n : Names). length n.components) c.requires.names ∙ length-map c.args.system.components (λ (x : Component). x.name))) (unmade_names c.args.system c.args.options.plan.link olds news c.in-Bad.bad unmade)
 
 pub returns-in-Ok : goal.returns-in-Ok
 returns-in-Ok g c before known made told =
@@ -103,7 +103,7 @@ returns-in-Ok g c before known made told =
     let ended = c.report_end.ensures in
     subst (λ (o : Outcome). RanFacts o (numbers_of c.instants-instants.result c.call_counts-counts.result) task c.args.system old new) (sym ended.1) (record {
       end = c.run-end.result;
-      named = subst (λ (names : List (List ℕ)). IsEndOf names c.run-end.result ended.0) c.requires.names ended.2;
+      named = subst (λ (names : Names). IsEndOf names c.run-end.result ended.0) c.requires.names ended.2;
       run = Went (goes account task old new c.requires.runnable c.requires.bound c.requires.within.plan_is refl refl refl refl runs lived c.lives_of_peers.ensures.over c.runs_of_machines.ensures.run c.runs_of_machines.ensures.trace);
       numbered = are_numbers view c.close-peers.result.items c.call_counts-counts.result account lived refl c.counted_talks.ensures c.deref.result.now c.deref.ensures.value c.instants-instants.result c.instants-instants.ensures c.call_counts-counts.ensures.calls c.call_counts-counts.ensures.rollbacks;
     })
@@ -130,7 +130,7 @@ returns-in-Bad g c before known made told =
     let ended = c.report_end-in-Bad.ensures in
     subst (λ (o : Outcome). RanFacts o no_numbers task c.args.system old new) (sym ended.1) (record {
       end = E.Bad c.in-Bad.bad;
-      named = subst (λ (names : List (List ℕ)). IsEndOf names (E.Bad c.in-Bad.bad) ended.0) c.requires.names ended.2;
+      named = subst (λ (names : Names). IsEndOf names (E.Bad c.in-Bad.bad) ended.0) c.requires.names ended.2;
       run = Broke c.in-Bad.bad refl (fails task c.args.system c.in-Bad.bad olds news old new c.requires.runnable runs unmade refl c.lives_of_peers.ensures.over c.runs_of_machines.ensures.unmade);
       numbered = tt;
     })

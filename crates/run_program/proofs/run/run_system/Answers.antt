@@ -34,4 +34,4 @@ returns-in-Err g c =
     subst (λ (fs : List (List ℕ)). StartsUpTo options.host.now fs loaded.system.components u.component.0 u.fault peers old new) c.as_slice-folders.ensures
     (subst (λ (cs : List Component). StartsUpTo options.host.now c.as_slice-folders.result.now cs u.component.0 u.fault peers old new) c.as_slice-components.ensures c.in-Err.ensures.err) in
     c.give_up.ensures no_numbers (task_of (run_of options) loaded) loaded.system old (g.O.Sink.view c.args.out.now)
-    (c.in-Ok.ensures ∙ ap (map (λ (x : Component). x.name)) c.as_slice-components.ensures) starts
+    c.in-Ok.ensures starts

@@ -14,4 +14,8 @@ returns-in_default c =
     let t = c.args.self.now.tree.now in
     let shapes = c.args.self.now.shapes.now in
     subst (FindsLeast (Breaks t shapes c.args.rule)) (sym c.earlier.ensures)
-    (least_broken t shapes c.args.rule c.first_connector.result c.first_connection.result c.in_default.not-EndTwice c.first_connector.ensures c.first_connection.ensures)
+    (least_broken t shapes c.args.rule c.first_connector.result c.first_connection.result c.in_default.not-EndTwice c.in_default.not-OtherChange c.first_connector.ensures c.first_connection.ensures)
+
+pub returns-in-OtherChange : goal.returns-in-OtherChange
+returns-in-OtherChange c =
+    subst (λ z. FindsLeast (Breaks c.args.self.now.tree.now c.args.self.now.shapes.now z) c.first_other_change.result) (sym c.in-OtherChange.is) c.first_other_change.ensures

@@ -1,7 +1,6 @@
 use Rattle.std.proofs.Common.{◌≤◌}
 use Rattle.std.proofs.lemmas.List.{get_or_default}
 use Rattle.doc_tree.specs.declared.rule.Rule.TheVariants.{TooManyPorts}
-use Rattle.doc_tables.specs.Violations.{earlier_violation}
 use Rattle.flatten.specs.declared.rules.TheConstants.{ELEMENT_RULES}
 use Rattle.flatten.specs.Rules.{ViolatesFlattening}
 use Rattle.flatten.proofs.FirstLemmas.{all_first, first_step}
@@ -14,6 +13,6 @@ loop-rule-preserved c =
 
 pub returns : goal.returns
 returns c =
-    let past : 8 ≤ c.loop-rule.rule-index = c.loop-rule-test.false in
-    let most : c.loop-rule.rule-index ≤ 8 = c.loop-rule.auto.rule-index-end in
+    let past : 9 ≤ c.loop-rule.rule-index = c.loop-rule-test.false in
+    let most : c.loop-rule.rule-index ≤ 9 = c.loop-rule.auto.rule-index-end in
     all_first c.args.self.now.tree.now c.args.self.now.shapes.now c.loop-rule.rule-index c.loop-rule.first past most c.loop-rule.invariant

@@ -10,6 +10,7 @@ use Rattle.flatten.specs.Ports.{IsPortUnder}
 use Rattle.flatten.specs.Flat.{IsSourceWith}
 use Rattle.flatten.proofs.RoleLemmas.{some_of}
 use Rattle.flatten.proofs.connectors.FlatTree.port.Goals as goal
+use Rattle.flatten.proofs.connectors.FlatTree.port.Goals.{in-None, in-Some+in_ok-copy-in-Some}
 
 pub returns : goal.returns
 returns c =
@@ -20,6 +21,11 @@ returns c =
     let listed : c.as_slice.result.now ≡ s.0.variables = c.as_slice.ensures ∙ ap (λ (z : Shape). z.variables) shape_is in
     let x_is : c.index-as_slice-place.result ≡ x.0 =
     c.index-as_slice-place.is ∙ get_or_from_slice_get c.as_slice.result.now c.args.place x.0 c.index-as_slice-place.result (ap (λ ys. slice_get ys c.args.place) listed ∙ x.1) in
+    let feed = c.match-index.feed in
+    let copied : c.index.result.now ≡ feed = elim c.match-index.branch [
+      | in-Some+in_ok-copy-in-Some w ↦ w.in-Some.is ∙ ap Some (sym w.in_ok-copy-in-Some.ensures) ∙ sym w.feed-is
+      | in-None w ↦ w.in-None.is ∙ sym w.feed-is
+    ] in
     let n = c.number_at.result in
     let feeds = c.args.table.now.feeds.items in
     let within : n < length feeds = omega (arith, c.number_at.ensures.within, c.requires.table.feeds.len) in
@@ -27,7 +33,7 @@ returns c =
     record {
       shape = s.0;
       variable = x.0;
-      feed = c.index-feed.result.now;
+      feed = feed;
       number = refl;
       of = s.1;
       at = x.1;
@@ -36,8 +42,8 @@ returns c =
       kind = x.2.1;
       reference = ap (λ (y : Variable). y.reference) x_is;
       role = subst (λ (y : Variable). IsRole s.0 y c.role.result) x_is (subst (λ (z : Shape). IsRole z c.index-as_slice-place.result c.role.result) shape_is c.role.ensures.role);
-      fed = ap (slice_get feeds) (sym c.number_at.ensures.number) ∙ slice_get-get_or feeds n c.index-feed.result.now within ∙ ap Some (sym c.index-feed.ensures);
-      source = subst (λ (y : Variable). IsSourceWith s.0 y c.index-feed.result.now c.role.result) x_is
-          (subst (λ (z : Shape). IsSourceWith z c.index-as_slice-place.result c.index-feed.result.now c.role.result) shape_is c.role.ensures.source);
+      fed = ap (slice_get feeds) (sym c.number_at.ensures.number) ∙ slice_get-get_or feeds n c.index.result.now within ∙ ap Some (sym c.index.ensures ∙ copied);
+      source = subst (λ (y : Variable). IsSourceWith s.0 y feed c.role.result) x_is
+          (subst (λ (z : Shape). IsSourceWith z c.index-as_slice-place.result feed c.role.result) shape_is c.role.ensures.source);
       clocks = subst (λ zs. AllZip (IsPortUnder shapes c.args.component) zs c.in_ok-clocks.field-0) clocks c.in_ok-clocks.ensures;
     }

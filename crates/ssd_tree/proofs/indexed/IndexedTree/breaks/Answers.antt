@@ -11,6 +11,10 @@ pub returns-in-Incomplete : goal.returns-in-Incomplete
 returns-in-Incomplete c =
     subst (λ (rule : SystemRule). IsTrue c.is_incomplete.result ↔ ViolatesStructure c.args.self.now.setting c.args.self.now.tree.now rule c.args.node) (sym c.in-Incomplete.is) c.is_incomplete.ensures
 
+pub returns-in-Transformation : goal.returns-in-Transformation
+returns-in-Transformation c =
+    subst (λ (rule : SystemRule). IfOk c.has_misread_change.result (λ b. IsTrue b ↔ ViolatesStructure c.args.self.now.setting c.args.self.now.tree.now rule c.args.node)) (sym c.in-Transformation.is) c.has_misread_change.ensures
+
 pub returns-in-TooManyComponents : goal.returns-in-TooManyComponents
 returns-in-TooManyComponents c =
     subst (λ (rule : SystemRule). IfOk c.passes_limits.result (λ b. IsTrue b ↔ ViolatesStructure c.args.self.now.setting c.args.self.now.tree.now rule c.args.node)) (sym c.in-TooManyComponents.is) c.passes_limits.ensures

@@ -31,4 +31,5 @@ returns c = record {
   to = c.unwrap-to.result;
   is_to = end_at (IsStop c.args.self.now.tree.now c.args.node) c.stop.result c.unwrap-to.result c.unwrap-to.ensures c.stop.ensures;
   end = c.connector_place-2.ensures;
+  change = c.in_ok-change.ensures;
 }

@@ -12,4 +12,4 @@ connection_part-requires-clause-is c =
 pub loop-node-preserved : goal.loop-node-preserved
 loop-node-preserved c =
     part_more (IsConnectionPart c.args.self.now.tree.now (nodes_of c.args.self.now.lists)) c.args.self.now.lists.connections.items c.deref-node-items.result.now c.loop-node.parts.items c.push.new.self.items
-    c.loop-node.node-index c.connection_part.result c.deref-node-items.ensures.value (omega arith) c.loop-node.invariant c.connection_part.ensures c.in_ok-push.ensures.items
+    c.loop-node.node-index c.in_ok-connection_part.field-0 c.deref-node-items.ensures.value (omega arith) c.loop-node.invariant c.in_ok-connection_part.ensures c.in_ok-push.ensures.items

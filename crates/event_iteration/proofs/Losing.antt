@@ -1,0 +1,129 @@
+-- The least port on the way to which a value is lost, one port after another.
+use Rattle.std.proofs.Common.{◌≡◌, ◌↔◌, ℕ, ◌+◌, ◌<◌, ◌≤◌, ℤ, Bool, true, false, ◌&&◌, not, cond, List, [], ◌∷◌, Option, Some, None, get_or, length, refl, sym, ap, ◌∙◌, subst, arith, below_more}
+use Rattle.std.specs.Prelude.{is_some, nat_lt}
+use Rattle.std.specs.Option.{option_map}
+use Rattle.std.specs.List.{list_any, position, position_or_len, slice_get}
+use Rattle.std.proofs.lemmas.Bool.{false≢true, lt-ltb, ltb-false}
+use Rattle.std.proofs.lemmas.List.Elements.{All-from_get_or}
+use Rattle.std.proofs.lemmas.List.Folds.{list_any_none}
+use Rattle.std.proofs.lemmas.List.Sums.{position_or_len_is}
+use Rattle.std.proofs.lemmas.Option.{get_or_from_slice_get, same_Some, slice_get-get_or, slice_get_within}
+use Rattle.system_model.specs.Ports.{feed_of}
+use Rattle.system_model.specs.declared.system.Feed.{Feed}
+use Rattle.system_model.specs.declared.system.Port.{Port}
+use Rattle.system_model.specs.declared.system.Role.{Role}
+use Rattle.system_model.specs.declared.system.Role.TheVariants.{Input, Output, ClockInput, ClockOutput, TimeClock}
+use Rattle.system_model.specs.declared.system.System.{System}
+use Rattle.system_model.specs.Needs.{is_unclocked, is_unclocked_at}
+use Rattle.system_model.specs.Values.{is_present}
+use Rattle.run_model.specs.Equations.{fed, is_bad, is_lost, source_value}
+use Rattle.run_model.specs.Initial.{is_bad_initially}
+use Rattle.run_model.specs.Plain.{HasNoChanges}
+use Rattle.run_model.proofs.CallerLemmas.{both}
+use Rattle.event_iteration.specs.Lost.{FindsLost, IsLostAt, IsPlain}
+use Rattle.event_iteration.specs.declared.lost.LostValue.{LostValue}
+
+-- no port before this one is such
+abbrev pub NoneBefore : (Port → Bool) → List Port → ℕ → Type 0
+NoneBefore test ports p = (k : ℕ) (d : Port) → k < p → test (get_or ports k d) ≡ false
+
+pub none_yet : (test : Port → Bool) (ports : List Port) → NoneBefore test ports 0
+none_yet test ports = λ k d l. absurd (omega (arith, l))
+
+-- what is read at a place is so for each other value behind the end
+pub read_any : (ports : List Port) (p : ℕ) (port d : Port) → p < length ports → port ≡ get_or ports p port → port ≡ get_or ports p d
+read_any ports p port d within read = sym (get_or_from_slice_get ports p port d (slice_get-get_or ports p port within ∙ ap Some (sym read)))
+
+pub none_more : (test : Port → Bool) (ports : List Port) (p : ℕ) (port : Port) → ((d : Port) → port ≡ get_or ports p d) → test port ≡ false → NoneBefore test ports p → NoneBefore test ports (p + 1)
+none_more test ports p port read good was = λ k d l. below_more (λ (j : ℕ). test (get_or ports j d) ≡ false) p (λ j m. was j d m) (ap test (sym (read d)) ∙ good) k l
+
+pub none_there : (test : Port → Bool) (ports : List Port) (p : ℕ) → length ports ≤ p → NoneBefore test ports p → list_any test ports ≡ false
+none_there test [] p whole none = refl
+none_there test (x ∷ xs) p whole none = list_any_none test (x ∷ xs) (All-from_get_or (λ (y : Port). test y ≡ false) (x ∷ xs) x (λ k l. none k x (omega (arith, l, whole))))
+
+first_there : (test : Port → Bool) (ports : List Port) (p : ℕ) (port : Port) → p < length ports → port ≡ get_or ports p port → test port ≡ true → NoneBefore test ports p → position test ports ≡ Some p
+first_there test ports p port within read bad none =
+    let at : position_or_len test ports ≡ p = position_or_len_is test ports p port (omega (arith, within)) (λ k l. none k port l) (λ l. ap test (sym read) ∙ bad) in
+    ap (λ (z : ℕ). cond (nat_lt z (length ports)) (Some z) None) at ∙ ap (λ (b : Bool). cond b (Some p) None) (lt-ltb p (length ports) within)
+
+-- ---- such a port has a source with a value
+
+pub record HasSource (port : Port) (values : List (Option ℤ)) : Type 0 where
+  pub feed : Feed
+  pub fed_by : feed_of port.role ≡ Some feed
+  pub came : ℤ
+  pub value : source_value feed values ≡ Some came
+
+some_of : (o : Option ℤ) → is_some o ≡ true → (x : ℤ) × (o ≡ Some x)
+some_of None is = absurd (false≢true is)
+some_of (Some x) is = (x, refl)
+
+lost_source : (port : Port) (values : List (Option ℤ)) (feed : Feed) → feed_of port.role ≡ Some feed → is_lost port.kind feed values ≡ true → HasSource port values
+lost_source port values feed by lost =
+    let came = some_of (source_value feed values) (both (is_some (source_value feed values)) (not (is_some (fed port.kind feed values))) lost).0 in
+    record { feed = feed; fed_by = by; came = came.0; value = came.1 }
+
+pub bad_source : (port : Port) (values : List (Option ℤ)) → is_bad values port ≡ true → HasSource port values
+bad_source port values bad = by port.role refl bad
+  where
+    by : (role : Role) → port.role ≡ role → is_bad values (record port { role = role }) ≡ true → HasSource port values
+    by (Input None) e h = absurd (false≢true h)
+    by (Input (Some feed)) e h = lost_source port values feed (ap feed_of e) (both (is_present (record port { role = Input (Some feed) }) values) (is_lost port.kind feed values) h).1
+    by Output e h = absurd (false≢true h)
+    by (ClockInput feed) e h = absurd (false≢true h)
+    by ClockOutput e h = absurd (false≢true h)
+    by (TimeClock timing) e h = absurd (false≢true h)
+
+pub bad_source_initially : (system : System) (port : Port) (values : List (Option ℤ)) → is_bad_initially system values port ≡ true → HasSource port values
+bad_source_initially system port values bad = by port.role refl bad
+  where
+    by : (role : Role) → port.role ≡ role → is_bad_initially system values (record port { role = role }) ≡ true → HasSource port values
+    by (Input None) e h = absurd (false≢true h)
+    by (Input (Some feed)) e h = lost_source port values feed (ap feed_of e) (both (is_unclocked (record port { role = Input (Some feed) }) && is_unclocked_at system.ports feed.from.0) (is_lost port.kind feed values) h).1
+    by Output e h = absurd (false≢true h)
+    by (ClockInput feed) e h = absurd (false≢true h)
+    by ClockOutput e h = absurd (false≢true h)
+    by (TimeClock timing) e h = absurd (false≢true h)
+
+-- what is told of it is found
+pub finds_lost : (test : Port → Bool) (ports : List Port) (values : List (Option ℤ)) (p : ℕ) (port : Port) (lost : Option LostValue) → p < length ports → port ≡ get_or ports p port → test port ≡ true → HasSource port values → NoneBefore test ports p → IsLostAt ports p values lost → FindsLost test ports values lost
+finds_lost test ports values p port lost within read bad source none told =
+    let at : slice_get ports p ≡ Some port = slice_get-get_or ports p port within ∙ ap Some (sym read) in
+    subst (FindsLost test ports values) (sym (told port source.feed source.came at source.fed_by source.value))
+    (record { first = first_there test ports p port within read bad none; target = port; at = at; feed = source.feed; fed = source.fed_by; value = source.value })
+
+abbrev pub lost_at : ℕ → ℤ → LostValue
+lost_at p x = record { port = record { 0 = p }; value = x }
+
+-- what is lost at a port, from the value before it
+pub told_of : (ports : List Port) (p : ℕ) (values : List (Option ℤ)) (port : Port) (before : Option ℤ) → slice_get ports p ≡ Some port → ((feed : Feed) → feed_of port.role ≡ Some feed → before ≡ source_value feed values) →
+    IsLostAt ports p values (option_map (lost_at p) before)
+told_of ports p values port before here is = λ target feed x at by came.
+    ap (option_map (lost_at p)) (is feed (ap (λ (y : Port). feed_of y.role) (same_Some port target (sym here ∙ at)) ∙ by) ∙ came)
+
+-- ---- where no path makes a change
+
+-- none to the ports before this one does
+abbrev pub PlainBefore : List Port → ℕ → Type 0
+PlainBefore ports i =
+    (k : ℕ) (port : Port) (feed : Feed) → k < i → slice_get ports k ≡ Some port →
+    feed_of port.role ≡ Some feed → feed.changes ≡ []
+
+pub plain_more : (ports : List Port) (i : ℕ) (port : Port) → slice_get ports i ≡ Some port → IsPlain port.role → PlainBefore ports i → PlainBefore ports (i + 1)
+plain_more ports i port here plain was = λ k other feed l is by.
+    below_more (λ (j : ℕ). (x : Port) (f : Feed) → slice_get ports j ≡ Some x → feed_of x.role ≡ Some f → f.changes ≡ []) i (λ j m x f. was j x f m)
+    (λ x f at. subst (λ (y : Port). feed_of y.role ≡ Some f → f.changes ≡ []) (same_Some port x (sym here ∙ at)) (plain f)) k l other feed is by
+
+pub plain_all : (system : System) (i : ℕ) → length system.ports ≤ i → PlainBefore system.ports i → HasNoChanges system
+plain_all system i whole was = λ p port feed is by. was p port feed (let within = slice_get_within system.ports p port is in omega (arith, within, whole)) is by
+
+empty : {A : Type 0} (xs : List A) → length xs ≤ 0 → xs ≡ []
+empty [] none = refl
+empty (x ∷ xs) none = absurd (omega (arith, none))
+
+-- a list with a place for a change
+pub plain_by_count : (feed : Feed) (n : ℕ) → n ≡ length feed.changes → (nat_lt 0 n ≡ false) ↔ ((f : Feed) → Some feed ≡ Some f → f.changes ≡ [])
+plain_by_count feed n count = (
+  λ none f same. subst (λ (g : Feed). g.changes ≡ []) (same_Some feed f same) (empty feed.changes (let few = ltb-false 0 n none in omega (arith, few, count))),
+  λ plain. ap (nat_lt 0) (count ∙ ap length (plain feed refl)),
+)

@@ -1,0 +1,60 @@
+use Rattle.std.proofs.Common.{◌≡◌, ◌<◌, ◌≤◌, List, get_or, length, sym, ap, ◌∙◌, subst, true, arith}
+use Rattle.std.specs.Prelude.{All}
+use Rattle.system_model.specs.declared.system.Port.{Port}
+use Rattle.system_model.proofs.CallerLemmas.{all_at}
+use Rattle.run_model.specs.Initial.{is_bad_initially}
+use Rattle.event_iteration.specs.Initialization.{IsPlaced}
+use Rattle.event_iteration.specs.Lost.{IsLostAt}
+use Rattle.event_iteration.proofs.Losing.{bad_source_initially, finds_lost, none_more, none_there, none_yet, read_any}
+use Rattle.event_iteration.proofs.Rounds.{sources_placed}
+use Rattle.event_iteration.proofs.Taking.{port_at}
+use Rattle.event_iteration.proofs.lost.lost_initially.Goals as goal
+
+pub loop-p-init : goal.loop-p-init
+loop-p-init c = record { upto = omega arith; none = none_yet (is_bad_initially c.args.system.now c.args.values.now) c.args.system.now.ports }
+
+pub is_bad_initially-requires-clause-placed : goal.is_bad_initially-requires-clause-placed
+is_bad_initially-requires-clause-placed c =
+    let system = c.args.system.now in
+    let p = c.loop-p.p in
+    let port = c.index-ports-p.result in
+    let is = port_at _ system.ports p port c.as_slice-ports.ensures c.index-ports-p.is (let w = c.loop-p-test.true in let e = ap length c.as_slice-ports.ensures in omega (arith, w, e)) in
+    (all_at (IsPlaced (length system.ports)) system.ports p port (sources_placed system c.requires.sound) is)
+
+pub lost_at-requires-clause-few : goal.lost_at-requires-clause-few
+lost_at-requires-clause-few c = let e = ap length c.as_slice-ports.ensures in let few = c.requires.sound.ports.few in omega (arith, few, e)
+
+pub lost_at-requires-clause-placed : goal.lost_at-requires-clause-placed
+lost_at-requires-clause-placed c = subst (λ (ps : List Port). All (IsPlaced (length ps)) ps) (sym c.as_slice-ports.ensures) (sources_placed c.args.system.now c.requires.sound)
+
+pub lost_at-requires-clause-values : goal.lost_at-requires-clause-values
+lost_at-requires-clause-values c = c.requires.values ∙ ap length (sym c.as_slice-ports.ensures)
+
+pub returns-then-is_bad_initially : goal.returns-then-is_bad_initially
+returns-then-is_bad_initially c =
+    let system = c.args.system.now in
+    let values = c.args.values.now in
+    let p = c.loop-p.p in
+    let port = c.index-ports-p.result in
+    let within : p < length system.ports = let w = c.loop-p-test.true in let e = ap length c.as_slice-ports.ensures in omega (arith, w, e) in
+    let read : port ≡ get_or system.ports p port = c.index-ports-p.is ∙ ap (λ (ps : List Port). get_or ps p port) c.as_slice-ports.ensures in
+    let bad : is_bad_initially system values port ≡ true = sym c.is_bad_initially.ensures ∙ c.if-is_bad_initially.true in
+    finds_lost (is_bad_initially system values) system.ports values p port c.lost_at.result within read bad (bad_source_initially system port values bad) c.loop-p.invariant.none
+    (subst (λ (ps : List Port). IsLostAt ps p values c.lost_at.result) c.as_slice-ports.ensures c.lost_at.ensures)
+
+pub loop-p-preserved : goal.loop-p-preserved
+loop-p-preserved c =
+    let system = c.args.system.now in
+    let values = c.args.values.now in
+    let p = c.loop-p.p in
+    let port = c.index-ports-p.result in
+    let within : p < length system.ports = let w = c.loop-p-test.true in let e = ap length c.as_slice-ports.ensures in omega (arith, w, e) in
+    let read : port ≡ get_or system.ports p port = c.index-ports-p.is ∙ ap (λ (ps : List Port). get_or ps p port) c.as_slice-ports.ensures in
+    record {
+      upto = omega (arith, within);
+      none = none_more (is_bad_initially system values) system.ports p port (λ d. read_any system.ports p port d within read) (sym c.is_bad_initially.ensures ∙ c.if-is_bad_initially.false) c.loop-p.invariant.none;
+    }
+
+pub returns : goal.returns
+returns c =
+    none_there (is_bad_initially c.args.system.now c.args.values.now) c.args.system.now.ports c.loop-p.p (let w = c.loop-p-test.false in let e = ap length c.as_slice-ports.ensures in omega (arith, w, e)) c.loop-p.invariant.none

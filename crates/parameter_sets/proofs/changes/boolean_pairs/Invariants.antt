@@ -1,7 +1,0 @@
-use Rattle.std.proofs.Common.{take}
-use Rattle.std.specs.List.{AllZip}
-use Rattle.parameter_sets.specs.Sets.{IsBooleanPair}
-use Rattle.parameter_sets.proofs.changes.boolean_pairs.Given as goal
-
-abbrev pub invariant-loop-node : goal.invariant-loop-node
-invariant-loop-node l = AllZip (IsBooleanPair l.tree) (take l.node-index l.entries) l.pairs.items

@@ -1,0 +1,5 @@
+pub mod CallerLemmas
+mod ListLemmas
+mod ReadLemmas
+mod FactorLemmas
+mod ChangeLemmas
