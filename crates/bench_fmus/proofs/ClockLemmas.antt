@@ -31,7 +31,7 @@ one_value any r clock x = by any (clock == r) (r == clock) (grind (arith, nat_te
     by false true false is = absurd (cc)
     by false false true is = absurd (cc)
 
--- one more Clock is written behind the others
+-- one more Clock is written after the others
 one_more_written : (references clocks : List ℕ) (clock : ℕ) (xs : List ℤ) →
     all_written references (zero_at (clocks ++ clock ∷ [])) xs ≡ written references (all_written references (zero_at clocks) xs) clock (pos 0)
 one_more_written [] clocks clock xs = refl

@@ -176,7 +176,7 @@ impl Spawner for Bench {
             self.old.plan.starts }
         ensures unknown { AnswersUnknown (is_model shape.now.identifier) result }
 
-        // Another name is refused without memory.
+        // Another name is refused, and no memory is needed for that.
         ensures memory { IsErrOf result Memory → is_model shape.now.identifier ≡ true }
         ensures noted { NotesStart (bench_view self.old) (bench_view self.new) result }
     {

@@ -408,7 +408,7 @@ fn is_initializing_after(is_initializing: bool, call: &Call) -> bool
     }
 }
 
-// What the outputs depend on, in Initialization Mode or behind it.
+// What the outputs depend on, in Initialization Mode or after it.
 fn dependencies_in(shape: &Shape, is_initializing: bool) -> &ByReference<Dependency>
     ensures { result.now ≡ (if int_lt (pos 0) (number_of_flag is_initializing) then
         shape.now.initial_dependencies else shape.now.dependencies) }

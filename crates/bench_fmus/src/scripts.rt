@@ -78,7 +78,7 @@ fn make_script(
     ensures room { IfOk result (λ s. option_map (λ t. t.room) s.book.talk ≡
         Some (length answers.now + 1)) }
 {
-    // What is dear to let go is made last.
+    // What is expensive to drop is made last.
     let given = Items::from_vec(answers.to_vec(alloc)?);
     let origin = Origin::from_texts(alloc, host, name, directory)?;
     let book = make_book(alloc, shape, answers)?;

@@ -46,7 +46,7 @@ use Rattle.calling_sequence.proofs.Staying.{AreOfStep, IsOfStep, agreement_of_st
 
 -- ---- where it leads the run
 
--- a part behind which no instant stands
+-- a part after which no instant stands
 part_on : (e : Experiment) (p q : Place) (values : List (Option ℤ)) (front more : List Sent) (is : List Instant) → Does e.system (part_at e.system e.bound e.plan p) values more → LeadsTo e.system e.plan p values more q → shown q ≡ [] → Course e.system e.bound e.plan p front is → Course e.system e.bound e.plan q (front ++ more) is
 part_on e p q values front more is does leads quiet course =
     subst (λ (l : List Instant). Course e.system e.bound e.plan q (front ++ more) l) (ap (λ (l : List Instant). is ++ l) quiet ∙ append-nil is) (On p q values front more is course does leads)
@@ -190,7 +190,7 @@ module _ {L : Type 0} {g : _} (view : L → View) (e : Experiment) (t : ℕ) (ol
         is_more : (a b : ℕ) → nat_lt a b ≡ true → a < b
         is_more a b q = grind (arith, nat_tests)
 
-  -- behind a step that is made
+  -- after a step that is made
   module _ (bound : ℕ) (agreed : Agreed) (news : List (Slot L g)) (o : StepsOver view t e.plan.step bound olds news (Ok agreed)) where
     of_step : AreOfStep o.log
     of_step = by o.steps where

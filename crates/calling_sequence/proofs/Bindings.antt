@@ -1,4 +1,4 @@
--- Sets of bound parameters, one behind the other (FMI 3.0, 4.2.1: Instantiated).
+-- Sets of bound parameters, one after the other (FMI 3.0, 4.2.1: Instantiated).
 use Rattle.std.proofs.Common.{◌≡◌, ℕ, zero, suc, ◌+◌, ◌<◌, ◌≤◌, false, List, [], ◌∷◌, ◌++◌, Option, Some, Result, Ok, Err, refl, sym, ap, ◌∙◌, subst, append_assoc, append-nil, arith, length, get_or, set, map, take, drop}
 use Rattle.std.specs.Prelude.{All}
 use Rattle.std.specs.List.{AllZip}

@@ -31,7 +31,7 @@ pieces_more system plan view is i =
 
 module _ (e : Experiment) (olds : List Instance) (before : SinkView) (p : Place) (mids news : List Instance) (present : SinkView) (count : ℕ) (h : Here e olds before p mids present count) (more : List Sent) (told : Told more mids news) where
   module _ (q : Place) (values : List (Option ℤ)) (does : Does e.system (part_at e.system e.bound e.plan p) values more) (leads : LeadsTo e.system e.plan p values more q) where
-    -- a part behind which no instant stands
+    -- a part after which no instant stands
     pub on_quietly : shown q ≡ [] → Here e olds before q news present count
     on_quietly none =
         let same : h.is ++ shown q ≡ h.is = ap (λ (l : List Instant). h.is ++ l) none ∙ append-nil h.is in
@@ -48,7 +48,7 @@ module _ (e : Experiment) (olds : List Instance) (before : SinkView) (p : Place)
       course_on : Course e.system e.bound e.plan q (h.log ++ more) (h.is ++ i ∷ [])
       course_on = subst (λ (l : List Instant). Course e.system e.bound e.plan q (h.log ++ more) (h.is ++ l)) one (On p q values h.log more h.is h.course does leads)
 
-      -- and one behind which an instant stands, which was put
+      -- and one after which an instant stands, which was put
       pub on_shown : after ≡ with_piece present (text_of i) → Here e olds before q news after (count + 1)
       on_shown put = record {
         log = h.log ++ more;
@@ -69,7 +69,7 @@ module _ (e : Experiment) (olds : List Instance) (before : SinkView) (p : Place)
         counted_is = h.counted;
       }
 
-  -- several parts, behind which no instant stands
+  -- several parts, after which no instant stands
   pub on_far : (q : Place) → ((front : List Sent) (is : List Instant) → Course e.system e.bound e.plan p front is → Course e.system e.bound e.plan q (front ++ more) is) → Here e olds before q news present count
   on_far q leads = record {
     log = h.log ++ more;

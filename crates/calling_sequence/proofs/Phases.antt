@@ -285,7 +285,7 @@ set_keeps t stop step v w e h l set =
 pub unset_at : (t stop step : ℕ) (v : View) → IsStepping t stop step v → IsUnset v
 unset_at t stop step v h = record { state = h.departing.state; unset = h.unset }
 
--- ---- behind a step
+-- ---- after a step
 
 pub enter_event_leads : (t stop step : ℕ) (v w : View) (e : Exchange) → IsStepping t stop step v → v.fixed.shape.has_event_mode ≡ true → Led v e w → e.call ≡ C.EnterEvent → IsAt t stop step w
 enter_event_leads t stop step v w e h events l is =

@@ -1,4 +1,4 @@
--- The bound of a step by the schedule's next tick or event time, and where the schedule stands behind the step.
+-- The bound of a step by the schedule's next tick or event time, and where the schedule stands after the step.
 use Rattle.std.proofs.Common.{◌≡◌, ◌⊎◌, inl, inr, ℕ, ℤ, length, zero, suc, ◌+◌, ◌*◌, ◌<◌, ◌≤◌, Bool, true, false, List, [], ◌∷◌, Option, Some, None, refl, sym, ap, ◌∙◌, subst, arith, get_or, map}
 use Rattle.std.specs.Prelude.{All, IfSome, IsSomeAnd, ◌||◌, ◌==◌, min, nat_lt, slice_get}
 use Rattle.std.specs.List.{list_any}
@@ -40,7 +40,7 @@ not_below a b none = by_test (nat_lt b a) refl where
   by_test true is = let w : b < a = grind (arith, nat_tests) in absurd (none w)
   by_test false is = grind (arith, nat_tests)
 
--- and one of its timer behind the point is still to be made
+-- and one of its timer after the point is still to be made
 left_of : (start t point : ℕ) (state : ClockState) → IsNextFrom start t false state → t < point → TimerTicksAt start (timer_in state) point → IsToTick start state point
 left_of start t point S.Unasked next later h = h
 left_of start t point (S.Periodic interval shift ticks) next later h =
@@ -96,7 +96,7 @@ no_mark start point (p, timer, at, ticks) = cc
 no_event : (point : ℕ) → SomeEventAt [] point → ⊥
 no_event point (i, at) = cc
 
--- an event time that a component has lies behind the point
+-- an event time that a component has lies after the point
 event_later : (t : ℕ) (events : List (Option ℕ)) → AreLater t events → (i time : ℕ) → slice_get events i ≡ Some (Some time) → t < time
 event_later t [] later i time is = absurd (cc)
 event_later t (e ∷ es) later zero time is = subst (λ (o : Option ℕ). IfSome o (λ x. t < x)) (same_Some _ _ is) (All-head (λ (o : Option ℕ). IfSome o (λ x. t < x)) e es later)
@@ -106,7 +106,7 @@ pub events_up_to : (table : Timetable) (t : ℕ) → AreLater t table.events →
 events_up_to table t later component point h = event_later t table.events later component point h.1
 
 module _ (table : Timetable) (t : ℕ) (next : All (IsNextFrom table.start t false) table.clocks) (none : is_some_armed t (timers_in table) ≡ false) where
-  -- each tick that is still to be made lies behind the point
+  -- each tick that is still to be made lies after the point
   pub none_up_to : (clock point : ℕ) → TicksAt table clock point → t < point
   none_up_to clock point h =
       let s = some_at (λ state. IsToTick table.start state point) (slice_get table.clocks clock) h.1 in
@@ -188,7 +188,7 @@ module _ (table : Timetable) (t : ℕ) (next : All (IsNextFrom table.start t fal
             least = least_by mark (omega arith) (λ clock other h. let l = least clock other h in omega (arith, high, l)) (λ component other h. let l = least_event component other h in omega (arith, high, l));
           })
 
--- ---- behind an instant, and behind the step
+-- ---- after an instant, and after the step
 
 pub never_first : (m n : ℕ) → m ≡ suc n → (m == 0) ≡ false
 never_first m n is = grind (arith, nat_tests)

@@ -102,7 +102,7 @@ pub armed_by : {system : System} {per_second t : ℕ} {values : List (Option ℤ
 armed_by (Ok x) a = a.says.1
 armed_by (Err bad) a = tt
 
--- Updates behind which the instant is put
+-- Updates after which the instant is put
 module _ (e : Experiment) (s : Spot) (events : List (Option ℕ)) (u v : Updated) (again : v.again ≡ (u.again || is_some_armed s.t s.timers)) (asked : v.asked ≡ u.asked) (mids news : List Instance) (fits : shapes mids ≡ shapes_of e.system) (updates : UpdatesAt s.t events mids news (Ok u))
     (olds : List Instance) (before present : SinkView) (count : ℕ) (h : Here e olds before (Rearmed s) mids present count) (after : SinkView) where
   done : IsAnswered (shapes_of e.system) (updating (shapes_of e.system)) updates.stage.log
@@ -128,7 +128,7 @@ pub badly_updated : (e : Experiment) (s : Spot) (mids news : List Instance) → 
 badly_updated e s mids news fits bad stage v count olds before h =
     off e olds before (Rearmed s) mids news v count h stage.log stage.told bad (subst (λ (ss : List Shape). StopsAt ss (updating ss) bad stage.log) fits stage.says)
 
--- ---- one stage behind others
+-- ---- one stage after others
 
 module _ {T : Type 0} (e : Experiment) (p q : Place) (r : T → Place) (olds mids news : List Instance) (count now counted : ℕ) where
   pub then_goes : point_of e.plan q ≡ point_of e.plan p → ((v : SinkView) → Onward e p q olds mids v v count now) → (x : Result T BadAnswer) → Goes e q r mids news now counted x → Goes e p r olds news count counted x

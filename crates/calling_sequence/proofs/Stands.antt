@@ -1,4 +1,4 @@
--- Where the instances stand behind the last Updates of a point, and what the values are that were found.
+-- Where the instances stand after the last Updates of a point, and what the values are that were found.
 use Rattle.std.proofs.Common.{◌≡◌, ℕ, ◌<◌, Bool, true, false, List, [], ◌∷◌, Option, Some, None, Ok, refl, sym, ap, ◌∙◌, subst, arith, length, get_or, map, replicate, zero, suc}
 use Rattle.std.specs.Int.{w128}
 use Rattle.std.specs.Prelude.{All, ℤ, ◌||◌, FitsSigned, IfSome, slice_get}

@@ -1,4 +1,4 @@
--- From behind an instant to the next, to a step and to an end, from behind a step to an end, and the end line.
+-- From the place after an instant to the next, to a step and to an end, from the place after a step to an end, and the end line.
 use Rattle.std.proofs.Common.{◌≡◌, ◌≢◌, ℕ, suc, ◌+◌, ◌-◌, Bool, true, false, List, [], ◌∷◌, Some, Result, Ok, Err, inl, inr, refl, sym, ap, ◌∙◌, subst, arith}
 use Rattle.std.specs.Prelude.{◌==◌}
 use Rattle.std.proofs.lemmas.Bool.Decides.{nat_tests}
@@ -62,7 +62,7 @@ module _ (e : Experiment) (t n : ℕ) (b : Buffers) (u : Updated) (olds : List I
       (on_silently e olds before (Seen here true false) mids present count (subst (λ (x : Bool). Here e olds before (Seen here true x) mids present count) g (subst (λ (x : Bool). Here e olds before (Seen here x u.asked) mids present count) f h)) (before_instant t (suc n) b) refl
       (Again here [] [] _ (more_left n e.plan.limit more) (begins e.system e.plan b.schedule t (suc n) false b.values.items timed.places timed.starts timed.stands (never_first (suc n) n refl))) refl)
 
--- behind a step
+-- after a step
 module _ (e : Experiment) (s : Spot) (asked : Bool) (olds : List Instance) (before : SinkView) (mids : List Instance) (present : SinkView) (count : ℕ) (h : Here e olds before (Stepped s asked) mids present count) where
   pub asked_by_step : asked ≡ true → Follows e olds before (record { end = E.Asked s.t; point = s.t }) mids present count
   asked_by_step is = ends e olds before (Stepped s asked) mids present count h (E.Asked s.t) (subst (λ (x : Bool). EndsAt e.system e.plan (E.Asked s.t) (Stepped s x)) (sym is) (ByStep s))
@@ -70,7 +70,7 @@ module _ (e : Experiment) (s : Spot) (asked : Bool) (olds : List Instance) (befo
   pub stepped_there : asked ≡ false → Here e olds before (Stepped s false) mids present count
   stepped_there is = subst (λ (x : Bool). Here e olds before (Stepped s x) mids present count) is h
 
--- a stage that breaks off, behind others
+-- a stage that breaks off, after others
 pub breaks_on : (e : Experiment) (p q : Place) (olds mids news : List Instance) (present middle after : SinkView) (count now counted : ℕ) → Onward e p q olds mids present middle count now → (b : Break) → Breaks e q mids news middle after now counted b → Breaks e p olds news present after count counted b
 breaks_on e p q olds mids news present middle after count now counted first (B.Ends ending) s = λ starts before h. s starts before (first starts before h)
 breaks_on e p q olds mids news present middle after count now counted first B.Write s = λ starts before h. s starts before (first starts before h)

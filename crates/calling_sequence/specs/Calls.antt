@@ -43,14 +43,14 @@ entering system plan =
 abbrev pub leaving : System → List Asking
 leaving system = to_each (λ (shape : Shape). C.ExitInitialization) (shapes_of system)
 
--- those with event mode leave Event Mode before a step, and enter it behind one
+-- those with event mode leave Event Mode before a step, and enter it after one
 abbrev pub entering_step : System → List Asking
 entering_step system = to_those has_events (λ (shape : Shape). C.EnterStep) (shapes_of system)
 
 abbrev pub entering_event : System → List Asking
 entering_event system = to_those has_events (λ (shape : Shape). C.EnterEvent) (shapes_of system)
 
--- in a step the states of all are saved where two or more might return early, and freed behind it
+-- in a step the states of all are saved where two or more might return early, and freed after it
 abbrev pub saving : System → List Asking
 saving system = to_saved C.Save (shapes_of system)
 

@@ -51,7 +51,7 @@ pub data Place : Type 0 where
   -- its values were found; the countdown Clocks and the changing ones that ticked were asked, which tells the timers
   Read : (s : Spot) → Place
   Rearmed : (s : Spot) → Place
-  -- behind an instant, whose Updates tell the event times: whether another is asked for at the point, and whether the end is
+  -- after an instant, whose Updates tell the event times: whether another is asked for at the point, and whether the end is
   Seen : (s : Spot) (again asked : Bool) → Place
   -- on the way to a step: the point is done; those with event mode are in Step Mode; the inputs of the others were set; the states were saved
   Leaving : (w : Way) → Place
@@ -62,7 +62,7 @@ pub data Place : Type 0 where
   Short : (w : Way) (component end : ℕ) → Place
   -- all stand at this point: whether the answer to a last step asks for the end
   Agreed : (w : Way) (point : ℕ) (asked : Bool) → Place
-  -- behind a step, at the point that all reached, where the states were freed
+  -- after a step, at the point that all reached, where the states were freed
   Stepped : (s : Spot) (asked : Bool) → Place
 
 -- what is sent from there
@@ -162,12 +162,12 @@ pub data LeadsTo (system : System) (plan : Plan) : Place → List (Option ℤ) �
       Begins system plan (record s { n = 0 }) ticks →
       LeadsTo system plan (Stepped s false) values log (Before (record s { n = 0 }) ticks)
 
--- the instant that stands behind the part which leads there
+-- the instant that follows the part which leads there
 abbrev pub shown : Place → List Instant
 shown (Seen s again asked) = record { t = s.t; n = s.n; values = s.values } ∷ []
 shown p = []
 
--- by this log a run came to a place, behind these instants
+-- by this log a run came to a place, after these instants
 pub data Course (system : System) (bound : Bound) (plan : Plan) : Place → List Sent →
     List Instant → Type 0 where
   AtFirst : Course system bound plan Made [] []

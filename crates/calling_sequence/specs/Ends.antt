@@ -70,7 +70,7 @@ pub data EndsAt (system : System) (plan : Plan) : RunEnd → Place → Type 0 wh
       IsFirstLost (is_bad s.values) system.ports s.values lost →
       EndsAt system plan (E.Range lost s.t) (Read s)
 
--- with this log and behind these instants a run ends so, and its end line names the point: at a place, or by the first bad answer of the part that is sent from one
+-- with this log and after these instants a run ends so, and its end line names the point: at a place, or by the first bad answer of the part that is sent from one
 pub data Finishes (system : System) (bound : Bound) (plan : Plan) : RunEnd → ℕ → List Sent →
     List Instant → Type 0 where
   Well : (p : Place) (end : RunEnd) (log : List Sent) (is : List Instant) →
@@ -136,7 +136,7 @@ pub data Awaits (system : System) (bound : Bound) (plan : Plan) : List Sent → 
       Awaits system bound plan log is (pieces_of system plan is)
       (end_text (kind_of_end end) point)
 
--- a put failed, and nothing was put behind it
+-- a put failed, and nothing was put after it
 pub record PutFails (system : System) (bound : Bound) (plan : Plan) (log : List Sent)
     (is : List Instant) (before after : SinkView) : Type 0 where
   pub pieces : List (List ℕ)
@@ -151,7 +151,7 @@ PutsWhole system bound plan log is end before after =
     (point : ℕ) × Finishes system bound plan end point log is ×
     (after ≡ with_pieces before (trace_pieces system plan is (kind_of_end end) point))
 
--- with this log and behind these instants a run ended so, with all that was put
+-- with this log and after these instants a run ended so, with all that was put
 abbrev pub EndsBy : System → Bound → Plan → List Sent → List Instant → RunEnd →
     SinkView → SinkView → Type 0
 EndsBy system bound plan log is E.Stop before after =

@@ -39,7 +39,7 @@ seen t n b u = Seen (spot t n b) u.again u.asked
 abbrev pub way : (t n : ℕ) → Buffers → (to : ℕ) → Way
 way t n b to = record { s = spot t n b; to = to }
 
--- behind a step, at the point that all reached
+-- after a step, at the point that all reached
 abbrev pub stepped_to : Spot → Agreed → Place
 stepped_to s agreed = Stepped (record s { t = agreed.point; n = 0 }) agreed.asked
 

@@ -50,7 +50,7 @@ PutsEnd ending end before after =
     ⊎ ((end ≡ E.WriteFault) × CutsPiece before
     (end_text (kind_of_end ending.end) ending.point) after)
 
--- and it isn't put behind a put that failed
+-- and it isn't put after a put that failed
 abbrev pub Concludes : Result Ending Break → RunEnd → SinkView → SinkView → Type 0
 Concludes (Ok ending) end before after = PutsEnd ending end before after
 Concludes (Err (B.Ends ending)) end before after = PutsEnd ending end before after

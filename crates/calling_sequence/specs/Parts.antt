@@ -42,7 +42,7 @@ Falls system (Walk rules before order) bad log =
     (values : List (Option ℤ)) × ExplainsUntil system rules before order bad values log
 Falls system (Agreement t step bound) bad log = AllAgree system t step bound log (Fails bad)
 
--- the first bad answer of a log: behind it the instances up to that have no exchange
+-- the first bad answer of a log: after it the instances up to that have no exchange
 pub record EndsBadly (shapes : List Shape) (bad : BadAnswer) (log : List Sent) : Type 0 where
   pub front : List Sent
   pub last : Sent

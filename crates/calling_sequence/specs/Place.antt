@@ -31,7 +31,7 @@ pub record IsInitializing (start stop : ℕ) (v : View) : Type 0 where
   pub clear : IsClear v
   pub room : HasRoom v
 
--- at a point, with this stop, behind steps of sizes that the plan's step allows, with no state saved
+-- at a point, with this stop, after steps of sizes that the plan's step allows, with no state saved
 pub record IsThere (t stop step : ℕ) (v : View) : Type 0 where
   pub point : v.phase.point ≡ t
   pub stop_is : v.phase.stop ≡ stop
@@ -49,7 +49,7 @@ pub record IsTaking (t stop step : ℕ) (v : View) : Type 0 where
   pub in_instant : IsInInstant t stop step v
   pub unset : v.fixed.shape.has_event_mode ≡ false → none_marked v.phase.marks ≡ true
 
--- the same at the beginning of an instant, and behind its Updates: no input is set in it, or since the last step
+-- the same at the beginning of an instant, and after its Updates: no input is set in it, or since the last step
 pub record IsAt (t stop step : ℕ) (v : View) : Type 0 where
   pub in_instant : IsInInstant t stop step v
   pub unset : none_marked v.phase.marks ≡ true

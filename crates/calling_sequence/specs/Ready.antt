@@ -46,7 +46,7 @@ pub record MayBegin {L : Type 0} {g : _} (view : L → View) (e : Experiment)
   pub ready : Ready view e (λ stop step. IsMade) slots
   pub fresh : AreFresh e buffers
 
--- at a point, behind so many instants there: the schedule stands there, the values fit their ports, and no more instants were put than 10000 of each earlier point and those
+-- at a point, after so many instants there: the schedule stands there, the values fit their ports, and no more instants were put than 10000 of each earlier point and those
 pub record AreTimed (e : Experiment) (t n : ℕ) (is_first : Bool) (buffers : Buffers) : Type 0 where
   pub starts : buffers.schedule.start ≡ e.plan.start
   pub stops : buffers.schedule.stop ≡ e.plan.stop

@@ -9,7 +9,7 @@ use std::alloc::{AllocError, Global};
 use tick_schedule::Schedule;
 use trace_text::room_for;
 
-/// No memory is left for the buffers of a run.
+/// Out of memory for the buffers of a run.
 #[derive(Clone, Copy, Debug, PartialEq, Eq)]
 pub struct NoMemory;
 
@@ -31,7 +31,7 @@ pub struct Buffers {
 }
 
 impl Buffers {
-    /// Those of a run that hasn't begun. It fails where memory is wanting.
+    /// Those of a run that hasn't begun. It fails where memory runs out.
     pub fn new(alloc: Global, experiment: &Experiment) -> Result<Buffers, NoMemory>
         requires sound { IsSound experiment.now.system }
         requires plan { IsPlan experiment.now.plan }

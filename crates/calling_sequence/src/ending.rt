@@ -13,6 +13,6 @@ pub struct Ending {
 pub enum Break {
     /// An answer that isn't good, or a value that is lost: the end line may still be put.
     Ends(Ending),
-    /// A put that failed: nothing is put behind it.
+    /// A put that failed: nothing is put after it.
     Write,
 }

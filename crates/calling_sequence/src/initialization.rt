@@ -17,7 +17,7 @@ use fmu_peer::{Peer, Slot};
 use slot_calls::{Ask, each};
 
 /// Sets the bound parameters, leads each FMU through Initialization Mode, where it finds the values and asks each fixed Clock
-/// for interval and shift and each changing Clock for its shift, and takes the values away: before the first instant no port
+/// for interval and shift and each changing Clock for its shift, and clears the values: before the first instant no port
 /// has one. Where a value is lost on its way to an input, the run ends before the Clocks are asked.
 pub(crate) fn initialize<L: Peer>(
     slots: &mut [Slot<L>],
@@ -89,7 +89,7 @@ fn find_values<L: Peer>(
     find(slots, experiment, buffers)
 }
 
-// Asks the Clocks, leads each FMU out of Initialization Mode, and takes the values away.
+// Asks the Clocks, leads each FMU out of Initialization Mode, and clears the values.
 fn leave<L: Peer>(
     slots: &mut [Slot<L>],
     experiment: &Experiment,
@@ -201,7 +201,7 @@ fn ask<L: Peer>(
     )
 }
 
-// Leads each FMU out of Initialization Mode, and takes the values away.
+// Leads each FMU out of Initialization Mode, and clears the values.
 fn exit<L: Peer>(
     slots: &mut [Slot<L>],
     experiment: &Experiment,
@@ -223,7 +223,7 @@ fn exit<L: Peer>(
     each(slots, Ask::ExitInitialization)
 }
 
-// Takes the values away.
+// Clears the values.
 fn clear(values: &mut [Option<i128>])
     ensures { values.new ≡ replicate (length values.old) None }
 {

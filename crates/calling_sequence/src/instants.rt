@@ -192,7 +192,7 @@ fn show<L: Peer, O: Sink>(
     }
 }
 
-// What is told behind an instant, with the Clocks that are armed for the point.
+// What is told after an instant, with the Clocks that are armed for the point.
 fn with_armed(updated: Updated, is_armed: bool) -> Updated
     ensures again { result.again ≡ (updated.again || is_armed) }
     ensures asked { result.asked ≡ updated.asked }

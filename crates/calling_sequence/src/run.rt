@@ -22,14 +22,14 @@ use std::thread::Threads;
 /// asks for another and no Clock is armed for the point: it finds the values, asks each countdown Clock, and each changing one
 /// that ticked, for its interval and each FMU with event mode for what follows, and puts the instant. Then it steps all
 /// instances until they stand at one point, at most at the next grid point, the next tick, the next event time or the stop:
-/// those with event mode go into Step Mode and behind the step into Event Mode, and the connected inputs of the others are set
+/// those with event mode go into Step Mode and after the step into Event Mode, and the connected inputs of the others are set
 /// before it. Where the value of a source is lost on its way to an input, the run ends before what follows its values: in
-/// Initialization Mode, or in an instant, which isn't put. It puts one piece for the header, one for each instant, and one for the end line, but behind a put that failed.
-/// Points and sizes of steps are counts over the plan's resolution.
+/// Initialization Mode, or in an instant, which isn't put. It puts one piece for the header, one for each instant, and one for
+/// the end line, unless a put failed before. Points and sizes of steps are counts over the plan's resolution.
 ///
 /// Each FMU counts by the plan's resolution, and the bound values are for parameters of the components. There is a slot for
 /// each component, in their order and of its shape; each instance was made, and is held in the state of its phase. The
-/// buffers were made for the experiment (`Buffers::new`). No memory is taken.
+/// buffers were made for the experiment (`Buffers::new`). Nothing is allocated.
 pub fn run_slots<R: Threads + Sync, L: Peer, O: Sink>(
     rt: &R,
     slots: &mut [Slot<L>],

@@ -72,7 +72,7 @@ pub(crate) fn put_values<O: Sink>(
     }
 }
 
-/// Puts the end line, but behind a put that failed.
+/// Puts the end line, unless a put failed before.
 pub(crate) fn conclude<O: Sink>(
     outcome: Result<Ending, Break>,
     text: &mut [u8],

@@ -109,7 +109,7 @@ no_failure q path old new told (OfTrace is failed) n unfailed = none_failed old 
 no_failure q path old new told (OfSystem t mid takes fails) n unfailed =
     none_failed old fails.mid new (takes.reads ++ fails.reads) told path (both_read old mid fails.mid takes.reads fails.reads takes.asks.told fails.asks.told) fails.told n unfailed
 
--- ---- want of memory
+-- ---- out of memory
 
 module _ (k : Happened) (line : TraceLine) (asked : RunLine) (answer : Result (List ℕ) ReadFault) (reads : List ReadNote) (c : IsCheckOf k line asked answer reads) where
   -- a line on err was put

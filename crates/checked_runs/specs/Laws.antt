@@ -31,7 +31,7 @@ pub record HasTrace (asked : RunLine) (loaded : Loaded) (r : Run) (is : List Ins
   pub plan_is : r.plan ≡ asked.plan
   pub trace : IsTraceOf r is kind point
 
--- the check of a file over the directory of the run: the read of the file got this, each read behind it what a read of the run got, none failed, and no put did
+-- the check of a file over the directory of the run: the read of the file got this, each read after it what a read of the run got, none failed, and no put did
 pub record IsCheckOf (k : Happened) (line : TraceLine) (asked : RunLine)
     (answer : Result (List ℕ) ReadFault) (reads : List ReadNote) : Type 0 where
   pub checks : ChecksTrace k line
@@ -44,7 +44,7 @@ pub record IsCheckOf (k : Happened) (line : TraceLine) (asked : RunLine)
   pub out : Rose k.old.run.out.faults k.new.run.out.faults → ⊥
   pub err : Rose k.err.faults k.err_after.faults → ⊥
 
--- status 0 with the line `yes`, or want of memory
+-- status 0 with the line `yes`, or out of memory
 abbrev pub AnswersYes : Happened → Type 0
 AnswersYes k =
     ((k.status ≡ 0) × (k.new.run.out ≡ with_piece k.old.run.out (verdict_text Yes)) × IsSilent k) ⊎

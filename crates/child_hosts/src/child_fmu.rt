@@ -39,7 +39,7 @@ impl ChildFmu<Pipes> {
     ghost use Rattle.fmu_peer.specs.Start.{IsStarted};
     ghost use Rattle.child_hosts.specs.Links.{pipes_view};
 
-    /// Starts a program with two words, a directory and how many counts a second has in decimal, as the host of an FMU
+    /// Starts a program with two arguments, a directory and how many counts a second has in decimal, as the host of an FMU
     /// before its first call. Its standard input and output are the FMU's wire.
     pub fn start<R: Processes<Started = SystemProcess>>(
         rt: &R,
@@ -101,7 +101,7 @@ fn end_child(mut child: Child, is_freed: bool) {
     let _ = child.wait();
 }
 
-// A program with two words, and with pipes.
+// A program with two arguments, and with pipes.
 fn host_command(
     alloc: Global,
     program: &str,
@@ -131,7 +131,7 @@ fn take_ends(mut child: Child) -> io::Result<Started>
     }
 }
 
-// Starts a program with two words, and takes the ends of its pipes.
+// Starts a program with two arguments, and takes the ends of its pipes.
 fn start_program<R: Processes<Started = SystemProcess>>(
     rt: &R,
     alloc: Global,

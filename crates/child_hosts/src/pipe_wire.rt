@@ -112,7 +112,7 @@ fn fill<S: Source>(source: &mut S, into: &mut [u8]) -> Result<(), WireFault>
     Ok(())
 }
 
-// One take of some bytes behind those that fill the front of the room.
+// One take of some bytes after those at the start of the room.
 fn take_behind<S: Source>(
     source: &mut S,
     into: &mut [u8],

@@ -91,7 +91,7 @@ same_shortest number up down number' up' down' k fraction lasts nothing_too agre
 
 -- ---- the number of a text as it is read
 
--- a number with zeros at its end, its places and its power, and the front and the power as they are read
+-- a number with zeros at its end, its places and its power, and the prefix and the power as they are read
 pub record IsRead (number front tail places power front' power' : ℕ) : Type 0 where
   pub number_is : number ≡ front * 10 ^ tail
   pub lasts : HasNoZeros front
@@ -100,7 +100,7 @@ pub record IsRead (number front tail places power front' power' : ℕ) : Type 0 
   pub front_is : front' ≡ min front (2 ^ 100)
   pub power_is : power' ≡ min power (2 ^ 100)
 
--- a front that is cut off doesn't end in a zero either
+-- a prefix that is cut off doesn't end in a zero either
 pub cut_lasts : (front front' : ℕ) → HasNoZeros front → front' ≡ min front (2 ^ 100) → HasNoZeros front'
 cut_lasts front front' lasts is some =
     elim (cases_lt (2 ^ 100) front) [

@@ -25,7 +25,7 @@ digit_above ds i digits within = (digit_at ds i digits within).0
 pub digit_value-at : (ds : List ℕ) (i : ℕ) → AllDigits 10 ds → i < length ds → digit_value (get_or ds i 0) ≡ get_or ds i 0 - 48
 digit_value-at ds i digits within = let range = digit_at ds i digits within in grind (arith, nat_tests)
 
--- a `0` at the end of a front is a factor of ten
+-- a `0` at the end of a prefix is a factor of ten
 pub zeros_more : (n : ℕ) (ds : List ℕ) (len : ℕ) → 0 < len → len ≤ length ds → get_or ds (len - 1) 0 ≡ 48 → digits_value_after 10 n (take len ds) * 10 ^ (length ds - len) ≡ digits_value_after 10 n (take (len - 1) ds) * 10 ^ (length ds - (len - 1))
 zeros_more n ds len some within is_zero =
     let rest = digits_value_after 10 n (take (len - 1) ds) in
@@ -42,7 +42,7 @@ pub digits_value_after-ge : (n : ℕ) (ds : List ℕ) → n ≤ digits_value_aft
 digits_value_after-ge n [] = omega arith
 digits_value_after-ge n (d ∷ ds) = omega (arith, digits_value_after-ge (n * 10 + digit_value d) ds)
 
--- a number that is cut off before more digits is cut off behind them
+-- a number that is cut off before more digits is cut off after them
 pub min-digits_value_after : (n m : ℕ) (ds : List ℕ) → min (digits_value_after 10 (min n m) ds) m ≡ min (digits_value_after 10 n ds) m
 min-digits_value_after n m ds =
     elim (cases_lt m n) [
@@ -90,7 +90,7 @@ last-nonzero n ds len digits some within other = λ none.
 -- the digits of two lists in one
 pub ruleset appends = (AllDigits-append, AllDigits-front, AllDigits-back)
 
--- where no place is kept, the zeros of the places stand behind those of the whole part
+-- where no place is kept, the zeros of the places come after those of the whole part
 pub zeros_of_both : (whole places : List ℕ) (front : ℕ) → ((n : ℕ) → digits_value_after 10 n places ≡ digits_value_after 10 n (take 0 places) * 10 ^ (length places - 0)) → ((n : ℕ) → digits_value_after 10 n whole ≡ digits_value_after 10 n (take front whole) * 10 ^ (length whole - front)) → digits_value_after 10 0 (whole ++ places) ≡ digits_value_after 10 0 (take front whole) * 10 ^ (length places - 0 + (length whole - front))
 zeros_of_both whole places front no_places zeros =
     let number = digits_value_after 10 0 (take front whole) in

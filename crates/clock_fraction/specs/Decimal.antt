@@ -15,25 +15,25 @@ is_mark b = b == 101 || b == 69
 abbrev pub is_point : ℕ → Bool
 is_point b = b == 46
 
--- the text behind an optional `+`
+-- the text after an optional `+`
 abbrev pub body : List ℕ → List ℕ
 body text = without_leading_plus text
 
--- what stands before the first `e` or `E`, and what stands behind it
+-- what stands before the first `e` or `E`, and what comes after it
 abbrev pub mantissa : List ℕ → List ℕ
 mantissa text = before_first is_mark (body text)
 
 abbrev pub exponent : List ℕ → List ℕ
 exponent text = after_first is_mark (body text)
 
--- what stands before the first point of the mantissa, and what stands behind it
+-- what stands before the first point of the mantissa, and what comes after it
 abbrev pub whole : List ℕ → List ℕ
 whole text = before_first is_point (mantissa text)
 
 abbrev pub places : List ℕ → List ℕ
 places text = after_first is_point (mantissa text)
 
--- one digit or more, and where a mark is there a number behind it, with an optional sign
+-- one digit or more, and where a mark is there a number after it, with an optional sign
 pub record IsDecimal (text : List ℕ) : Type 0 where
   pub digits : IsNumeral 10 (whole text ++ places text)
   pub power : length (mantissa text) < length (body text) → IsNumeral 10 (without_leading_sign (exponent text))
@@ -44,7 +44,7 @@ pub record IsDecimal (text : List ℕ) : Type 0 where
 abbrev pub number : List ℕ → ℕ
 number text = digits_value 10 (whole text ++ places text)
 
--- the number behind the mark and its sign, 0 where there is none
+-- the number after the mark and its sign, 0 where there is none
 abbrev pub power : List ℕ → ℕ
 power text = digits_value 10 (without_leading_sign (exponent text))
 
@@ -52,7 +52,7 @@ power text = digits_value 10 (without_leading_sign (exponent text))
 abbrev pub raised : List ℕ → ℕ
 raised text = if starts_with_minus (exponent text) then 0 else power text
 
--- the tens of the digits behind the point, and of a negative exponent
+-- the tens of the digits after the point, and of a negative exponent
 abbrev pub lowered : List ℕ → ℕ
 lowered text = length (places text) + (if starts_with_minus (exponent text) then power text else 0)
 

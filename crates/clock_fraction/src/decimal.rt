@@ -132,7 +132,7 @@ fn find_point(mantissa: &[u8]) -> Option<usize>
     mantissa.iter().position(|b| *b == b'.')
 }
 
-// What stands before a place, and behind it.
+// What stands before a place, and after it.
 fn split_at(bytes: &[u8], place: usize) -> (&[u8], &[u8])
     requires { place ≤ length bytes.now }
     ensures before { result.0.now ≡ take place bytes.now }

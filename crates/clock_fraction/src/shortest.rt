@@ -7,7 +7,7 @@ use crate::Fraction;
 /// The greatest counter of a decimal.
 const MOST_COUNTER: u128 = 1_000_000_000_000_000_000;
 
-/// The most digits behind the point of a decimal.
+/// The most digits after the point of a decimal.
 const MOST_PLACES: u128 = 18;
 
 /// The fraction `number * 10 ^ up / 10 ^ down` over the least power of ten, where it is within the limits.

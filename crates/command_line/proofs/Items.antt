@@ -1,4 +1,4 @@
--- What clap makes of items, in the words of a command line.
+-- What clap makes of items, in the arguments of a command line.
 use Rattle.std.proofs.Common.{◌≡◌, ◌∙◌, ◌&&◌, ◌||◌, ◌<◌, ◌≤◌, ◌+◌, not, Bool, true, false, ℕ, List, [], ◌∷◌, ◌++◌, Option, Some, None, refl, sym, ap, ap₂, true≢false, cond, is_some, arith, append_assoc}
 use Rattle.std.specs.Prelude.{option_and_then, slice_get, find}
 use Rattle.std.specs.Option.{option_map_or}

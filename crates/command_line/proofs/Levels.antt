@@ -1,4 +1,4 @@
--- What a level of clap's parse makes of words that are items.
+-- What a level of clap's parse makes of arguments that are items.
 use Rattle.std.proofs.Common.{◌≡◌, ◌∙◌, ◌&&◌, ◌||◌, not, Bool, true, false, List, [], ◌∷◌, Some, None, refl, ap, ap₂, cond, arith, fold, length, suc, ◌==◌}
 use Rattle.std.proofs.lemmas.Bool.Decides.{nat_tests}
 use Rattle.clap.specs.declared.error.kind.ErrorKind.TheVariants.{MissingRequiredArgument}

@@ -1,4 +1,4 @@
--- The items of words, as a relation and as a function.
+-- The items of arguments, as a relation and as a function.
 use Rattle.std.proofs.Common.{◌≡◌, ◌∙◌, ◌⊎◌, inl, inr, ◌&&◌, ◌||◌, zero, ◌==◌, not, Bool, true, false, ℕ, List, [], ◌∷◌, ◌++◌, Option, Some, None, refl, sym, subst, ap, ap₂, true≢false, cond, is_some, arith, ◌+◌, take, drop, suc}
 use Rattle.std.specs.Str.{bytes_eq}
 use Rattle.std.proofs.lemmas.Bool.Decides.{nat_tests}
@@ -36,7 +36,7 @@ uncut (x ∷ xs) has = go (x == 61) refl (uncut xs)
     go true e ih = absurd (true≢false (rw e at has))
     go false e ih = rw e (one_more _ x xs ∙ ap (λ t. x ∷ t) (ih (rw e at has)))
 
--- the word of an option's name, with its value or without
+-- the argument of an option's name, with its value or without
 abbrev word_of : Word → Option Word → Word
 word_of n None = dashed n
 word_of n (Some v) = joined n v
@@ -75,7 +75,7 @@ long_word (a ∷ (b ∷ text)) n o e = go (a == 45) (b == 45) refl refl
     go true false f g = let bad : none ≡ Some (n, o) = rw (f, g) at e in cc
     go false y f g = let bad : none ≡ Some (n, o) = rw f at e in cc
 
--- the words of these items
+-- the arguments of these items
 record Spells (words : List Word) : Type 0 where
   all : (items : List Item) → items_from None words ≡ Some items → IsSpelled items words
   later : (n : Word) (items : List Item) → items_from (Some n) words ≡ Some items
@@ -119,7 +119,7 @@ lacking (x ∷ xs) e (suc i) lt = lacking xs (or_right (x == 61) (has_byte 61 xs
     or_right true b f = absurd (true≢false f)
     or_right false b f = f
 
--- a name and a value are read from their word
+-- a name and a value are read from their argument
 pub long_of_dashed : (n : Word) → is_proper n ≡ true → long_of (dashed n) ≡ Some (n, None)
 long_of_dashed [] e = absurd (true≢false (sym e))
 long_of_dashed (x ∷ xs) e =

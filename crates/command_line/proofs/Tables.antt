@@ -1,4 +1,4 @@
--- Lines of the commands of a table are what clap takes, of words with the form of one.
+-- Lines of the commands of a table are what clap takes, of arguments with the form of one.
 use Rattle.std.proofs.Common.{◌≡◌, ◌∙◌, ◌⊎◌, inl, inr, ◌&&◌, ◌||◌, ◌+◌, Bool, true, false, ℕ, List, [], ◌∷◌, Option, Some, None, option_map, refl, sym, subst, ap, ap₂, true≢false, cond, is_some, drop}
 use Rattle.std.specs.Box.{box_value}
 use Rattle.clap.specs.Matches.{found_of}
@@ -155,14 +155,14 @@ module _ (app : App) (commands : List CommandRow) (table : IsTable app commands)
 
   -- ---- the whole
 
-  -- clap's rows for the words, and what they say of them
+  -- clap's rows for the arguments, and what they say of them
   pub record Gives (words : List Word) : Type 0 where
     pub name : Word
     pub rows : List Row
     pub sub : subcommand_of app words ≡ Some (name, rows)
     pub line : IsLineOf commands words name (λ n. first_of n rows)
 
-  -- words of the form that clap takes are a line, and its rows give what the line gives
+  -- arguments of the form that clap takes are a line, and its rows give what the line gives
   pub line_from : (words : List Word) → has_form words ≡ true → fault_of app words ≡ [] → Gives words
   line_from [] form none = absurd (true≢false (sym form))
   line_from (name ∷ rest) form none = go (found_or (built app).subs commands name table.parts)
@@ -233,7 +233,7 @@ module _ (app : App) (commands : List CommandRow) (table : IsTable app commands)
           proper_names : (f : Found (built app).subs commands name) → (n : Word) → is_among n (names name f) ≡ true → is_proper n ≡ true
           proper_names f n among = passes_among is_proper n (option_names f.row) f.part.proper (ap (λ ns. is_among n ns) (sym f.part.options) ∙ among)
 
-  -- the words give one command and one value for each name
+  -- the arguments give one command and one value for each name
   pub unique_line : (words : List Word) (n m : Word) (g h : Word → Option Word) → IsLineOf commands words n g → IsLineOf commands words m h → (n ≡ m) × (g ≡ h)
   unique_line words n m g h a b =
       let t = line_taken words n g a in

@@ -1,4 +1,4 @@
--- What clap makes of a command's name and the words after it.
+-- What clap makes of a command's name and the arguments after it.
 use Rattle.std.proofs.Common.{◌≡◌, ◌∙◌, Bool, true, false, List, [], ◌∷◌, Option, Some, None, option_map, refl, sym, ap, ap₂, is_some, fold, cond}
 use Rattle.std.specs.Prelude.{find}
 use Rattle.clap.specs.Kinds.{Kinds, or_else}

@@ -1,4 +1,4 @@
--- What clap's walk makes of words that are items.
+-- What clap's walk makes of arguments that are items.
 use Rattle.std.proofs.Common.{◌≡◌, ◌∙◌, ◌&&◌, ◌||◌, ◌==◌, not, Bool, true, false, ℕ, List, [], ◌∷◌, Option, Some, None, refl, sym, ap, ap₂, true≢false, cond, fold}
 use Rattle.std.specs.Option.{option_map_or}
 use Rattle.std.specs.Str.{bytes_eq}
@@ -60,7 +60,7 @@ items_rows c rows p [] = rows
 items_rows c rows p (positional v ∷ is) = item_rows (arg_by_index c p) v rows (λ a after. items_rows c after (next_position a p) is)
 items_rows c rows p (option n v ∷ is) = item_rows (arg_by_long c n) v rows (λ a after. items_rows c after p is)
 
--- ---- the states of the walk between two words
+-- ---- the states of the walk between two arguments
 
 abbrev pub resting : Held → ℕ → Walk
 resting h p = record { held = h; waiting = idle; position = p; is_trailing = false; stopped = None }
@@ -92,7 +92,7 @@ pub and_assoc : (a b d : Bool) → ((a && b) && d) ≡ (a && (b && d))
 and_assoc true b d = refl
 and_assoc false b d = refl
 
--- ---- words
+-- ---- arguments
 
 pub not_true : (b : Bool) → not b ≡ true → b ≡ false
 not_true true e = absurd (true≢false (sym e))
@@ -184,7 +184,7 @@ module _ (s : Shape) where
   unfolding walk_fault
   passes-nil w = refl
 
--- ---- the items of words, part by part
+-- ---- the items of arguments, part by part
 
 pub record Takes (v : Word) (i : Item) (after : Option (List Item)) (items : List Item) : Type 0 where
   pub plain : is_plain v ≡ true
@@ -213,7 +213,7 @@ module _ (s : Shape) (usual_long : (n : Word) (a : Rule) → arg_by_long s.rules
     pub awaiting_passes : (h : Held) (p : ℕ) (n : Word) (a : Rule) (items : List Item) → arg_by_long s.rules n ≡ Some a → items_from (Some n) words ≡ Some items
         → passes s (awaiting a h p) words ≡ items_pass s.rules s.args_override_self h.rows p items
 
-  -- a use that waits, and then the rest of the words
+  -- a use that waits, and then the rest of the arguments
   after_use : (h : Held) (p : ℕ) (v : Word) (a : Rule) (more : List Item) → IsUsual s.rules a
       → (settles (record h { pending = Some (a.id, v ∷ []) }) && items_pass s.rules s.args_override_self (settled s.rules (record h { pending = Some (a.id, v ∷ []) })).rows p more)
       ≡ (no_kinds (use_fault s.args_override_self a (v ∷ []) h.rows) && items_pass s.rules s.args_override_self (used a (v ∷ []) h.rows) p more)

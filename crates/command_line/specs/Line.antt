@@ -1,5 +1,5 @@
 -- The command lines of the program: `one DIR --resolution R --step H --stop T [--start S] [--workers W]
--- [--max-iterations N] [--link L] [--host PROGRAM]`, `run` with the same words behind it, `check DIR --resolution R`, `trace-check DIR FILE`,
+-- [--max-iterations N] [--link L] [--host PROGRAM]`, `run` with the same arguments after it, `check DIR --resolution R`, `trace-check DIR FILE`,
 -- and `bench SEED N [--workers W]`.
 use Rattle.std.specs.Prelude.{◌≡◌, ℕ, ◌^◌, ◌<◌, ◌≤◌, Bool, true, false, List, [], ◌∷◌, map, find, Option, Some, None, if◌then◌else◌, codes, decimal, String, string_bytes}
 use Rattle.std.specs.Str.{bytes_eq}
@@ -72,7 +72,7 @@ link_row = count_row (codes "link") 1 2 (Some 1)
 abbrev pub limit_row : CountRow
 limit_row = count_row (codes "max-iterations") 1 10000 (Some 100)
 
--- the host of the machines that are part of the program
+-- the host of the built-in machines
 abbrev pub built_in_host : Word
 built_in_host = codes "builtin"
 
@@ -164,7 +164,7 @@ abbrev pub given : CommandRow → List Item → Lookup
 given row items name = if is_among name (option_names row) then value_of name items
     else positional_named name row.positionals (positionals_of items)
 
--- the words are a command's name and items: options of the command, each at most once, and no more positionals than it has
+-- the arguments are a command's name and items: options of the command, each at most once, and no more positionals than it has
 pub record IsLineOf (rows : List CommandRow) (words : List Word) (name : Word)
     (get : Lookup) : Type 0 where
   pub rest : List Word
@@ -177,7 +177,7 @@ pub record IsLineOf (rows : List CommandRow) (words : List Word) (name : Word)
   pub room : has_room row.positionals (positionals_of items) ≡ true
   pub gives : get ≡ given row items
 
--- the word is this count, in decimal digits without a sign or a leading zero, and within the option's limits
+-- the argument is this count, in decimal digits without a sign or a leading zero, and within the option's limits
 pub record IsCount (o : CountRow) (word : Word) (n : ℕ) : Type 0 where
   pub digits : word ≡ decimal n
   pub at_least : o.least ≤ n
@@ -272,7 +272,7 @@ Asks name get (OfSystem (Check line)) = (name ≡ check_row.name) × AsksCheck g
 Asks name get (OfTrace line) = (name ≡ trace_check_row.name) × AsksTrace get line
 Asks name get (OfBench line) = (name ≡ bench_row.name) × AsksBench get line
 
--- the words are a line that asks for this
+-- the arguments are a command line that asks for this
 pub record IsAsked (words : List Word) (asked : Asked) : Type 0 where
   pub name : Word
   pub get : Lookup
@@ -330,9 +330,9 @@ IsWithinLimits (OfSystem line) = KeepsLimits line
 IsWithinLimits (OfTrace line) = Unit {0}
 IsWithinLimits (OfBench line) = AreFew line
 
--- ---- words and options of the program
+-- ---- arguments and options of the program
 
--- the bytes of each word
+-- the bytes of each argument
 abbrev pub texts : List (String Global) → List Word
 texts words = map (string_bytes {Z = Global}) words
 

@@ -103,7 +103,7 @@ pub record IsTable (app : App) (commands : List CommandRow) : Type 0 where
   pub top : IsTop (built app)
   pub parts : Parts (built app).subs commands
 
--- the subcommand of the matches, with the values that they have, is a line of these words
+-- the subcommand of the matches, with the values that they have, is a line of these arguments
 pub record GivesLine (rows : List CommandRow) (words : List Word) (m : ArgMatches) : Type 0 where
   pub name : Word
   pub values : List Row

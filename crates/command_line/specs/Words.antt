@@ -1,13 +1,13 @@
--- The words of a command line behind the command's name: positionals, and options with their values.
+-- The arguments of a command line after the command's name: positionals, and options with their values.
 use Rattle.std.specs.Prelude.{◌≡◌, ◌⊎◌, ◌&&◌, ◌==◌, ◌++◌, ◌∷◌, ℕ, Bool, true, false, not, List, [], Option, Some, None, if◌then◌else◌}
 use Rattle.std.specs.List.{list_any}
 use Rattle.std.specs.Str.{bytes_eq}
 
--- the bytes of a word
+-- the bytes of an argument
 abbrev pub Word : Type 0
 Word = List ℕ
 
--- not empty, and without `-` (45) at its front
+-- not empty, and without `-` (45) at its start
 abbrev pub is_plain : Word → Bool
 is_plain [] = false
 is_plain (first ∷ others) = not (first == 45)
@@ -25,7 +25,7 @@ dashed name = 45 ∷ (45 ∷ name)
 abbrev pub joined : Word → Word → Word
 joined name value = 45 ∷ (45 ∷ (name ++ 61 ∷ value))
 
--- the words are those of the items in their order; an option is one word or two, and each positional and value is plain
+-- the arguments are those of the items in their order; an option is one argument or two, and each positional and value is plain
 abbrev pub IsSpelled : List Item → List Word → Type 0
 IsSpelled [] words = words ≡ []
 IsSpelled (positional v ∷ items) words =

@@ -4,7 +4,7 @@ ghost use Rattle.command_line.specs.Form.{are_items, has_form};
 ghost use Rattle.command_line.specs.Line.{texts};
 ghost use Rattle.command_line.specs.Words.{is_plain};
 
-/// Whether the words are a plain one and items behind it: clap takes other words too.
+/// Whether the arguments are a plain one and items after it; clap takes others too.
 pub(crate) fn has_line_form(words: &[String]) -> bool
     ensures { result ≡ has_form (texts words.now) }
 {
@@ -14,7 +14,7 @@ pub(crate) fn has_line_form(words: &[String]) -> bool
     }
 }
 
-// The words spell positionals and options whose values are plain.
+// The arguments spell positionals and options whose values are plain.
 fn are_items(words: &[String]) -> bool
     ensures { result ≡ are_items false (texts words.now) }
 {
@@ -45,7 +45,7 @@ fn are_items(words: &[String]) -> bool
     !waiting
 }
 
-// Not empty, and without a hyphen at its front.
+// Not empty, and without a hyphen at its start.
 fn is_plain(word: &str) -> bool
     ensures { result ≡ is_plain word.now }
 {
@@ -72,7 +72,7 @@ fn strip_hyphen(word: &str) -> Option<&str>
     word.strip_prefix('-')
 }
 
-// What stands before the first `=`, and what stands behind it.
+// What stands before the first `=`, and what comes after it.
 fn split_value(text: &str) -> (&str, Option<&str>)
     ensures { (result.0.now, option_map (λ s. s.now) result.1) ≡ name_and_value text.now }
 {

@@ -1,4 +1,4 @@
-//! The command line of the program: the words that it takes, and the options that they denote.
+//! The command line of the program: the arguments that it takes, and the options that they denote.
 #![tactic(auto)]
 
 mod clap_command;

@@ -10,7 +10,7 @@ use crate::form::has_line_form;
 use clap::error::ErrorKind;
 use clap::{ArgMatches, Command};
 
-/// The matches of words that are a line of a table of commands, for the command that has this table.
+/// The matches of arguments that are a line of a table of commands, for the command that has this table.
 pub(crate) fn read_line<'a>(
     command: Command<'a>,
     words: &'a [String],
@@ -27,7 +27,7 @@ pub(crate) fn read_line<'a>(
     parse(command, words)
 }
 
-// What clap makes of the words.
+// What clap makes of the arguments.
 fn parse<'a>(command: Command<'a>, words: &'a [String]) -> Result<ArgMatches<'a>, WordsFault>
     requires { is_simple_and_free (app_of command) ≡ true }
     ensures ok { IfOk result (λ m. (fault_of (app_of command.entry) (texts words.entry.now) ≡ [])

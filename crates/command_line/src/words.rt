@@ -28,7 +28,7 @@ const RUN_OPTIONS: [&str; 8] = [
     "host",
 ];
 
-/// The host of the machines that are part of the program, which a run has where no option says it.
+/// The name of the host of the built-in machines, the default of `--host`.
 pub const BUILT_IN_HOST: &str = "builtin";
 
 // The most instants at a point, where no option says it.
@@ -99,9 +99,9 @@ pub struct BenchOptions {
     pub workers: u32,
 }
 
-/// Reads the words of a command line, without the program's name.
+/// Reads the arguments of a command line, without the program's name.
 ///
-/// `NoLine` comes only where the words are no line. `Memory` may come for any words.
+/// `NoLine` comes only where the arguments are no command line. `Memory` may come for any arguments.
 pub fn read_words(alloc: Global, words: &[String]) -> Result<Request<'_>, WordsFault>
     ensures ok { IfOk result (λ r. IsAsked (texts words.now) (asked_of r)) }
     ensures none { IfErr result (λ e. e ≡ NoLine → (asked : Asked) →
@@ -119,7 +119,7 @@ pub fn read_words(alloc: Global, words: &[String]) -> Result<Request<'_>, WordsF
     }
 }
 
-// The matches of the words, where they are a line of the program's commands.
+// The matches of the arguments, where they are a line of the program's commands.
 fn find_line<'a>(alloc: Global, words: &'a [String]) -> Result<ArgMatches<'a>, WordsFault>
     ensures ok { IfOk result (GivesLine commands (texts words.entry.now)) }
     ensures none { IfErr result (λ e. e ≡ NoLine → (name : Word) (get : Lookup) →

@@ -1,4 +1,4 @@
--- Where a Clock is armed for the point of an instant behind it, it was armed in that instant: its FMU answered a new interval of no length (FMI 3.0, 2.2.9: countdown Clocks; a changing Clock has an interval of at least one count).
+-- Where a Clock is armed for the point of an instant after it, it was armed in that instant: its FMU answered a new interval of no length (FMI 3.0, 2.2.9: countdown Clocks; a changing Clock has an interval of at least one count).
 use Rattle.std.proofs.Common.{◌≡◌, ◌⊎◌, inl, inr, ℕ, zero, suc, ◌+◌, ◌*◌, ◌/◌, ◌%◌, ◌<◌, ◌==◌, ℤ, Bool, true, false, List, [], ◌∷◌, Option, Some, None, Ok, Result, refl, sym, ap, ◌∙◌, subst, arith}
 use Rattle.std.specs.Prelude.{◌&&◌, ◌||◌, ◌≤◌, if◌then◌else◌, nat_le}
 use Rattle.std.specs.List.{list_any, slice_get}
@@ -137,7 +137,7 @@ counter_none f per above true true test h = positive per f.counter above (none_o
 counter_none f per above true false test h = absurd (cc)
 counter_none f per above false b test h = absurd (cc)
 
--- ---- behind it
+-- ---- after it
 
 interval_told : (reply : Option Reply) (f : Fraction) → interval_by reply ≡ Changed f → (is_warning : Bool) × (reply ≡ Some (R.Done is_warning (A.GetInterval (Changed f))))
 interval_told None f h = absurd (cc)

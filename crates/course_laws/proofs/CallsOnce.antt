@@ -110,11 +110,11 @@ record Traits : Type 0 where
   events : Bool
   saved : Bool
 
--- behind its Save, if there was one, no step was made
+-- after its Save, if there was one, no step was made
 abbrev kept_by : Bool → Open
 kept_by saved = if saved then Some None else None
 
--- with event mode or without, behind the Updates of an instant
+-- with event mode or without, after the Updates of an instant
 abbrev below_seen : Bool → ℕ
 below_seen e = (instant_span false e).from
 
@@ -137,7 +137,7 @@ limit_at e (Short w component end) = limit saved_kinds (suc w.s.t) (step_span e.
 limit_at e (Agreed w point asked) = limit stepped_kinds point 1
 limit_at e (Stepped s asked) = limit stepped_kinds s.t 1
 
--- and behind what is sent from there
+-- and after what is sent from there
 abbrev limit_behind : Traits → Plan → Place → Limit
 limit_behind e plan Made = limit_at e Configured
 limit_behind e plan Configured = limit_at e Entered
@@ -171,7 +171,7 @@ later_on system plan _ _ _ _ (Sets w values log) later = later
 later_on system plan _ _ _ _ (Saves w values log) later = later
 later_on system plan _ _ _ _ leads later = tt
 
--- ---- spans one behind the other
+-- ---- spans one after the other
 
 read_asked : (is_first e : Bool) → ((instant_span is_first e).below ≤ (interval_span e).from) × ((interval_span e).from ≤ (interval_span e).below)
 read_asked is_first true = (omega arith, omega arith)
@@ -258,7 +258,7 @@ module _ (system : System) (sound : IsSound system) (k : ℕ) (c : Component) (o
     fall : SizesFall None (mine log)
     fall = subst (SizesFall None) (own_calls k log) (falls_from t step (shapes_of system) b later log o agrees k stand.0 stand.1)
 
-    -- where all stand behind t a step of it was made
+    -- where all are past t a step of it was made
     begun : (m : ℕ) → are_at m (stands_by t (all_at t (shapes_of system)) log) ≡ true → t < m → mine log ≡ [] → ⊥
     begun m there after none =
         let empty : part k log ≡ [] = no_exchange (part k log) (own_calls k log ∙ none) in

@@ -78,7 +78,7 @@ module _ (system : System) where
   abbrev Good : List Sent → Type 0
   Good log = All (IsGoodOf ss) log
 
-  -- what is sent is to components that are there, in a round one behind the other
+  -- what is sent is to components that are there, in a round one after the other
   abbrev IsPlaced : Part → Type 0
   IsPlaced (Calls calls) = All (IsToOne (length ss)) calls
   IsPlaced (Round calls) = All (IsToOne (length ss)) calls × AreInOrder 0 calls

@@ -35,7 +35,7 @@ module _ (ss : List Shape) (bad : BadAnswer) (log : List Sent) (b : EndsBadly ss
       ∙ ap (λ (es : List Exchange). part k b.front ++ es)
       (takes (k == k) b.last.exchange (part k b.back) (same k k refl) ∙ ap (λ (es : List Exchange). b.last.exchange ∷ es) (b.alone k (omega arith)))
 
-  -- those of the components before it stand in front of it
+  -- those of the components before it come before it
   part_before : (j : ℕ) → j < b.last.component → part j log ≡ part j b.front
   part_before j before =
       ap (part j) b.log_is ∙ part_append j b.front (b.last ∷ b.back)
@@ -60,7 +60,7 @@ module _ (ss : List Shape) (bad : BadAnswer) (log : List Sent) (b : EndsBadly ss
 
 -- ---- calls in the order of the components
 
--- each is to one of those from the i-th on, and behind those before it
+-- each is to one of those from the i-th on, and after those before it
 abbrev pub AreInOrder : ℕ → List Asking → Type 0
 AreInOrder i [] = Unit {0}
 AreInOrder i (a ∷ calls) = (i ≤ a.component) × AreInOrder (suc a.component) calls
@@ -101,7 +101,7 @@ amid n [] last back left all = All-head (IsToOne n) _ _ all
 amid n (f ∷ front) last back left all = amid n front last back left (All-tail (IsToOne n) _ _ all)
 
 module _ (ss : List Shape) (bad : BadAnswer) (before log : List Sent) (good : All (IsGoodOf ss) before) where
-  -- behind good answers
+  -- after good answers
   behind : (front : List Sent) (last : Sent) (back : List Sent) → log ≡ front ++ last ∷ back → IsFirst ss bad front last → last.component < length ss → ((j : ℕ) → j ≤ last.component → part j back ≡ []) → EndsBadly ss bad (before ++ log)
   behind front last back is first within alone = record {
     front = before ++ front;

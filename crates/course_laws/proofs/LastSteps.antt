@@ -58,7 +58,7 @@ ends_same a b (Ok (R.Refused kind status)) h k = absurd h
 ends_same a b (Err fault) h k = absurd h
 
 module _ (t : ℕ) (shape : Shape) where
-  -- the last step ended there, and stands behind the last Save
+  -- the last step ended there, and comes after the last Save
   pub record IsLast (point : ℕ) (o : Option Exchange) (has : Bool) : Type 0 where
     pub exchange : Exchange
     pub is : o ≡ Some exchange
@@ -101,7 +101,7 @@ stand_in t log s i [] j is = absurd (none_some s is)
 stand_in t log s i (x ∷ ss) zero is = let place : i ≡ i + 0 = omega arith in ap Some (ap₂ (λ (y : Stand) (n : ℕ). stand_by t y (part n log)) (same_Some x s is) place)
 stand_in t log s i (x ∷ ss) (suc j) is = let place : suc i + j ≡ i + suc j = omega arith in stand_in t log s (suc i) ss j is ∙ ap (λ (n : ℕ). Some (stand_by t s (part n log))) place
 
--- one behind a log
+-- one after a log
 pub stand_behind : (t : ℕ) (stands : List Stand) (log : List Sent) (k : ℕ) (s : Stand) → slice_get stands k ≡ Some s → slice_get (stands_by t stands log) k ≡ Some (stand_by t s (part k log))
 stand_behind t stands log k s is = let place : 0 + k ≡ k = omega arith in stand_in t log s 0 stands k is ∙ ap (λ (n : ℕ). Some (stand_by t s (part n log))) place
 
@@ -111,7 +111,7 @@ each_from P t log i (s ∷ ss) h zero y is = let place : i + 0 ≡ i = omega ari
 each_from P t log i (s ∷ ss) h (suc j) y is =
     each_from P t log (suc i) ss (λ k x at. let place : i + suc k ≡ suc i + k = omega arith in subst (λ (n : ℕ). P (stand_by t x (part n log))) place (h (suc k) x at)) j y is
 
--- what holds of each behind a log
+-- what holds of each after a log
 pub each_behind : (P : Stand → Type 0) (t : ℕ) (stands : List Stand) (log : List Sent) → ((k : ℕ) (s : Stand) → slice_get stands k ≡ Some s → P (stand_by t s (part k log))) → (j : ℕ) (y : Stand) → slice_get (stands_by t stands log) j ≡ Some y → P y
 each_behind P t stands log h j y is = each_from P t log 0 stands (λ k s at. let place : k ≡ 0 + k = omega arith in subst (λ (n : ℕ). P (stand_by t s (part n log))) place (h k s at)) j y is
 

@@ -1,4 +1,4 @@
--- Calls of one component one behind the other, of which none stands twice where it isn't needed.
+-- Calls of one component one after the other, of which none stands twice where it isn't needed.
 use Rattle.std.proofs.Common.{◌≡◌, ℕ, ◌<◌, ◌≤◌, Bool, true, false, List, [], ◌∷◌, ◌++◌, refl, sym, ap, ◌∙◌, subst, append_assoc, append-nil, arith}
 use Rattle.std.specs.Prelude.{All, IfSome, Option, None, Some, if◌then◌else◌}
 use Rattle.std.proofs.lemmas.List.Elements.{All-append, All-cons, All-head, All-nil, All-tail, All-weaker}
@@ -33,7 +33,7 @@ pub front_all : (P : Call → Type 0) (a b : List Call) → All P (a ++ b) → A
 front_all P [] b all = All-nil P
 front_all P (c ∷ a) b all = All-cons P c a (All-head P c (a ++ b) all) (front_all P a b (All-tail P c (a ++ b) all))
 
--- ---- the sizes of steps behind a Save
+-- ---- the sizes of steps after a Save
 
 -- where a state is saved, the size of the last step since, below which the next has to be
 abbrev pub Open : Type 0
@@ -49,7 +49,7 @@ abbrev pub IsBelow : Call → Open → Type 0
 IsBelow (C.DoStep at size) (Some bound) = IfSome bound (λ b. size < b)
 IsBelow call kept = Unit {0}
 
--- behind calls, and each step of them is below
+-- after calls, and each step of them is below
 abbrev pub open_behind : Open → List Call → Open
 open_behind kept [] = kept
 open_behind kept (c ∷ cs) = open_behind (open_by c kept) cs
@@ -166,7 +166,7 @@ use_runs (C.GetInterval reference) h = refl
 use_runs (C.GetShift reference) h = refl
 use_runs c h = absurd (omega (arith, h))
 
--- ---- one part behind others
+-- ---- one part after others
 
 module _ (l m : Limit) (calls : List Call) (so : IsSo l calls) where
   pub weaker : Keep l m → l.kept ≡ m.kept → IsSo m calls

@@ -57,7 +57,7 @@ module _ (P : Call → Type 0) where
   seen_all [] seen all mine = all
   seen_all (c ∷ cs) seen all mine = seen_all cs (seen_after seen c) (seen_one c seen (All-head P c cs mine) all) (All-tail P c cs mine)
 
-  -- behind the first step nothing else is
+  -- after the first step nothing else is
   seen_alone : (t : ℕ) (cs seen : List Call) → Alternates t false cs → (cs ≡ [] → ⊥) → All P cs → All P (seen_behind seen cs)
   seen_alone t [] seen alt some mine = absurd (some refl)
   seen_alone t (C.DoStep at size ∷ cs) seen alt some mine =
@@ -72,7 +72,7 @@ calls_all P t step back (C.DoStep at size ∷ cs) stepped (from, alt) = All-cons
 calls_all P t step back (C.Restore ∷ cs) stepped (was, alt) = All-cons P C.Restore cs back (calls_all P t step back cs false alt)
 calls_all P t step back (c ∷ cs) stepped alt = absurd alt
 
--- ---- the sizes of steps behind a Save
+-- ---- the sizes of steps after a Save
 
 -- where none is saved, none is kept; else some size is
 pub data IsKeptSo : Open → Open → Type 0 where
@@ -91,7 +91,7 @@ rounds_closed t (C.DoStep at size ∷ cs) stepped (from, alt) = let more = round
 rounds_closed t (C.Restore ∷ cs) stepped (was, alt) = let more = rounds_closed t cs false alt in ((tt, more.0), more.1)
 rounds_closed t (c ∷ cs) stepped alt = absurd alt
 
--- ---- behind other calls
+-- ---- after other calls
 
 -- as the limit says, with some size kept where one was
 pub record IsSomehow (l m : Limit) (calls : List Call) : Type 0 where
@@ -113,7 +113,7 @@ none_kept : (x o : Open) → IsKeptSo x o → x ≡ None → o ≡ None
 none_kept _ _ NoneKept none = refl
 none_kept _ _ (SomeKept a b) none = absurd (cc)
 
--- behind a Free none is kept
+-- after a Free none is kept
 pub freed_kept : (saved : Bool) (o : Open) → IsKeptSo (if saved then Some None else None) o → (if saved then open_by C.Free o else o) ≡ None
 freed_kept true o kept = refl
 freed_kept false o kept = none_kept None o kept refl

@@ -47,7 +47,7 @@ IsOf Uses c = 0 < use_in c
 IsOf (Only kind) c = kind_of c ≡ kind
 IsOf Rounds c = is_of_rounds (kind_of c) ≡ true
 
--- what is sent from a place; from behind an instant nothing is
+-- what is sent from a place; from the place after an instant nothing is
 abbrev pub sort_at : Place → Sort
 sort_at Configured = Only K.EnterInitialization
 sort_at (Timed timers) = Only K.ExitInitialization

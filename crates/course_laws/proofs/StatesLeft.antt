@@ -116,7 +116,7 @@ never : (es : List Exchange) (f : Exchange) (fs : List Exchange) → es ++ f ∷
 never [] f fs is = absurd (cc)
 never (x ∷ es) f fs is = absurd (cc)
 
--- the last is among those behind, if there are any
+-- the last is among those after, if there are any
 split_last : (es fs front : List Exchange) (e : Exchange) → es ++ fs ≡ front ++ e ∷ [] → (fs ≡ []) ⊎ ((rest : List Exchange) × (fs ≡ rest ++ e ∷ []))
 split_last es [] front e is = inl refl
 split_last [] (f ∷ fs) front e is = inr (front, is)
@@ -145,7 +145,7 @@ good_kept shape e good given =
     let of_free = subst (λ (c : Call). MatchResult e.result (λ reply. grade_of shape c reply ≡ G.Good) (λ fault. ⊥)) given.frees good in
     absurd (let wrong : G.Refused ≡ G.Good = subst (λ (r : Result Reply PeerFault). MatchResult r (λ reply. grade_of shape C.Free reply ≡ G.Good) (λ fault. ⊥)) given.discarded of_free in cc)
 
--- nothing stands behind what alone may be given up
+-- nothing comes after what alone may be given up
 last_of : (es fs front rest : List Exchange) (e : Exchange) → All IsKept es → (fs ≡ []) ⊎ ((f : Exchange) × (fs ≡ f ∷ [])) → es ++ fs ≡ front ++ e ∷ rest → IsGivenUp e → rest ≡ []
 last_of [] fs front rest e kept (inl none) is given = absurd (never front e rest (sym is ∙ none))
 last_of [] fs [] rest e kept (inr (f, one)) is given = rest_same e f rest [] (sym is ∙ one)
@@ -186,7 +186,7 @@ module _ (s : Shape) (was : List Exchange) where
     by (Ok reply) g = ap (λ (z : Grade). if_good z x) g
     by (Err fault) g = absurd g
 
-  -- behind a Save it is held, and no step was made
+  -- after a Save it is held, and no step was made
   after_save : (b : Bool) (es : List Exchange) → Sends b C.Save es → T.AllGood s es → saved_after s false was ≡ false → saved_after s false (was ++ es) ≡ b
   after_save b _ (One able e call) good none = saved_on s false was (e ∷ []) ∙ good_saved e call (All-head (IsGood s) e [] good) (saved_after s false was) ∙ sym able
   after_save b _ (NoOne unable) good none = ap (saved_after s false) (append-nil was) ∙ none ∙ sym unable
@@ -196,7 +196,7 @@ module _ (s : Shape) (was : List Exchange) where
   unstepped b _ (One able e call) none held = stepped_on false was (e ∷ []) ∙ ap (λ (c : Call). steps c (has_stepped false was)) call
   unstepped b _ (NoOne unable) none held = absurd (let wrong : true ≡ false = sym held ∙ ap (saved_after s false) (append-nil was) ∙ none in cc)
 
-  -- behind a step
+  -- after a step
   after_step : (at size : ℕ) (es : List Exchange) → Sends true (C.DoStep at size) es →
       (e : Exchange) × (es ≡ e ∷ []) × (last_step None (was ++ es) ≡ Some e) × (has_stepped false (was ++ es) ≡ true) × (saved_after s false (was ++ es) ≡ saved_after s false was)
   after_step at size _ (One able e call) = (
@@ -208,7 +208,7 @@ module _ (s : Shape) (was : List Exchange) where
   )
   after_step at size _ (NoOne unable) = absurd (cc)
 
-  -- behind a Free, whatever is answered
+  -- after a Free, whatever is answered
   after_free : (b : Bool) (es : List Exchange) → Sends b C.Free es → saved_after s false was ≡ b → (saved_after s false (was ++ es) ≡ false) × (has_stepped false (was ++ es) ≡ has_stepped false was)
   after_free b _ (One able e call) held = (
     saved_on s false was (e ∷ []) ∙ ap (λ (c : Call). saved_by s c e.result (saved_after s false was)) call,
@@ -254,7 +254,7 @@ module _ (system : System) where
   abbrev AllAgree : List Sent → Type 0
   AllAgree log = (m : ℕ) × ((k : ℕ) (d : Shape) → k < n → IfSome (last_step None (part k log)) (λ e. IsGood (get_or ss k d) e × EndsAt m e.result))
 
-  -- behind a Free all agree
+  -- after a Free all agree
   abbrev IsFreed : List Sent → ℕ → Type 0
   IsFreed log k = (front : List Exchange) (e : Exchange) → part k log ≡ front ++ e ∷ [] → e.call ≡ C.Free → AllAgree log × (has_stepped false front ≡ true)
 
@@ -286,7 +286,7 @@ module _ (system : System) where
   past_left : (log : List Sent) → ArePast log → AreLeft log
   past_left log past k d w = record { held = λ held. absurd (let wrong : true ≡ false = sym held ∙ (past k d w).unheld in cc); freed = (past k d w).freed }
 
-  -- the same, behind steps that agree
+  -- the same, after steps that agree
   abbrev HaveMet : (Shape → Bool) → List Sent → Type 0
   HaveMet test log = AllAgree log × ((k : ℕ) (d : Shape) → k < n → (saved_after (get_or ss k d) false (part k log) ≡ test (get_or ss k d)) × (has_stepped false (part k log) ≡ true))
 
@@ -387,7 +387,7 @@ module _ (system : System) where
         let stepped_is = ap (has_stepped false) (part_append k log more) ∙ stepped_on false (part k log) (part k more) in
         record { exchange = led.exchange; is = last_is ∙ led.is; good = led.good; end = led.end; stepped = stepped_is ∙ led.stepped }
 
-    -- behind which all agree
+    -- after which all agree
     met_on : (test : Shape → Bool) (m : ℕ) → AreHeld test log → AgreeBy system t step b more (Meets m) → HaveMet test (log ++ more)
     met_on test m held agrees = (
       (
@@ -603,7 +603,7 @@ task_at system plan (Agreed w point asked) = Freeing (saved_in system)
 task_at system plan p = Keeping
 
 module _ (system : System) where
-  -- how it stands before them, and behind good answers
+  -- how it stands before them, and after good answers
   abbrev Before : Task → List Sent → Type 0
   Before (Meeting test t step b) log = AreHeld system test log × (t < b)
   Before (Freeing test) log = HaveMet system test log
@@ -642,7 +642,7 @@ module _ (system : System) where
   good_keeps : (log : List Sent) → All (IsGoodOf (shapes_of system)) log → (k : ℕ) (d : Shape) → All IsKept (part k log)
   good_keeps log good k d = All-weaker (IsGood (get_or (shapes_of system) k d)) IsKept (good_kept (get_or (shapes_of system) k d)) (part k log) (good_part (shapes_of system) log good k d)
 
-  -- behind calls with good answers others, of which none is a Free
+  -- after calls with good answers others, of which none is a Free
   keeps_on : (front more : List Sent) → All (IsGoodOf (shapes_of system)) front → (k : ℕ) (d : Shape) → NoFree (part k more) → All IsKept (part k (front ++ more))
   keeps_on front more good k d none = subst (All IsKept) (sym (part_append k front more)) (All-append IsKept (part k front) (part k more) (good_keeps front good k d) (other_kept (part k more) none))
 

@@ -18,9 +18,9 @@ use Rattle.event_iteration.specs.Updates.{answer_passes}
 use Rattle.fmu_peer.specs.Talk.{calls_in}
 use Rattle.course_laws.proofs.ArmedClocks.{is_arming}
 
--- ---- exchanges one behind the other
+-- ---- exchanges one after the other
 
--- what stands before, behind exchanges
+-- what stands before, after exchanges
 abbrev pub stay_after : Stay → List Exchange → Stay
 stay_after stay [] = stay
 stay_after stay (e ∷ es) = stay_after (stay_behind stay e.call e.result) es

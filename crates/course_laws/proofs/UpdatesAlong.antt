@@ -151,7 +151,7 @@ module _ (system : System) (sound : IsSound system) (bound : Bound) (plan : Plan
   no_of_quiet log all i = All-weaker IsQuiet IsNoUpdate quiet_no (own i (askings log)) (all i)
 
   module _ (front : List Sent) where
-    -- behind calls that neither are Updates nor begin or end a stay
+    -- after calls that neither are Updates nor begin or end a stay
     onward : (p q : Place) (log : List Sent) → Throughout system IsQuiet log → (a : IsAt p front) → Besides q (front ++ log) a.m a.flag → IsAt q (front ++ log)
     onward p q log all a besides = record { m = a.m; flag = a.flag; talks = quiet system front log a.m a.flag a.talks all; besides = besides }
 
@@ -199,7 +199,7 @@ module _ (system : System) (sound : IsSound system) (bound : Bound) (plan : Plan
     fallen p bad log a falls all = (still system front log a.m a.flag a.talks.table (no_of_quiet log all)).needed
 
   module _ (made : List Sent) (answered : askings made ≡ making plan.link system) where
-    -- behind the calls that made the instances
+    -- after the calls that made the instances
     made_at : IsAt Made made
     made_at = record {
       m = 0;

@@ -17,7 +17,7 @@ use Rattle.calling_sequence.specs.Course.{Course, Found, Made, Place, Read, Seen
 use Rattle.calling_sequence.specs.Ends.{EndsBy}
 use Rattle.calling_sequence.specs.Parts.{Falls}
 
--- where a run may stop without a bad answer: before its header or behind it, where the values of Initialization Mode or of an instant are found and one is lost on its way, behind an instant, behind a step, and before a size on the way to an agreement that a component doesn't take
+-- where a run may stop without a bad answer: before its header or after it, where the values of Initialization Mode or of an instant are found and one is lost on its way, after an instant, after a step, and before a size on the way to an agreement that a component doesn't take
 abbrev pub IsHalt : Place → Type 0
 IsHalt Made = Unit {0}
 IsHalt (Found values) = Unit {0}
@@ -42,7 +42,7 @@ pub data Comes (system : System) : Option BadAnswer → List Sent → Type 0 whe
       Falls system (part_at system bound plan p) bad more →
       Comes system (Some bad) (made ++ (front ++ more))
 
--- what the end says of a bad answer; behind a put that failed there may be one or none
+-- what the end says of a bad answer; after a put that failed there may be one or none
 abbrev pub TellsEnd : RunEnd → Option BadAnswer → Type 0
 TellsEnd E.Stop bad = bad ≡ None
 TellsEnd (E.Asked point) bad = bad ≡ None

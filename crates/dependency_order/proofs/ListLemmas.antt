@@ -11,7 +11,7 @@ use Rattle.dependency_order.specs.Graph.{AreBelow, Needs, lists_of}
 abbrev items : Vec ℕ Global → List ℕ
 items row = row.items
 
--- the list of lists, where one has more behind it
+-- the list of lists, where one has more after it
 pub with_row : (rows : List (Vec ℕ Global)) (lists : List (List ℕ)) (at : ℕ) (old new : Vec ℕ Global) (more : List ℕ) → lists_of rows ≡ lists → at < length lists → old ≡ get_or rows at old → new.items ≡ old.items ++ more
     → lists_of (set rows at new) ≡ set lists at (get_or lists at [] ++ more)
 with_row rows lists at old new more view inside is has =
@@ -38,7 +38,7 @@ in_same rows at new x within has = subst (λ z. Contains z x) (sym (get_or-set_s
 pub in_same_back : (rows : List (List ℕ)) (at : ℕ) (new : List ℕ) (x : ℕ) → at < length rows → Contains (get_or (set rows at new) at []) x → Contains new x
 in_same_back rows at new x within has = subst (λ z. Contains z x) (get_or-set_same rows at new [] within) has
 
--- a number behind the list at a place
+-- a number after the list at a place
 pub in_pushed : (rows : List (List ℕ)) (at number k x : ℕ) → at < length rows → Contains (get_or rows k []) x → Contains (get_or (set rows at (get_or rows at [] ++ number ∷ [])) k []) x
 in_pushed rows at number k x within has = by (cases_eq k at)
   where

@@ -55,7 +55,7 @@ walks_drop R (suc k) [] b w = tt
 walks_drop R (suc k) (x ∷ []) b w = walks_drop R k [] b tt
 walks_drop R (suc k) (x ∷ y ∷ ys) b w = walks_drop R k (y ∷ ys) b w.1
 
--- a path that leads on to one of its own nodes has a loop behind it
+-- a path that leads on to one of its own nodes has a loop after it
 pub loop_behind : (R : ℕ → ℕ → Type 0) (xs : List ℕ) (k b : ℕ) → Walks R xs b → k < length xs → get_or xs k 0 ≡ b → IsLoop R (drop k xs)
 loop_behind R xs k b w within is =
     let e : drop k xs ≡ b ∷ drop (k + 1) xs = drop_more xs k 0 within ∙ ap (λ z. z ∷ drop (k + 1) xs) is in

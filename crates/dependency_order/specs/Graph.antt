@@ -27,12 +27,12 @@ pub record IsClosed (graph : List (List ℕ)) : Type 0 where
 abbrev pub IsOnce : List ℕ → Type 0
 IsOnce order = (i : ℕ) → i < length order → Contains (take i order) (slice_index_or order i 0) → ⊥
 
--- each node stands behind all that it needs
+-- each node comes after all that it needs
 abbrev pub IsBehind : (ℕ → ℕ → Type 0) → List ℕ → Type 0
 IsBehind NeedsOf order =
     (i q : ℕ) → i < length order → NeedsOf (slice_index_or order i 0) q → Contains (take i order) q
 
--- an order of certain nodes: all of them and no others, each once and behind all that it needs
+-- an order of certain nodes: all of them and no others, each once and after all that it needs
 pub record IsOrder (IsAmong : ℕ → Type 0) (NeedsOf : ℕ → ℕ → Type 0) (order : List ℕ) : Type 0 where
   pub each : (p : ℕ) → IsAmong p → Contains order p
   pub only : (p : ℕ) → Contains order p → IsAmong p

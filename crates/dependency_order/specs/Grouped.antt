@@ -22,7 +22,7 @@ pub record IsGrouped (needs : GroupedNeeds) : Type 0 where
   pub named : AreNamed needs.group_of.items (length needs.groups)
   pub few : length needs.listed + length needs.groups < 2 ^ 64
 
--- ---- a graph where each group is one more node, behind the others
+-- ---- a graph where each group is one more node, after the others
 
 abbrev pub group_node : ℕ → Option ℕ → List ℕ
 group_node nodes None = []

@@ -1,4 +1,4 @@
--- How an order is found: nodes are put behind what they need, and wait for what isn't put yet.
+-- How an order is found: nodes are put after what they need, and wait for what isn't put yet.
 use Rattle.std.specs.Prelude.{◌≡◌, ◌⊎◌, ℕ, ◌+◌, ◌<◌, ◌≤◌, Bool, not, List, [], length, take, slice_index_or, Contains, count_by}
 use Rattle.dependency_order.specs.Graph.{Needs, IsOnce, IsBehind}
 use Rattle.dependency_order.specs.Paths.{IsMarked}

@@ -84,7 +84,7 @@ fn nodes_below(alloc: Global, nodes: &[usize], limit: usize) -> Result<Vec<usize
     Ok(kept)
 }
 
-/// An order of all nodes, each behind those that it needs by its list or its group, or a loop where there is none, in time
+/// An order of all nodes, each after those that it needs by its list or its group, or a loop where there is none, in time
 /// linear in lists and groups.
 pub fn order_grouped(alloc: Global, needs: GroupedNeeds) -> Result<Found, AllocError>
     requires grouped { IsGrouped needs }

@@ -1,4 +1,4 @@
-//! An order in which each node stands behind all that it needs, or a loop where there is none; and what is reached along links.
+//! An order in which each node comes after all that it needs, or a loop where there is none; and what is reached along links.
 #![tactic(auto)]
 
 mod grouped;

@@ -67,7 +67,7 @@ impl Lists {
         self.are_below(self.len())
     }
 
-    /// Puts a number behind the list at a place.
+    /// Appends a number to the list at a place.
     pub fn push(&mut self, at: usize, number: usize) -> Result<(), AllocError>
         requires { at < length self.old }
         ensures pushed { OnOk result (self.new ≡ slice_set self.old at
@@ -86,7 +86,7 @@ impl Lists {
         mem::replace(&mut self.rows[at], Vec::new(alloc))
     }
 
-    /// Puts the other lists behind these.
+    /// Appends the other lists to these.
     pub fn append(&mut self, other: Lists) -> Result<(), AllocError>
         ensures all { OnOk result (self.new ≡ self.old ++ other) }
     {

@@ -13,7 +13,7 @@ use std::alloc::{AllocError, Global};
 /// What a search for an order finds.
 #[derive(Debug, Drop)]
 pub enum Found {
-    /// each node once, behind all that it needs
+    /// each node once, after all that it needs
     Order(Vec<usize>),
     /// where there is no order, nodes of which each needs the next, the last the first, from the least on
     Loop(Vec<usize>),
@@ -184,7 +184,7 @@ fn first_unplaced(placed: &[bool]) -> Option<usize>
     None
 }
 
-/// An order of all nodes, each behind those that it needs, or a loop where there is none, in linear time.
+/// An order of all nodes, each after those that it needs, or a loop where there is none, in linear time.
 pub fn find_order(alloc: Global, needs: &Lists) -> Result<Found, AllocError>
     requires closed { IsClosed needs.now }
     ensures { IfOk result (IsFound (λ p. p < length needs.now) (Needs needs.now)) }

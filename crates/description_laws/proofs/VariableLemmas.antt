@@ -92,7 +92,7 @@ module _ (t : List Node) (per_second : ℕ) (sound : IsSoundDescription t per_se
     distinct : IsDistinct nat_eq (map (λ (v : Variable). v.reference) shape.variables)
     distinct = references_distinct t per_second sound shape.variables describes.variables
 
-    -- an element of a Clock is foreign, or its reference is that of a Clock
+    -- an element of a Clock is ignored, or its reference is that of a Clock
     clock_at : (c reference : ℕ) → clock_key t c ≡ Some reference → IsForeign t c ⊎ (is_at is_clock shape.variables reference ≡ true)
     clock_at c reference key = by_kind partner.holds.kind
       where
@@ -119,7 +119,7 @@ module _ (t : List Node) (per_second : ℕ) (sound : IsSoundDescription t per_se
             inr (ap (λ (o : Option Variable). option_map_or is_clock o false) found
             ∙ ap is_clock_type (own.1 ∙ ap port_type ((bytes_eq-Decides (name_of t c) (codes "Clock")).0 sorts.0)))
 
-    -- what a variable names that isn't foreign are Clocks, which aren't foreign either
+    -- what a variable names that isn't ignored are Clocks, which aren't ignored either
     names_clock : (k : ℕ) (v : Variable) → is_variable t k ≡ true → IsKind t k v.kind v.start → is_some v.kind ≡ true → (reference : ℕ) → Contains (clocks_of t k) reference → is_at is_clock shape.variables reference ≡ true
     names_clock k v is (inl foreign) kind reference among = absurd (true_false (sym kind ∙ ap is_some foreign.1))
     names_clock k v is (inr own) kind reference among =

@@ -59,7 +59,7 @@ sees_more seen new pairs name value text s e u = λ n.
     ∙ pick (bytes_eq name n) (has pairs n)
     ∙ sym (has_append pairs name value n)
 
--- a name is among the first of these, or behind them
+-- a name is among the first of these, or after them
 has_split : (k : ℕ) (ps : List Pair) (n : List ℕ) → has ps n ≡ has (take k ps) n || has (drop k ps) n
 has_split zero ps n = refl
 has_split (suc k) [] n = refl
@@ -70,7 +70,7 @@ take_map zero xs = refl
 take_map (suc k) [] = refl
 take_map (suc k) (x ∷ xs) = ap (λ z. pair_of x ∷ z) (take_map k xs)
 
--- a name that isn't among the first is there where it is behind them
+-- a name that isn't among the first is there where it is after them
 pub is_behind : (k : ℕ) (xs front : List Attribute) (ps : List Pair) (n : List ℕ) (b c : Bool) → ps ≡ map pair_of xs → front ≡ take k xs → c ≡ has (map pair_of front) n → c ≡ false → b ≡ has (drop k (map pair_of xs)) n → b ≡ has ps n
 is_behind k xs front ps n b c e f g h i =
     let w : has (take k (map pair_of xs)) n ≡ false = ap (λ z. has z n) (sym (take_map k xs)) ∙ ap (λ z. has (map pair_of z) n) (sym f) ∙ sym g ∙ h in
@@ -88,7 +88,7 @@ few_more k seen old new a h e s =
     let more : length (map pair_of new) ≤ k = omega (arith, length-map new pair_of, ap length e, length-append old (a ∷ [])) in
     subst (λ z. Sees seen z) (drop_all k (map pair_of old) few ∙ sym (drop_all k (map pair_of new) more)) s
 
--- one more behind them
+-- one more after them
 pub many_more : (k : ℕ) (seen next : BTreeSet (String Global)) (old new : List Attribute) (a : Attribute) (text : String Global) → k ≤ length old → new ≡ old ++ a ∷ [] → Sees seen (drop k (map pair_of old)) → string_bytes text ≡ encode_utf8_all a.name.items → Updates string_cmp seen next text true → Sees next (drop k (map pair_of new))
 many_more k seen next old new a text h e s t u =
     let many : k ≤ length (map pair_of old) = omega (arith, length-map old pair_of) in

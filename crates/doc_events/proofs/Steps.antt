@@ -71,7 +71,7 @@ none_within (v ∷ vs) h = absurd (some (names_of (v ∷ vs)) h (not_none vs v))
     some [] h k = k refl
     some (n ∷ ns) h k = h
 
--- the state in which a document may end: behind the root
+-- the state in which a document may end: after the root
 abbrev pub IsEndAt : Place → Type 0
 IsEndAt (Within v) = length v.items ≡ 0
 IsEndAt Before = ⊥

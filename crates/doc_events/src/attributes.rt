@@ -22,7 +22,7 @@ const FEW: usize = 8;
 #[derive(Drop)]
 pub struct Attributes {
     list: Vec<Attribute>,
-    /// The names behind the first few.
+    /// The names after the first few.
     seen: BTreeSet<String>,
 }
 

@@ -102,7 +102,7 @@ impl Reader {
         }
     }
 
-    /// Behind `?` in the declaration.
+    /// After `?` in the declaration.
     pub(crate) fn declaration_end(&mut self, b: char) -> Result<State, Stop>
         ensures { Goes (m.step_greater (class b) (m.go (m.content m.before))) result self.new }
     {
@@ -122,7 +122,7 @@ impl Reader {
         }
     }
 
-    /// Behind `<` at the front of a document.
+    /// After `<` at the start of a document.
     pub(crate) fn document_tag_open(&mut self, b: char) -> Result<State, Stop>
         ensures { Goes (m.step_document_tag_open strict (class b) b) result self.new }
     {
@@ -135,7 +135,7 @@ impl Reader {
         }
     }
 
-    /// Behind `<?` at the front of a document.
+    /// After `<?` at the start of a document.
     pub(crate) fn document_processing_instruction(&mut self, b: char) -> Result<State, Stop>
         ensures { Goes (m.step_document_processing_instruction (class b) b) result self.new }
     {
@@ -150,7 +150,7 @@ impl Reader {
         }
     }
 
-    /// In the target of a processing instruction, or `xml`, at the front of a document.
+    /// In the target of a processing instruction, or `xml`, at the start of a document.
     pub(crate) fn document_instruction_target(&mut self, b: char) -> Result<State, Stop>
         ensures { Goes (m.step_document_instruction_target self.old.name.items (class b) b) result
             self.new }
@@ -174,7 +174,7 @@ impl Reader {
         }
     }
 
-    /// Behind `<?xml`.
+    /// After `<?xml`.
     pub(crate) fn before_version(&self, b: char) -> Result<State, Stop>
         ensures { Goes (m.step_before_version (class b) b) result self.now }
     {
@@ -184,7 +184,7 @@ impl Reader {
         }
     }
 
-    /// Behind a part of the declaration.
+    /// After a part of the declaration.
     pub(crate) fn after_setting(&self, part: Part, b: char) -> Result<State, Stop>
         ensures { Goes (m.step_after_setting (part_of part) (class b)) result self.now }
     {
@@ -195,7 +195,7 @@ impl Reader {
         }
     }
 
-    /// Behind white space behind a part of the declaration.
+    /// After white space after a part of the declaration.
     pub(crate) fn between_settings(&self, part: Part, b: char) -> Result<State, Stop>
         ensures { Goes (m.step_between_settings (part_of part) (class b) b) result self.now }
     {
@@ -239,7 +239,7 @@ impl Reader {
         }
     }
 
-    /// Behind the word of a part.
+    /// After the word of a part.
     pub(crate) fn after_setting_name(&self, part: Part, b: char) -> Result<State, Stop>
         ensures { Goes (m.step_after_setting_name (part_of part) (class b)) result self.now }
     {
@@ -260,7 +260,7 @@ impl Reader {
         }
     }
 
-    /// Behind the `=` of a part.
+    /// After the `=` of a part.
     pub(crate) fn before_setting_value(&self, part: Part, b: char) -> Result<State, Stop>
         ensures { Goes (m.step_before_setting_value (part_of part) (class b)) result self.now }
     {

@@ -95,7 +95,7 @@ impl Reader {
         }
     }
 
-    /// Behind `<!`.
+    /// After `<!`.
     pub(crate) fn markup_declaration(&mut self, b: char) -> Result<State, Stop>
         ensures { Goes (m.step_markup_declaration (place_of self.old.place) (class b)) result
             self.new }
@@ -113,7 +113,7 @@ impl Reader {
         }
     }
 
-    /// Behind `<!-`.
+    /// After `<!-`.
     pub(crate) fn comment_start(&self, b: char) -> Result<State, Stop>
         ensures { Goes (m.step_dash (class b) (m.comment (place_of self.now.place))) result
             self.now }
@@ -135,7 +135,7 @@ impl Reader {
         }
     }
 
-    /// Behind a dash in a comment.
+    /// After a dash in a comment.
     pub(crate) fn comment_dash(&self, b: char) -> Result<State, Stop>
         ensures { Goes (m.step_comment_dash (place_of self.now.place) (class b) b) result self.now }
     {
@@ -146,7 +146,7 @@ impl Reader {
         }
     }
 
-    /// Behind `<?`.
+    /// After `<?`.
     pub(crate) fn processing_instruction(&mut self, b: char) -> Result<State, Stop>
         ensures { Goes (m.step_processing_instruction (place_of self.old.place) (class b) b) result
             self.new }
@@ -179,7 +179,7 @@ impl Reader {
         }
     }
 
-    /// What goes on behind a target, which is not `xml`.
+    /// What goes on after a target, which is not `xml`.
     pub(crate) fn unless_xml(&self, then: State) -> Result<State, Stop>
         ensures { Goes (m.guard Plain (not (is_xml self.now.name.items)) (state_in then self.now))
             result self.now }
@@ -191,7 +191,7 @@ impl Reader {
         }
     }
 
-    /// Behind the target of a processing instruction.
+    /// After the target of a processing instruction.
     pub(crate) fn instruction_text(&self, b: char) -> Result<State, Stop>
         ensures { Goes (m.step_instruction_text (place_of self.now.place) (class b) b) result
             self.now }
@@ -203,7 +203,7 @@ impl Reader {
         }
     }
 
-    /// Behind a `?` in a processing instruction.
+    /// After a `?` in a processing instruction.
     pub(crate) fn instruction_end(&self, b: char) -> Result<State, Stop>
         ensures { Goes (m.step_instruction_end (place_of self.now.place) (class b) b) result
             self.now }
@@ -241,7 +241,7 @@ impl Reader {
         }
     }
 
-    /// Behind `]` in a CDATA section.
+    /// After `]` in a CDATA section.
     pub(crate) fn cdata_section_bracket(&self, b: char) -> Result<State, Stop>
         ensures { Goes (m.step_cdata_section_bracket self.now.name.items (stack_of self.now.place)
             (class b) b) result self.now }
@@ -253,7 +253,7 @@ impl Reader {
         }
     }
 
-    /// Behind `]]` in a CDATA section.
+    /// After `]]` in a CDATA section.
     pub(crate) fn cdata_section_end(&mut self, alloc: Global, b: char) -> Result<State, Stop>
         ensures { Goes (m.step_cdata_section_end self.old.name.items (stack_of self.old.place)
             (class b) b) result self.new }

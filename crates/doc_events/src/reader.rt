@@ -74,7 +74,7 @@ impl Reader {
         Ok(token)
     }
 
-    /// The state behind one character more, and what it completes.
+    /// The state after one character more, and what it completes.
     #[tactic(auto, using(crate::proofs::Steps::goes_moves))]
     fn next(&mut self, alloc: Global, b: char) -> Result<(State, Token), Stop>
         ensures { Moves (m.step strict (state_of self.old) (class b) b) result self.new }

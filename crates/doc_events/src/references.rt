@@ -46,7 +46,7 @@ fn is_legal(number: u32) -> bool
 const GREATEST: u64 = 1_114_111;
 
 impl Reader {
-    /// What goes on behind a reference.
+    /// What goes on after a reference.
     fn after_reference(
         &mut self,
         alloc: Global,
@@ -93,7 +93,7 @@ impl Reader {
         }
     }
 
-    /// Behind `&`.
+    /// After `&`.
     pub(crate) fn reference(&self, hole: Hole, b: char) -> Result<State, Stop>
         ensures { Goes (m.step_reference (hole_of hole self.now) b) result self.now }
     {
@@ -107,7 +107,7 @@ impl Reader {
         }
     }
 
-    /// Behind `&a`.
+    /// After `&a`.
     pub(crate) fn reference_a(&self, hole: Hole, b: char) -> Result<State, Stop>
         ensures { Goes (m.step_reference_a (hole_of hole self.now) b) result self.now }
     {
@@ -134,7 +134,7 @@ impl Reader {
         }
     }
 
-    /// Behind `&#`.
+    /// After `&#`.
     pub(crate) fn numeric_reference(&self, hole: Hole, b: char) -> Result<State, Stop>
         ensures { Goes (m.step_numeric_reference (hole_of hole self.now) b) result self.now }
     {

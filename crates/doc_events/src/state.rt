@@ -9,7 +9,7 @@ use std::alloc::{AllocError, AllocFailed};
 #[derive(Drop)]
 pub(crate) enum Place {
     Before,
-    /// Inside these open elements, the innermost last; none: behind the root.
+    /// Inside these open elements, the innermost last; none: after the root.
     Within(Vec<Vec<char>>),
 }
 
@@ -49,7 +49,7 @@ pub(crate) enum Hole {
     InValue(Quote),
 }
 
-/// What a reference still waits for behind its next character.
+/// What a reference still waits for after its next character.
 #[derive(Clone, Copy)]
 pub(crate) enum Tail {
     Nothing,

@@ -62,7 +62,7 @@ fn why_open(place: &Place) -> Why
     }
 }
 
-/// Why a character that may stand nowhere ends all documents behind `<`.
+/// Why a character that may stand nowhere ends all documents after `<`.
 fn bad_tag_open(place: &Place, b: char) -> Why
     ensures { result ≡ m.bad_tag_open strict (place_of place.now) b }
 {
@@ -127,7 +127,7 @@ impl Reader {
         self.place.open(alloc, name)
     }
 
-    /// Behind `<`.
+    /// After `<`.
     pub(crate) fn tag_open(&mut self, b: char) -> Result<State, Stop>
         ensures { Goes (m.step_tag_open strict (place_of self.old.place) (class b) b) result
             self.new }
@@ -156,7 +156,7 @@ impl Reader {
         }
     }
 
-    /// Behind a name or a value in a tag.
+    /// After a name or a value in a tag.
     pub(crate) fn in_tag(&mut self, alloc: Global, b: char) -> Result<(State, Token), Stop>
         ensures { Moves (m.step_tag (place_of self.old.place) self.old.name.items
             self.old.attributes (class b)) result self.new }
@@ -191,7 +191,7 @@ impl Reader {
         }
     }
 
-    /// Behind white space in a tag.
+    /// After white space in a tag.
     pub(crate) fn before_attribute_name(
         &mut self,
         alloc: Global,
@@ -228,7 +228,7 @@ impl Reader {
         }
     }
 
-    /// What goes on behind an attribute's name, which the tag doesn't have yet.
+    /// What goes on after an attribute's name, which the tag doesn't have yet.
     fn unless_twice(&self, alloc: Global, next: State) -> Result<State, Stop>
         ensures { Goes (unless_twice self.now.attributes self.now.attribute.items
             (state_in next self.now)) result self.now }
@@ -241,7 +241,7 @@ impl Reader {
         }
     }
 
-    /// Behind an attribute's name.
+    /// After an attribute's name.
     pub(crate) fn after_attribute_name(&self, b: char) -> Result<State, Stop>
         ensures { Goes (m.step_after_attribute_name (place_of self.now.place) self.now.name.items
             self.now.attributes self.now.attribute.items (class b)) result self.now }
@@ -253,7 +253,7 @@ impl Reader {
         }
     }
 
-    /// Behind an attribute's `=`.
+    /// After an attribute's `=`.
     pub(crate) fn before_attribute_value(&mut self, b: char) -> Result<State, Stop>
         ensures { Goes (m.step_before_attribute_value (place_of self.old.place)
             self.old.name.items self.old.attributes self.old.attribute.items (class b)) result
@@ -268,7 +268,7 @@ impl Reader {
         }
     }
 
-    /// Behind an attribute's value.
+    /// After an attribute's value.
     fn attribute_end(&mut self, alloc: Global) -> Result<State, Stop>
         ensures { Goes (m.go (m.after_attribute_value (place_of self.old.place)
             self.old.name.items (self.old.attributes
@@ -304,7 +304,7 @@ impl Reader {
         }
     }
 
-    /// Behind `/` in a tag.
+    /// After `/` in a tag.
     pub(crate) fn self_closing_start_tag(
         &mut self,
         alloc: Global,
@@ -322,7 +322,7 @@ impl Reader {
         }
     }
 
-    /// Behind an end tag's name.
+    /// After an end tag's name.
     pub(crate) fn after_end_tag_name(
         &mut self,
         alloc: Global,

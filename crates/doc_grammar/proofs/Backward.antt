@@ -395,7 +395,7 @@ module _ (l : Limits) where
   sound_self_closing_start_tag p n xs Greater b e bytes out (more, f, r) = inr (bytes, more, ap (λ y. 47 ∷ y ∷ bytes) (greater_is b e), f, r)
   sound_self_closing_start_tag p n xs k b e bytes out h = absurd h
 
-  -- an element, from behind its name
+  -- an element, from the end of its name on
   open_back : (p : Place) (n : List ℕ) (bytes : List ℕ) (out : List Event) → may_open l p ≡ true → IsName n → RestTag l p n [] bytes out → RestContent l p (60 ∷ (n ++ bytes)) out
   open_back before n bytes out m t (ys, gap, k, good, sp, e, inl (rest, more, f, o, (c, gap2, rest2, more2, fine, sp2, e2, o2, (d, misc, e3, o3)))) =
       let tag : Tag = record { name = n; attrs = ys; gap = gap } in (
@@ -556,7 +556,7 @@ module _ (l : Limits) where
   standalone_back : (bytes : List ℕ) (out : List Event) → BeforeDeclarationEnd l bytes out → WithStandalone l bytes out
   standalone_back bytes out h = (None, bytes, tt, refl, h)
 
-  -- a part whose white space is open at its front
+  -- a part whose white space is open at its start
   setting_back : (part : Part) (b : ℕ) (bytes : List ℕ) (out : List Event) → class b ≡ Blank → Next l part bytes out → (s : Setting) × (k : List ℕ) × IsSetting part s × (b ∷ bytes ≡ print_setting part s k) × AfterSetting l part k out
   setting_back part b bytes out e (sp, k1, g1, e1, (k2, e2, (left, k3, g3, e3, (right, q, k4, g4, e4, (v, k5, g5, e5, r))))) = (
     record { first = b; before = sp; left = left; right = right; quote = q; value = v },

@@ -112,7 +112,7 @@ length-common (a ∷ xs) (b ∷ ys) = pick (eqb a b) (length-common xs ys)
     pick true h = ap suc h
     pick false h = refl
 
--- ys goes on behind it, where xs does not; or xs begins with all of ys
+-- ys goes on after it, where xs does not; or xs begins with all of ys
 abbrev pub Parts : List ℕ → List ℕ → List ℕ → Type 0
 Parts f xs ys =
     ((b : ℕ) × (u : List ℕ) × (v : List ℕ) × (ys ≡ f ++ b ∷ u) × (xs ≡ f ++ v) × ((z : List ℕ) → xs ≡ f ++ b ∷ z → ⊥))

@@ -1,4 +1,4 @@
--- Where a text ends to be the front of a document, in bytes.
+-- Where a text ceases to be a prefix of a document, in bytes.
 use Rattle.std.proofs.Common.{◌≡◌, ℕ, ◌<◌, ◌≤◌, Bool, true, false, cond, List, [], ◌∷◌, ◌++◌, length, ◌⊎◌, inl, inr, refl, sym, ap, ◌∙◌, subst, arith, append_assoc, eqb, eq-eqb}
 use Rattle.std.proofs.lemmas.List.{append-nil}
 use Rattle.std.proofs.lemmas.Bool.{cases_lt, eqb-true}
@@ -31,7 +31,7 @@ pub record Cut (pc : List ℕ) (s : State) (c : ℕ) (y : Why) : Type 0 where
   pub begins : BeginsOne strict (encode_utf8_all pc ++ front)
   pub others : (l : Limits) → step l s (class c) c ≡ dead y → (a : ℕ) (v : List ℕ) → encode_utf8 a ≡ front ++ next ∷ v → Dead l s (class a) a
 
--- what begins some document, its fronts begin
+-- what begins some document, its prefixes begin
 pub front_begins : (l : Limits) (p q : List ℕ) → BeginsOne l (p ++ q) → BeginsOne l p
 front_begins l p q (rest, tree, d) = (q ++ rest, tree, subst (λ z. IsDocument l z tree) (append_assoc p q rest) d)
 
@@ -43,7 +43,7 @@ on_step l p b s t o h e =
 pub one_more : (p : List ℕ) (b : ℕ) → encode_utf8_all (p ++ b ∷ []) ≡ encode_utf8_all p ++ encode_utf8 b
 one_more p b = encodes-append p (b ∷ []) ∙ ap (λ z. encode_utf8_all p ++ z) (append-nil (encode_utf8 b))
 
--- a front of the bytes of a character that leads on
+-- a prefix of the bytes of a character that leads on
 along_begins : (l : Limits) (p : List ℕ) (t : ℕ) (front other : List ℕ) → encode_utf8 t ≡ front ++ other → Begins l (p ++ t ∷ []) → BeginsOne l (encode_utf8_all p ++ front)
 along_begins l p t front other e h =
     front_begins l (encode_utf8_all p ++ front) other (subst (λ z. BeginsOne l z) (one_more p t ∙ ap (λ z. encode_utf8_all p ++ z) e ∙ sym (append_assoc (encode_utf8_all p) front other)) (lift_begins l (p ++ t ∷ []) h))

@@ -109,7 +109,7 @@ module _ (l : Limits) where
   abbrev pub after_setting_ending : List ℕ
   after_setting_ending = 63 ∷ 62 ∷ body_end
 
-  -- the value from behind the quote on
+  -- the value, from the end of the quote on
   abbrev pub setting_value_ending : Part → Quote → List ℕ
   setting_value_ending version q = 49 ∷ 46 ∷ 48 ∷ quote_char q ∷ after_setting_ending
   setting_value_ending encoding q = 117 ∷ 116 ∷ 102 ∷ 45 ∷ 56 ∷ quote_char q ∷ after_setting_ending

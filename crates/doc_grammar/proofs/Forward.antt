@@ -237,7 +237,7 @@ module _ (l : Limits) where
   tag_open_question (within []) k out h = byte (tag_open (within [])) 63 Question k out class_question h
   tag_open_question (within (n ∷ ns)) k out h = byte (tag_open (within (n ∷ ns))) 63 Question k out class_question h
 
-  -- behind a tag that ends
+  -- after a tag that ends
   greater_run : (p : Place) (n : List ℕ) (xs : List Pair) (k : List ℕ) (out : List Event) → Run l (m.content (within (n ∷ stack p))) k out → Run l (after_attribute_value p n xs) (62 ∷ k) (begin n xs ∷ out)
   greater_run p n xs k out h = byte (after_attribute_value p n xs) 62 Greater k (begin n xs ∷ out) class_greater (out, refl, h)
 
@@ -280,7 +280,7 @@ module _ (l : Limits) where
   comment_end_run p k out h =
       byte (m.comment p) 45 Dash (45 ∷ 62 ∷ k) out class_dash (byte (comment_dash p) 45 Dash (62 ∷ k) out class_dash (byte (comment_end p) 62 Greater k out class_greater h))
 
-  -- the text, from a state behind a dash too
+  -- the text, from a state after a dash too
   mutual
     comment_run : (p : Place) (t k : List ℕ) (out : List Event) → IsComment t → Run l (m.content p) k out → Run l (m.comment p) (t ++ 45 ∷ 45 ∷ 62 ∷ k) out
     comment_run p [] k out g h = comment_end_run p k out h
@@ -577,7 +577,7 @@ module _ (l : Limits) where
   encoding_run : (k : List ℕ) (out : List Event) → Run l (m.after_setting_name encoding) k out → Run l (m.between_settings version) (word encoding ++ k) out
   encoding_run k out h = byte (m.between_settings version) 101 Letter (110 ∷ 99 ∷ 111 ∷ 100 ∷ 105 ∷ 110 ∷ 103 ∷ k) out class_e (setting_name_run encoding 110 (99 ∷ 111 ∷ 100 ∷ 105 ∷ 110 ∷ 103 ∷ []) k out h)
 
-  -- the parts behind which `standalone` may stand
+  -- the parts after which `standalone` may stand
   abbrev MayStand : Part → Type 0
   MayStand version = Unit {0}
   MayStand encoding = Unit {0}

@@ -1,4 +1,4 @@
--- The machine's reason is the rule of the longest front, in bytes.
+-- The machine's reason is the rule of the longest prefix, in bytes.
 use Rattle.std.proofs.Common.{◌≡◌, ℕ, ◌+◌, ◌<◌, ◌≤◌, ◌-◌, Bool, true, false, cond, List, [], ◌∷◌, ◌++◌, length, length-append, drop, ◌⊎◌, inl, inr, refl, sym, ap, ◌∙◌, subst, arith, append_assoc, eqb}
 use Rattle.std.proofs.lemmas.List.{append-nil}
 use Rattle.std.proofs.lemmas.Bool.{cases_lt}
@@ -45,7 +45,7 @@ regroup pc c rest front behind b e =
     ∙ ap (λ z. encode_utf8_all pc ++ z) (sym (append_assoc front (b ∷ behind) (encode_utf8_all rest)) ∙ ap (λ z. z ++ encode_utf8_all rest) (sym e))
     ∙ sym (encodes-append pc (c ∷ rest))
 
--- where the machine stops, with a rule for the end of the longest front
+-- where the machine stops, with a rule for the end of the longest prefix
 shown : (pc : List ℕ) (c : ℕ) (rest : List ℕ) (s : State) (o : List Event) (y : Why) (k : Cut pc s c y) (rule : Rule) (place : ℕ) → IsUtf8 (encode_utf8_all (pc ++ c ∷ rest)) → Leads strict m.start pc s o → step strict s (class c) c ≡ dead y
     → IsRule rule (encode_utf8_all pc ++ k.front) (k.next ∷ (k.behind ++ encode_utf8_all rest)) place → IsBroken (encode_utf8_all (pc ++ c ∷ rest)) rule place
 shown pc c rest s o y k rule place u h e r =
@@ -82,7 +82,7 @@ no_twice pc s o c y k rest q h e n r =
     let z : k.next ≡ r.behind.0 = cc r.behind.2 in
     not_lifted repeated repeated_step pc s o c y k q h e (subst (λ b. BeginsOne repeated ((encode_utf8_all pc ++ k.front) ++ b ∷ [])) (sym z) r.behind.4)
 
--- an ASCII byte that follows the front is the character, and the front is the text before it
+-- an ASCII byte that follows the prefix is the character, and the prefix is the text before it
 alone : (c b : ℕ) (front behind : List ℕ) → encode_utf8 c ≡ front ++ b ∷ behind → b < 128 → (c ≡ b) × (front ≡ [])
 alone c b front behind e h =
     let z = ascii_of c front behind b e h in
@@ -140,7 +140,7 @@ partly_fault pc c rest s o n i u h e =
     let k = t.cut in
     malformed pc c rest s o (w.Partly n) k tt u h e (quiet_doctype pc s o c (w.Partly n) k (k.behind ++ encode_utf8_all rest) tt h e) (length (encode_utf8_all pc) + n) (ap (λ z. length (encode_utf8_all pc) + z) (sym t.size))
 
--- the bytes behind `<!`
+-- the bytes after `<!`
 bang_front : (pc : List ℕ) (s : State) (c : ℕ) (o : List Event) → Leads strict m.start pc s o → step strict s (class c) c ≡ dead w.Bang → (front : List ℕ) × (encode_utf8_all pc ≡ encode_utf8_all front ++ 60 ∷ 33 ∷ [])
 bang_front pc s c o h e =
     let k = subst (Tells s (class c) c) e (tells_step s (class c) c) in

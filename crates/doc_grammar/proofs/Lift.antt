@@ -1,4 +1,4 @@
--- The longest front of characters gives the longest front of bytes.
+-- The longest prefix of characters gives the longest prefix of bytes.
 use Rattle.std.proofs.Common.{◌≡◌, ℕ, ◌≤◌, List, [], ◌∷◌, ◌++◌, length, refl, sym, ap, ◌∙◌, subst, arith, append_assoc, inl, inr}
 use Rattle.std.proofs.lemmas.List.{append-nil}
 use Rattle.std.proofs.lemmas.Bool.{cases_lt}
@@ -24,7 +24,7 @@ no_tail (x ∷ w) u b e = cc
 shorter : (c d : ℕ) (w u : List ℕ) (b : ℕ) → encode_utf8 c ≡ encode_utf8 d ++ (w ++ b ∷ u) → ⊥
 shorter c d w u b e = no_tail w u b (encode_same c d [] (w ++ b ∷ u) (append-nil (encode_utf8 c) ∙ e)).1
 
--- where a list is no longer than the front that it shares
+-- where a list is no longer than the prefix that it shares
 within_front : (p q x y : List ℕ) → p ++ x ≡ q ++ y → length p ≤ length q → (w : List ℕ) × (q ≡ p ++ w)
 within_front [] q x y e h = (q, refl)
 within_front (a ∷ p) [] x y e h = absurd (omega (arith, h))

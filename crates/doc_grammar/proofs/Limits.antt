@@ -1,4 +1,4 @@
--- A limit that is lifted changes no other end, and behind `<!` the `D` of `DOCTYPE` is no other end.
+-- A limit that is lifted changes no other end, and after `<!` the `D` of `DOCTYPE` is no other end.
 use Rattle.std.proofs.Common.{◌≡◌, ℕ, Bool, true, false, cond, List, [], ◌∷◌, ◌++◌, length, map, refl, sym, ap, ◌∙◌, subst, eqb, leb}
 use Rattle.std.proofs.lemmas.Bool.{eqb-true}
 use Rattle.std.specs.Str.{encode_utf8_all}
@@ -92,7 +92,7 @@ IsQuiet w.Bang = ⊥
 IsQuiet w.Deep = ⊥
 IsQuiet (w.Twice n) = ⊥
 
--- no state is left quietly by the `D` behind `<!`
+-- no state is left quietly by the `D` after `<!`
 abbrev pub NotQuiet : Step → Type 0
 NotQuiet (dead w.Plain) = ⊥
 NotQuiet (dead (w.Partly n)) = ⊥
@@ -185,7 +185,7 @@ then_along P Q (dead y) o h g = absurd g
 then_along P Q (go s) o h g = (s, o, h, g)
 then_along P Q (emit s es) o h g = (s, g.0, h, g.2)
 
--- behind `<!` the `D` ends nothing quietly
+-- after `<!` the `D` ends nothing quietly
 pub no_quiet : (front : List ℕ) (t : State) (o : List Event) (y : Why) → IsQuiet y → Leads strict m.start (front ++ 60 ∷ 33 ∷ []) t o → step strict t (class 68) 68 ≡ dead y → ⊥
 no_quiet front t o y q h e =
     let d = lead_split front (60 ∷ 33 ∷ []) m.start t o h in

@@ -38,7 +38,7 @@ module _ (l : Limits) where
   lead_lead (b ∷ p) s t u o1 o2 rest h r =
       along_append (λ v o. Leads l v p t o) (λ v o. Leads l v (p ++ rest) u o) o2 (λ v o g. lead_lead p v t u o o2 rest g r) (step l s (class b) b) o1 h
 
-  -- behind a prefix the run goes on from its state
+  -- after a prefix the run goes on from its state
   pub run_lead : (p : List ℕ) (s t : State) (o1 o : List Event) (rest : List ℕ) → Leads l s p t o1 → Run l s (p ++ rest) o → (o2 : List Event) × Run l t rest o2
   run_lead [] s t o1 o rest h r = (o, subst (λ u. Run l u rest o) h.0 r)
   run_lead (b ∷ p) s t o1 o rest h r =
@@ -72,7 +72,7 @@ module _ (l : Limits) where
       let r = run_lead p start t o tree (b ∷ more) h (run_complete l (p ++ b ∷ more) tree d) in
       subst (λ w. along (λ u. Run l u more) w r.0) e r.1
 
-  -- two fronts of one list: the longer one goes on behind the shorter
+  -- two prefixes of one list: the longer one goes on after the shorter
   pub longer_front : (p q x y : List ℕ) → p ++ x ≡ q ++ y → length p < length q → (b : ℕ) × (more : List ℕ) × (q ≡ p ++ b ∷ more) × (x ≡ b ∷ (more ++ y))
   longer_front [] [] x y e h = absurd (omega (arith, h))
   longer_front [] (b ∷ q) x y e h = (b, q, refl, e)

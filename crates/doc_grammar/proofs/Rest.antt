@@ -23,13 +23,13 @@ module _ (l : Limits) where
       ((rest : List ℕ) × (more : List Event) × (text ≡ 62 ∷ rest) × (out ≡ begin n xs ∷ more) × After (n ∷ stack p) rest more)
       ⊎ ((rest : List ℕ) × (more : List Event) × (text ≡ 47 ∷ 62 ∷ rest) × (out ≡ begin n xs ∷ close ∷ more) × After (stack p) rest more)
 
-  -- behind a name or a value in a tag
+  -- after a name or a value in a tag
   abbrev pub RestTag : Place → List ℕ → List Pair → List ℕ → List Event → Type 0
   RestTag p n xs text out =
       (ys : List Attr) × (gap : List ℕ) × (k : List ℕ) × IsAttrs l xs ys × IsSpace gap
       × (text ≡ print_attrs ys (gap ++ k)) × Ends p n (xs ++ map attr_of ys) k out
 
-  -- behind the white space in a tag
+  -- after the white space in a tag
   abbrev pub Bare : Place → List ℕ → List Pair → List ℕ → List Event → Type 0
   Bare p n xs text out =
       Ends p n xs text out
@@ -72,7 +72,7 @@ module _ (l : Limits) where
   InInstruction p text out =
       (t : List ℕ) × (k : List ℕ) × IsFree (63 ∷ 62 ∷ []) t × (text ≡ t ++ 63 ∷ 62 ∷ k) × RestContent p k out
 
-  -- behind the target of an instruction
+  -- after the target of an instruction
   abbrev pub AfterTarget : Place → List ℕ → List Event → Type 0
   AfterTarget p text out =
       ((k : List ℕ) × (text ≡ 63 ∷ 62 ∷ k) × RestContent p k out)
@@ -87,7 +87,7 @@ module _ (l : Limits) where
   InSection n ns text out =
       (t : List ℕ) × (k : List ℕ) × IsSection t × (text ≡ t ++ 93 ∷ 93 ∷ 62 ∷ k) × After (n ∷ ns) k out
 
-  -- behind a reference
+  -- after a reference
   abbrev pub AfterReference : Hole → ℕ → List ℕ → List Event → Type 0
   AfterReference (in_text n ns) code text out = After (n ∷ ns) text out
   AfterReference (in_value p n xs x q v) code text out = InValue p n xs x q (v ++ code ∷ []) false text out
@@ -111,7 +111,7 @@ module _ (l : Limits) where
   WithStandalone text out =
       (s : Option Setting) × (k : List ℕ) × IsMaybe standalone s × (text ≡ print_maybe standalone s k) × BeforeDeclarationEnd k out
 
-  -- behind a part
+  -- after a part
   abbrev pub AfterSetting : Part → List ℕ → List Event → Type 0
   AfterSetting version text out =
       (s : Option Setting) × (k : List ℕ) × IsMaybe encoding s × (text ≡ print_maybe encoding s k) × WithStandalone k out
@@ -123,7 +123,7 @@ module _ (l : Limits) where
   InSettingValue part q todo text out =
       (v : List ℕ) × (k : List ℕ) × (map (fold_for part) v ≡ map (fold_for part) todo) × (text ≡ v ++ quote_char q ∷ k) × AfterSetting part k out
 
-  -- behind the quote that opens the value
+  -- after the quote that opens the value
   abbrev pub AtSettingValue : Part → Quote → List ℕ → List Event → Type 0
   AtSettingValue part q text out =
       (v : List ℕ) × (k : List ℕ) × IsSettingValue part (map (fold_for part) v) × (text ≡ v ++ quote_char q ∷ k) × AfterSetting part k out
@@ -140,11 +140,11 @@ module _ (l : Limits) where
   abbrev pub InSettingName : Part → List ℕ → List ℕ → List Event → Type 0
   InSettingName part todo text out = (k : List ℕ) × (text ≡ todo ++ k) × AfterSettingName part k out
 
-  -- behind white space before a part
+  -- after white space before a part
   abbrev pub Next : Part → List ℕ → List Event → Type 0
   Next part text out = (sp : List ℕ) × (k : List ℕ) × IsSpace sp × (text ≡ sp ++ k) × InSettingName part (word part) k out
 
-  -- behind white space behind a part
+  -- after white space after a part
   abbrev pub BetweenSettings : Part → List ℕ → List Event → Type 0
   BetweenSettings version text out = Next encoding text out ⊎ (Next standalone text out ⊎ BeforeDeclarationEnd text out)
   BetweenSettings encoding text out = Next standalone text out ⊎ BeforeDeclarationEnd text out

@@ -1,4 +1,4 @@
--- How many bytes the text of a document takes in UTF-8: behind any part of it at least as many as what follows.
+-- How many bytes the text of a document takes in UTF-8: after any part of it at least as many as what follows.
 use Rattle.std.proofs.Common.{◌≡◌, ℕ, ◌+◌, ◌≤◌, Bool, true, false, if◌then◌else◌, ◌==◌, ◌&&◌, List, [], ◌∷◌, ◌++◌, length, Option, Some, None, ap, ◌∙◌, arith, length-append}
 use Rattle.std.proofs.lemmas.Str.{length-encode, len_utf8_bounds, encodes-append, length-le-encodes}
 use Rattle.std.specs.Str.{encode_utf8_all}

@@ -18,7 +18,7 @@ IsDocument l bytes tree = (text : List ℕ) × (bytes ≡ encode_utf8_all text) 
 abbrev pub BeginsOne : Limits → List ℕ → Type 0
 BeginsOne l p = (rest : List ℕ) × (tree : List Event) × IsDocument l (p ++ rest) tree
 
--- p is the longest front of the bytes that some document begins with
+-- p is the longest prefix of the bytes that some document begins with
 pub record IsLongestOf (l : Limits) (bytes p : List ℕ) : Type 0 where
   pub front : (rest : List ℕ) × (bytes ≡ p ++ rest)
   pub begins : BeginsOne l p
@@ -53,7 +53,7 @@ pub record IsTwice (p rest : List ℕ) (place : ℕ) : Type 0 where
       (b : ℕ) × (more : List ℕ) × (rest ≡ b ∷ more) × ((class b ≡ Blank) ⊎ (class b ≡ Equal))
       × BeginsOne repeated (p ++ b ∷ [])
 
--- the rule that the end of the longest front shows, and its place
+-- the rule that the end of the longest prefix shows, and its place
 abbrev pub IsRule : Rule → List ℕ → List ℕ → ℕ → Type 0
 IsRule NotUtf8 p rest place = ⊥
 IsRule Doctype p rest place = IsDoctype p rest place

@@ -69,7 +69,7 @@ pub record Setting : Type 0 where
   pub quote : Quote
   pub value : List ℕ
 
--- from behind its word on, and then the rest
+-- what follows its word, and then the rest
 abbrev pub print_setting_rest : Setting → List ℕ → List ℕ
 print_setting_rest s rest =
     s.left ++ code "=" ∷ (s.right ++ quote_char s.quote ∷ (s.value ++ quote_char s.quote ∷ rest))
@@ -114,7 +114,7 @@ pub record IsDeclaration (d : Declaration) : Type 0 where
 pub data Entity : Type 0 where
   lt gt amp apos quot : Entity
 
--- behind the ampersand (68)
+-- after the ampersand (68)
 abbrev pub entity_text : Entity → List ℕ
 entity_text lt = codes "lt;"
 entity_text gt = codes "gt;"
@@ -169,7 +169,7 @@ abbrev pub base_mark : Base → List ℕ
 base_mark ten = []
 base_mark sixteen = codes "x"
 
--- behind the ampersand, and then the rest
+-- after the ampersand, and then the rest
 abbrev pub print_reference : Reference → List ℕ → List ℕ
 print_reference (named e) rest = entity_text e ++ rest
 print_reference (numbered base c digits) rest =
@@ -212,7 +212,7 @@ IsValue q (raw c ∷ ps) = (is_valued q (class c) ≡ true) × IsValue q ps
 IsValue q (ref r ∷ ps) = IsReference r × IsValue q ps
 
 -- raw white space becomes a space (3.3.3);
--- a line feed right behind a carriage return belongs to it (2.11)
+-- a line feed right after a carriage return belongs to it (2.11)
 abbrev pub raw_value : Bool → ℕ → List ℕ
 raw_value behind_return c =
     if behind_return && (c == code "\n") then [] else (if is_blank c then code " " else c) ∷ []
@@ -312,7 +312,7 @@ pub record IsTag (l : Limits) (t : Tag) : Type 0 where
   pub attrs : IsAttrs l [] t.attrs
   pub gap : IsSpace t.gap
 
--- the text of a comment (15): behind a dash stands another character, before the end too
+-- the text of a comment (15): after a dash comes another character, before the end too
 abbrev pub no_dash_first : List ℕ → Bool
 no_dash_first [] = false
 no_dash_first (c ∷ text) = not (c == code "-")
@@ -327,7 +327,7 @@ pub record IsTarget (target : List ℕ) : Type 0 where
   pub name : IsName target
   pub other : is_xml target ≡ false
 
--- what stands behind the target (16): nothing, or white space and any text up to the ending
+-- what comes after the target (16): nothing, or white space and any text up to the ending
 abbrev pub IsInstruction : List ℕ → Type 0
 IsInstruction [] = Unit {0}
 IsInstruction (c ∷ text) = (blanks (class c) ≡ true) × IsFree (codes "?>") text
@@ -374,7 +374,7 @@ IsContent l depth (element t kids gap c) =
     (may_stand l depth ≡ true) × IsTag l t × IsContent l (suc depth) kids × IsSpace gap
     × IsContent l depth c
 
--- behind the root (27)
+-- after the root (27)
 abbrev pub IsMisc : Content → Type 0
 IsMisc done = Unit {0}
 IsMisc (char b c) = (blanks (class b) ≡ true) × IsMisc c
@@ -385,7 +385,7 @@ IsMisc (section t c) = ⊥
 IsMisc (empty t c) = ⊥
 IsMisc (element t kids gap c) = ⊥
 
--- one element, and before it and behind it what may stand there (1, 22)
+-- one element, and before it and after it what may stand there (1, 22)
 abbrev pub IsWhole : Limits → Content → Type 0
 IsWhole l done = ⊥
 IsWhole l (char b c) = (blanks (class b) ≡ true) × IsWhole l c
@@ -431,7 +431,7 @@ Unmarked l text tree =
 abbrev pub byte_order_mark : ℕ
 byte_order_mark = 0xfeff
 
--- a document's text, perhaps behind a byte order mark, and what it says
+-- a document's text, perhaps after a byte order mark, and what it says
 abbrev pub Document : Limits → List ℕ → List Event → Type 0
 Document l text tree =
     Unmarked l text tree
@@ -441,7 +441,7 @@ Document l text tree =
 abbrev pub Begins : Limits → List ℕ → Type 0
 Begins l p = (rest : List ℕ) × (tree : List Event) × Document l (p ++ rest) tree
 
--- p is the longest front of the text that some document begins with
+-- p is the longest prefix of the text that some document begins with
 pub record IsLongest (l : Limits) (text p : List ℕ) : Type 0 where
   pub front : (rest : List ℕ) × (text ≡ p ++ rest)
   pub begins : Begins l p

@@ -28,7 +28,7 @@ pub data State : Type 0 where
   document_tag_open : State
   document_processing_instruction : State
   document_instruction_target : List ℕ → State
-  -- in the declaration: before its first part, behind a part and white space there, in a part
+  -- in the declaration: before its first part, after a part and white space there, in a part
   before_version : State
   after_setting : Part → State
   between_settings : Part → State
@@ -309,7 +309,7 @@ step_setting_value part q t (u ∷ todo) b =
 
 -- ---- tags
 
--- behind a name or a value in a tag
+-- after a name or a value in a tag
 abbrev pub step_tag : Place → List ℕ → List Pair → Class → Step
 step_tag p n xs Blank = go (before_attribute_name p n xs)
 step_tag p n xs Slash = go (self_closing_start_tag p n xs)

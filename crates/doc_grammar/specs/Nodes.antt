@@ -47,7 +47,7 @@ abbrev pub outer : List ℕ → List ℕ
 outer [] = []
 outer (n ∷ ns) = ns
 
--- the nodes of what begins and ends, behind these, inside the elements with these numbers, the
+-- the nodes of what begins and ends, after these, inside the elements with these numbers, the
 -- innermost first
 abbrev pub nodes_behind : List Event → List ℕ → List Node → List Node
 nodes_behind [] around nodes = nodes

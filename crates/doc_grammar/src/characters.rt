@@ -19,7 +19,7 @@ pub enum Class {
     Blank,
     /// It may begin a name.
     Letter,
-    /// It may stand in a name behind its first character, as a dash may.
+    /// It may stand in a name after its first character, as a dash may.
     Digit,
     Plain,
     /// It may stand nowhere.

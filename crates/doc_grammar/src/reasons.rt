@@ -18,7 +18,7 @@ pub enum Rule {
 pub enum Why {
     /// No rule beside the grammar's.
     Plain,
-    /// It stands behind `<!`.
+    /// It comes after `<!`.
     Bang,
     /// An element would stand too deep.
     Deep,

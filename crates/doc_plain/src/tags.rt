@@ -66,7 +66,7 @@ fn has_name(text: &[u8], name: &[u8]) -> bool {
     false
 }
 
-/// Attributes of different names, and white space behind them.
+/// Attributes of different names, and white space after them.
 fn are_attributes(text: &[u8]) -> bool {
     let mut rest = text;
     for _ in 0..text.len() {

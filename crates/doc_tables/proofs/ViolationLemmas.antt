@@ -7,7 +7,7 @@ use Rattle.doc_tables.specs.Violations.{BreaksNoRule, IsLeast, IsFirstViolation,
 abbrev pub AreApart : {R : Type 0} → (R → ℕ) → Type 0
 AreApart {R} number = (one other : R) → number one ≡ number other → one ≡ other
 
--- each rule stands in the list, behind those of lower numbers
+-- each rule stands in the list, after those of lower numbers
 pub record IsListed {R : Type 0} (number : R → ℕ) (rules : List R) (none : R) : Type 0 where
   pub place : R → ℕ
   pub within : (rule : R) → place rule < length rules

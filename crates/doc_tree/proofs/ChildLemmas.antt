@@ -1,4 +1,4 @@
--- The children of nodes, where one node more stands behind.
+-- The children of nodes, where one more node follows.
 use Rattle.std.proofs.Common.{◌≡◌, ℕ, zero, suc, ◌+◌, ◌<◌, Bool, true, false, ◌==◌, List, [], ◌∷◌, ◌++◌, length, map, get_or, set, Option, Some, None, IfSome, slice_get, refl, sym, ap, ◌∙◌, subst, arith, zero-add, length-append}
 use Rattle.std.specs.Option.{option_and_then, option_map}
 use Rattle.std.proofs.lemmas.Option.{slice_get-map, slice_get_read}
@@ -45,7 +45,7 @@ adopts_some lists new parent child h e k = ap (λ z. get_or z k []) e ∙ at (pa
     at false f =
         get_or-set_other lists parent k (get_or lists parent [] ++ child ∷ []) [] (λ q. eqb-false parent k f (sym q)) ∙ sym (append-nil (get_or lists k []))
 
--- ---- each node behind its parent
+-- ---- each node after its parent
 
 order_from : (i : ℕ) (ns : List Node) (n : Node) → ((k : ℕ) → IsBelow (i + k) (parent_at ns k)) → IsBelow (i + length ns) n.parent → (k : ℕ) → IsBelow (i + k) (parent_at (ns ++ n ∷ []) k)
 order_from i [] n h b zero = b

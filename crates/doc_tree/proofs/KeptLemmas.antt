@@ -1,4 +1,4 @@
--- Names and attributes, where one character or attribute more stands behind.
+-- Names and attributes, where one character or attribute more follows.
 use Rattle.std.proofs.Common.{◌≡◌, ◌≢◌, ℕ, ◌+◌, ◌<◌, ◌≤◌, Bool, true, false, ◌==◌, ◌||◌, if◌then◌else◌, List, [], ◌∷◌, ◌++◌, length, take, drop, map, get_or, refl, sym, ap, ◌∙◌, arith}
 use Rattle.std.proofs.lemmas.List.{map-append, take_more, drop_all, drop-append-le, length-take-le}
 use Rattle.std.proofs.lemmas.Bool.{eqb-true}

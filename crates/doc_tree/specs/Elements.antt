@@ -55,7 +55,7 @@ abbrev pub IsBelow : ℕ → Option ℕ → Type 0
 IsBelow n None = Unit {0}
 IsBelow n (Some p) = p < n
 
--- each node stands behind its parent
+-- each node comes after its parent
 abbrev pub IsInOrder : List Node → Type 0
 IsInOrder nodes = (k : ℕ) → IsBelow k (parent_at nodes k)
 

@@ -51,7 +51,7 @@ fn find<'a>(attrs: &'a [Named], name: &str) -> Option<&'a str>
     None
 }
 
-/// Puts a node behind the children of its parent.
+/// Appends a node to the children of its parent.
 fn adopt(children: &mut Vec<Vec<usize>>, parent: usize, node: usize) -> Result<(), AllocError>
     requires { parent < length children.old.items }
     ensures lists { OnOk result (map items_of children.new.items ≡
@@ -62,7 +62,7 @@ fn adopt(children: &mut Vec<Vec<usize>>, parent: usize, node: usize) -> Result<(
     Ok(())
 }
 
-/// Puts a node behind the children of its parent, if it has one.
+/// Appends a node to the children of its parent, if it has one.
 #[tactic(auto, using(crate::proofs::ChildLemmas::adopts_none, crate::proofs::ChildLemmas::adopts_some))]
 fn adopt_if(
     children: &mut Vec<Vec<usize>>,

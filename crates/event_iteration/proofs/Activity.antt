@@ -1,4 +1,4 @@
--- Which Clocks are active behind good calls.
+-- Which Clocks are active after good calls.
 use Rattle.std.proofs.Common.{◌≡◌, ℕ, zero, suc, ◌+◌, ◌<◌, Bool, true, false, ◌||◌, List, [], ◌∷◌, ◌++◌, Option, Some, None, Result, Ok, Err, Contains, refl, sym, ap, ◌∙◌, subst, arith, length, get_or, set}
 use Rattle.std.specs.Prelude.{All, ◌==◌, if◌then◌else◌, slice_get}
 use Rattle.std.specs.List.{list_any, position_from}
@@ -26,13 +26,13 @@ use Rattle.slot_calls.specs.Slots.{reads_or_sets}
 use Rattle.slot_calls.proofs.CallerLemmas.{led}
 use Rattle.event_iteration.proofs.Permits.{IsQuietOf}
 
--- ---- behind calls
+-- ---- after calls
 
 abbrev ticks_in : Result Reply PeerFault → Bool
 ticks_in (Ok reply) = is_tick reply
 ticks_in (Err fault) = false
 
--- which variables are active Clocks behind a call that reads or sets
+-- which variables are active Clocks after a call that reads or sets
 abbrev pub active_one : Shape → List Bool → Call → Result Reply PeerFault → List Bool
 active_one shape active (C.SetClock reference) result = marked shape active reference
 active_one shape active (C.GetClock reference) result = if ticks_in result then marked shape active reference else active
@@ -46,7 +46,7 @@ pub active_by-append : (shape : Shape) (active : List Bool) (es fs : List Exchan
 active_by-append shape active [] fs = refl
 active_by-append shape active (e ∷ es) fs = active_by-append shape (active_one shape active e.call e.result) es fs
 
--- what holds once a Clock becomes active, and held before, holds behind one call
+-- what holds once a Clock becomes active, and held before, holds after one call
 by_call : (P : List Bool → Type 0) (shape : Shape) (active : List Bool) → P active → ((reference : ℕ) → P (marked shape active reference)) → (call : Call) (result : Result Reply PeerFault) → P (active_one shape active call result)
 by_call P shape active old new (C.SetClock reference) result = new reference
 by_call P shape active old new (C.GetClock reference) result = by (ticks_in result)
@@ -111,7 +111,7 @@ marked_here shape marks r v there len =
     let within : found.0 < length marks = (let w = found.2 in omega (arith, w, len)) in
     ap (λ o. option_map_or (λ k. get_or (option_map_or (λ j. set marks j true) o marks) k false) o false) place ∙ get_or-set_same marks found.0 true false within
 
--- ---- an instance behind calls that read or set
+-- ---- an instance after calls that read or set
 
 entered_active : (call : Call) → reads_or_sets call ≡ true → (shape : Shape) (phase : Phase) (reply : Reply) → (entered shape phase call reply).active ≡ active_one shape phase.active call (Ok reply)
 entered_active (C.Get kind reference) h shape phase reply = refl

@@ -57,7 +57,7 @@ pub changing_role : (role : Role) → is_changing role ≡ true → role ≡ Tim
 changing_role (TimeClock Changing) h = refl
 changing_role role h = absurd (true_false (sym h))
 
--- whose FMU is asked behind an instant
+-- whose FMU is asked after an instant
 pub asked_after : (role : Role) (v : Option ℤ) → is_asked_after role v ≡ true → (role ≡ TimeClock Countdown) ⊎ ((role ≡ TimeClock Changing) × (is_active v ≡ true))
 asked_after (TimeClock Countdown) v h = inl refl
 asked_after (TimeClock Changing) v h = inr (refl, h)
@@ -154,7 +154,7 @@ module _ (system : System) (sound : IsSound system) (p : ℕ) (port : Port) (is 
         | inr changing ↦ or_right (is_timed is_answered placed.component.shape port.reference) (is_timed is_changed placed.component.shape port.reference) (is_changed_there changing)
       ])
 
-  -- behind an instant
+  -- after an instant
   abbrev asked_there : Shape → List Bool → Bool
   asked_there shape active = is_timed counts_down shape port.reference || (is_timed is_changed shape port.reference && is_marked shape active port.reference)
 

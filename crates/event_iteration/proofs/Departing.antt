@@ -86,7 +86,7 @@ module _ (system : System) (sound : IsSound system) (now : List (Option ℤ)) wh
   all_written_at_last = λ i q. written_at_last q i
 
   module _ (len : length now ≡ length system.ports) (values : List (Option ℤ)) (log : List Sent) (walked : Walked system (before_step now) now (port_order system) values log) where
-    -- behind the Sets an FMU with event mode is in its state of before, and without event mode it has the values written
+    -- after the Sets an FMU with event mode is in its state of before, and without event mode it has the values written
     pub state_is : (i : ℕ) (c : Component) → slice_get system.components i ≡ Some c → (m : Machine) (z : MachineState) → state_by m z (part i log) ≡ (if c.shape.has_event_mode then z else state_with system.ports now i m z)
     state_is i c of m z =
         (along (λ q. q < length system.ports) NoNeeds system (before_step now) now (port_order system) (in_order system) len (λ taken v l. Written taken l)
@@ -99,7 +99,7 @@ module _ (system : System) (sound : IsSound system) (now : List (Option ℤ)) wh
         nothing true j n y = refl
         nothing false j n y = sym (nothing_at_first system at_port j n y)
 
--- the states of a step's beginning, by those behind EnterStep
+-- the states of a step's beginning, by those after EnterStep
 pub depart_from : (r : Run) (s : Situation) (b : Bool) (i : ℕ) (m : Machine) (z : MachineState) →
     (if b then (if b then after m z C.EnterStep else z) else state_with r.system.ports s.before i m (if b then after m z C.EnterStep else z)) ≡ (if b then after m z C.EnterStep else state_with r.system.ports s.before i m z)
 depart_from r s true i m z = refl

@@ -55,7 +55,7 @@ told_later t (shape ∷ shapes) log = by (has_events shape) (told_later t shapes
     by true others all = All-cons (λ (e : Option ℕ). IfSome e (λ time. t < time)) (first_event t log) (events_told t shapes (other_answers log)) (later_first t log) others
     by false others all = All-cons (λ (e : Option ℕ). IfSome e (λ time. t < time)) None (events_told t shapes log) tt all
 
--- ---- one behind the others
+-- ---- one after the others
 
 abbrev ask_update : ℕ → Asking
 ask_update k = record { component = k; call = C.Update }

@@ -1,4 +1,4 @@
--- The FMUs of a run as machines: one call of an FMU and the state behind it, and what a log of told machines leaves.
+-- The FMUs of a run as machines: one call of an FMU and the state after it, and what a log of told machines leaves.
 use Rattle.std.proofs.Common.{◌≡◌, ℕ, zero, suc, ◌<◌, ◌+◌, ℤ, Bool, true, false, List, [], ◌∷◌, ◌++◌, Option, Some, None, Result, Ok, Err, refl, sym, ap, ap₂, ◌∙◌, subst, append-nil, arith, length, get_or}
 use Rattle.std.specs.Prelude.{All, MatchResult, if◌then◌else◌, option_and_then, option_map, slice_get, ◌==◌}
 use Rattle.std.proofs.lemmas.List.Elements.{All-head, All-tail, All-cons, All-nil}
@@ -104,7 +104,7 @@ part_all P i (s ∷ log) all =
 pub good_in_part : (shapes : List Shape) (log : List Sent) → All (IsGoodOf shapes) log → (i : ℕ) (d : Shape) → T.AllGood (get_or shapes i d) (part i log)
 good_in_part shapes log all i d = part_all (T.IsGood (get_or shapes i d)) i log (λ k x w here. subst (λ n. T.IsGood (get_or shapes n d) (get_or log k x).exchange) here (all k x w d))
 
--- ---- one call and the state behind it
+-- ---- one call and the state after it
 
 abbrev pub exchanges_of : Option Call → Option Reply → List Exchange
 exchanges_of None reply = []
@@ -143,7 +143,7 @@ pub none_reply : (shape : Shape) (reply : Option Reply) → IsPaired shape None 
 none_reply shape None paired = refl
 none_reply shape (Some reply) paired = absurd paired
 
--- ---- one turn and the states behind it
+-- ---- one turn and the states after it
 
 module _ {system : System} {rules : Rules} {p : ℕ} {reply : Option Reply} {values next : List (Option ℤ)} {sent : List Sent} (turn : Turn system rules p reply values next sent) (front : List Sent) where
   abbrev asked : Option Call
@@ -155,7 +155,7 @@ module _ {system : System} {rules : Rules} {p : ℕ} {reply : Option Reply} {val
   pub part_more : part own (front ++ sent) ≡ part own front ++ exchanges_of asked reply
   part_more = part_append own front sent ∙ ap (λ es. part own front ++ es) (ap (part own) turn.sent_is ∙ part_own_of own asked reply)
 
-  -- where the call leads its FMU from this state to that, and each other FMU has the same, they are so behind the turn
+  -- where the call leads its FMU from this state to that, and each other FMU has the same, they are so after the turn
   pub state_more : (m : Machine) (z : MachineState) (old new : ℕ → Component → MachineState) → after_if m (old own turn.component) asked ≡ new own turn.component → ((i : ℕ) (c : Component) → (i ≡ own → ⊥) → old i c ≡ new i c) →
       (i : ℕ) (c : Component) → slice_get system.components i ≡ Some c → state_by m z (part i front) ≡ old i c → state_by m z (part i (front ++ sent)) ≡ new i c
   state_more m z old new here beside i c of was = by_number i own
@@ -168,7 +168,7 @@ module _ {system : System} {rules : Rules} {p : ℕ} {reply : Option Reply} {val
 
 -- ---- told machines
 
--- behind good answers a told machine is in the state behind them
+-- after good answers a told machine is in the state after them
 pub told_state : (shape : Shape) (m : Machine) (v w : View) (es : List Exchange) → Talks v es w → T.AllGood shape es → (s : MachineState) → v.fixed.machine ≡ Some m → v.state ≡ Some s → w.state ≡ Some (state_by m s es)
 told_state shape m v w [] t good s machine state = ap (λ (x : View). x.state) t ∙ state
 told_state shape m v w (e ∷ es) (mid, may, asked, rest) good s machine state =
@@ -182,7 +182,7 @@ told_state shape m v w (e ∷ es) (mid, may, asked, rest) good s machine state =
         here.1
     next (Err fault) asked g = absurd g
 
--- what became of an FMU behind a log
+-- what became of an FMU after a log
 pub record Behind (news : List Instance) (i : ℕ) (m : Machine) (s : MachineState) : Type 0 where
   pub instance : Instance
   pub is : slice_get news i ≡ Some instance
@@ -207,7 +207,7 @@ module _ (r : Run) (states : List MachineState) (olds news : List Instance) (at 
       let y = has_at i x.0 x.1 in
       replies_of m x.0.view (part i log) y.0.view y.2 s x.2 x.3
 
-  -- behind good ones each tells its machine in the state behind them
+  -- after good ones each tells its machine in the state after them
   pub told_at : All (IsGoodOf (shapes_of r.system)) log → (i : ℕ) (c : Component) (m : Machine) (s : MachineState) → IsFmu r states i c m s → Behind news i m (state_by m s (part i log))
   told_at good i c m s fmu =
       let x = at i c m s fmu in

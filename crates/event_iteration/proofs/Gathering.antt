@@ -1,4 +1,4 @@
--- A walk in which calls wait: how it goes on with a port, and what holds behind the sending of those that wait.
+-- A walk in which calls wait: how it goes on with a port, and what holds after the sending of those that wait.
 use Rattle.std.proofs.Common.{◌≡◌, ℕ, ◌≤◌, ◌+◌, ◌==◌, ◌⊎◌, inl, inr, ℤ, Bool, true, false, List, [], ◌∷◌, ◌++◌, Option, Some, None, Contains, refl, sym, ap, ap₂, ◌∙◌, subst, arith, append_assoc, append-nil, map, take, drop}
 use Rattle.std.specs.Prelude.{All, filter, if◌then◌else◌, slice_get, slice_set, ◌||◌}
 use Rattle.std.specs.List.{list_any}
@@ -69,7 +69,7 @@ pub map_alike : {X : Type 0} (f g : ℕ → X) (xs : List ℕ) → ((x : ℕ) �
 map_alike f g [] h = refl
 map_alike f g (x ∷ xs) h = ap₂ (λ y ys. y ∷ ys) (h x (contains_first x xs)) (map_alike f g xs (λ y m. h y (contains_next x y xs m)))
 
--- the call behind the others, or one of them
+-- the call after the others, or one of them
 pub cut : (xs ys : List Call) (c call : Call) (left : List Call) → xs ++ c ∷ [] ≡ ys ++ call ∷ left → ((xs ≡ ys) × (c ≡ call)) ⊎ ((rest : List Call) × (xs ≡ ys ++ call ∷ rest))
 cut [] [] c call left e = inl (refl, cc)
 cut [] (y ∷ []) c call left e = absurd (cc)

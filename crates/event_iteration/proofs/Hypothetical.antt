@@ -1,4 +1,4 @@
--- Good answers that may come, of an instance whose machine isn't told: so a call that is permitted behind any of them may be asked behind the others.
+-- Good answers that may come, of an instance whose machine isn't told: so a call that is permitted after any of them may be asked after the others.
 use Rattle.std.proofs.Common.{◌≡◌, ℕ, ◌<◌, Bool, List, [], ◌∷◌, ◌++◌, Option, Some, None, Result, Ok, Err, refl, sym, ap, ◌∙◌, subst, arith, length, map, get_or, set}
 use Rattle.std.specs.Prelude.{MatchResult, if◌then◌else◌, ◌||◌}
 use Rattle.std.specs.Result.{result_ok}
@@ -121,7 +121,7 @@ comes shape origin phase talk faults (e ∷ es) may good =
       ),
     )
 
--- the instance behind them
+-- the instance after them
 pub record Behind (x : Instance) (es : List Exchange) : Type 0 where
   pub next : Instance
   pub has : Has (untold x) es next
@@ -145,7 +145,7 @@ behind x es may good =
       phase = refl;
     }
 
--- one more may be asked behind the others, where it is permitted behind any good answers to them
+-- one more may be asked after the others, where it is permitted after any good answers to them
 pub may_push : (shape : Shape) (phase : Phase) (cs : List Call) (c : Call) → MayAskAll shape phase cs → ((es : List Exchange) → calls_in es ≡ cs → AllGood shape es → Permitted shape (phase_from shape phase es) c) → MayAskAll shape phase (cs ++ c ∷ [])
 may_push shape phase [] c may permitted = (permitted [] refl (All-nil (IsGood shape)), λ reply good. tt)
 may_push shape phase (x ∷ cs) c may permitted = (

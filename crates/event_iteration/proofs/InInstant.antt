@@ -91,7 +91,7 @@ about_instant system ticks is_first = record {
 
 -- ---- the calls
 
--- an output is read, with event mode where it is present; a connected input of an FMU with event mode that is present is set to its source's value; an output Clock is asked; and an input Clock is set where its source is active or it ticks
+-- an output is read, with event mode where it is present; a connected input of an FMU with event mode that is present is set to what its path makes of its source's value; an output Clock is asked; and an input Clock is set where its source is active or it ticks
 pub data IsAskedInInstant (events : Bool) (port : Port) (values : List (Option ℤ)) (call : Call) : Type 0 where
   ReadsOutput : port.role ≡ Output → (events ≡ true → is_present port values ≡ true) → Gets port call → IsAskedInInstant events port values call
   SetsInput : (feed : Feed) (x : ℤ) → port.role ≡ Input (Some feed) → events ≡ true → is_present port values ≡ true → fed port.kind feed values ≡ Some x → call ≡ C.Set port.kind port.reference x → IsAskedInInstant events port values call
@@ -234,7 +234,7 @@ module _ (shape : Shape) (port : Port) (v : Variable) (active : List Bool) (ther
   turn_active (TimeClock timing) c events first ticks values last reply paired h = by_set ticks (is_ticking ticks h) reply paired
 
 module _ (system : System) (sound : IsSound system) (ticks : ℕ → Bool) (is_first : Bool) where
-  -- the Clocks of an FMU that were taken and are active are so behind its part of the log
+  -- the Clocks of an FMU that were taken and are active are so after its part of the log
   abbrev pub AreMarked : List ℕ → List (Option ℤ) → List Sent → Type 0
   AreMarked taken values log = (i : ℕ) (c : Component) → slice_get system.components i ≡ Some c → (active : List Bool) → length active ≡ length c.shape.variables →
       (q : ℕ) (port : Port) → Contains taken q → slice_get system.ports q ≡ Some port → port.component.0 ≡ i → is_clock_role port.role ≡ true → is_active (value values q) ≡ true →
@@ -436,7 +436,7 @@ module _ (system : System) (sound : IsSound system) (ticks : ℕ → Bool) (is_f
     may_turn port c x is of at =
         may_ask system sound values fits_now p port is x.view c of (shape_here system olds mids log told same port.component.0 c of x at) (midway port c x is of at) ticks is_first _ refl
 
-  -- behind the whole walk the Clocks that are active in the values are so in their FMUs
+  -- after the whole walk the Clocks that are active in the values are so in their FMUs
   pub active_at_end : numbers system.instant_order ≡ taken → AreActive system values (modes mids)
   active_at_end whole q port c mode is of at clock one =
       let there = got mids port.component.0 (let w = slice_get_within (modes mids) port.component.0 mode at in let e = length-map mids mode_of in omega (arith, w, e)) in

@@ -30,7 +30,7 @@ NoneBefore test ports p = (k : ℕ) (d : Port) → k < p → test (get_or ports 
 pub none_yet : (test : Port → Bool) (ports : List Port) → NoneBefore test ports 0
 none_yet test ports = λ k d l. absurd (omega (arith, l))
 
--- what is read at a place is so for each other value behind the end
+-- what is read at a place is so for each other value past the end
 pub read_any : (ports : List Port) (p : ℕ) (port d : Port) → p < length ports → port ≡ get_or ports p port → port ≡ get_or ports p d
 read_any ports p port d within read = sym (get_or_from_slice_get ports p port d (slice_get-get_or ports p port within ∙ ap Some (sym read)))
 

@@ -1,4 +1,4 @@
--- Which variables are marked behind Gets, Sets and calls of Clocks.
+-- Which variables are marked after Gets, Sets and calls of Clocks.
 use Rattle.std.proofs.Common.{◌≡◌, ◌⊎◌, inl, inr, ℕ, zero, suc, ◌+◌, ℤ, Bool, true, false, not, List, [], ◌∷◌, Option, Some, None, refl, sym, ap, ◌∙◌, subst, arith, get_or, set}
 use Rattle.std.specs.Prelude.{All, ◌==◌, if◌then◌else◌, slice_get}
 use Rattle.std.specs.List.{list_any, position_from}
@@ -115,6 +115,6 @@ passes_beside shape r v w es is t all = (
   phase_kept (λ (x : Phase). is_marked shape x.marks r) (Passes r) shape (λ p c. refl) (λ c passes p y. (passes_one shape r c passes p y).1) v w es is t all,
 )
 
--- behind good Gets the marks are those of before
+-- after good Gets the marks are those of before
 pub gets_leave : (shape : Shape) (v w : View) (es : List Exchange) → v.fixed.shape ≡ shape → Talks v es w → All (λ (e : Exchange). IsGet e.call × T.IsGood shape e) es → w.phase.marks ≡ v.phase.marks
 gets_leave shape v w es is t all = phase_kept (λ (x : Phase). x.marks) IsGet shape (λ p c. refl) (λ c get p y. ap (λ (k : Call). (entered shape p k y).marks) get.2) v w es is t all

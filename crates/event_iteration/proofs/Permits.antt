@@ -83,7 +83,7 @@ taken_fits system sound values fits p port is role same reply = tt
 abbrev pub IsQuiet : System → Sent → Type 0
 IsQuiet system s = (reads_or_sets s.exchange.call ≡ true) × IsGoodOf (shapes_of system) s
 
--- behind each turn of the walk
+-- after each turn of the walk
 pub record Keeps (system : System) (values : List (Option ℤ)) (log : List Sent) : Type 0 where
   pub places : length values ≡ length system.ports
   pub fits : AreFitting system values
@@ -163,7 +163,7 @@ phase_kept aspect Kind shape counts enters v w (e ∷ es) is (mid, may, asked, r
 pub quiet_part : (system : System) (i : ℕ) (d : Shape) (log : List Sent) → All (IsQuiet system) log → All (IsQuietOf (get_or (shapes_of system) i d)) (part i log)
 quiet_part system i d log all = part_all (IsQuietOf (get_or (shapes_of system) i d)) i log (λ k x w here. let own = all k x w in (own.0, subst (λ n. IsGood (get_or (shapes_of system) n d) (get_or log k x).exchange) here (own.1 d)))
 
--- an instance behind such a log
+-- an instance after such a log
 pub still : (system : System) (olds news : List Instance) (log : List Sent) → Told log olds news → shapes olds ≡ shapes_of system → All (IsQuiet system) log → All (λ (x : Instance). IsInitializing x.view) olds → All (λ (x : Instance). IsInitializing x.view) news
 still system olds news log told same quiet initializing = λ k d within.
     let w : k < length olds = (let e = told.len in omega (arith, e, within)) in

@@ -71,7 +71,7 @@ timer_of_changing : (b : Bool) (per_second t : ℕ) (told : Interval) (place : C
 timer_of_changing true per_second t told place = timer_anew per_second t told
 timer_of_changing false per_second t told place = refl
 
--- the timer behind an instant
+-- the timer after an instant
 pub timer_of_place : (role : Role) (per_second t : ℕ) (v : Option ℤ) (reply : Option Reply) (place : ClockState) → IsPlaceOf role place →
     timer_in (place_behind role per_second t v (interval_by reply) place) ≡ timer_behind role per_second t v reply (timer_in place)
 timer_of_place (TimeClock Countdown) per_second t v reply place of =
@@ -117,7 +117,7 @@ place_of_behind (TimeClock Answered) per_second t v told place of =
     let ticked = place_ticked (is_active v) of.0 of.1 of.2 in (of.0, of.1, ticked.0, ap (ticked_if (is_active v)) of.3 ∙ ticked.1, of.4)
 place_of_behind role per_second t v told place of = of
 
--- its next tick is behind the point
+-- its next tick is after the point
 next_periodic : (start t : ℕ) (is_first b : Bool) (interval shift ticks : ℕ) → 0 < interval → IsNextFrom start t is_first (S.Periodic interval shift ticks) → b ≡ (start + shift + ticks * interval == t) →
     IsNextFrom start t false (ticked_if b (S.Periodic interval shift ticks))
 next_periodic start t true true interval shift ticks above next due =

@@ -1,4 +1,4 @@
--- The questions of countdown and changing Clocks behind an instant, port by port.
+-- The questions of countdown and changing Clocks after an instant, port by port.
 use Rattle.std.proofs.Common.{true, ◌≡◌, inl, inr, ℕ, zero, suc, ◌+◌, ◌<◌, ◌≤◌, ℤ, Bool, false, List, [], ◌∷◌, ◌++◌, Option, Some, None, Ok, Err, refl, sym, ap, ap₂, ◌∙◌, subst, arith, length, get_or, set, take, drop}
 use Rattle.std.specs.Prelude.{All, Contains, IsSomeAnd, if◌then◌else◌, option_map, slice_get, ◌||◌}
 use Rattle.std.specs.List.{list_any}

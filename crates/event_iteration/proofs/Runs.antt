@@ -144,7 +144,7 @@ pub moves_asked : (system : System) (rules : Rules) (order : List ℕ) (k : ℕ)
 moves_asked system rules order k w values is p at count next news (Ok x) turn = λ before olds g. asked system rules before order olds k w values is g p at count next news turn
 moves_asked system rules order k w values is p at count next news (Err bad) turn = λ before olds g. ends system rules before order olds k w values is g p at count next news bad turn
 
--- one step behind another
+-- one step after another
 pub moves_on : (system : System) (rules : Rules) (order : List ℕ) (from mid to : Place) (r : Result (Unit {0}) BadAnswer) → Moves system rules order from mid (Ok tt) → Moves system rules order mid to r → Moves system rules order from to r
 moves_on system rules order from mid to (Ok x) first then = λ before olds g. then before olds (first before olds g)
 moves_on system rules order from mid to (Err bad) first then = λ before olds g. then before olds (first before olds g)

@@ -1,4 +1,4 @@
--- The logs of told machines: parts one behind the other, calls that change no machine, and one call to each or to some.
+-- The logs of told machines: parts one after the other, calls that change no machine, and one call to each or to some.
 use Rattle.std.proofs.Common.{◌≡◌, ℕ, suc, ◌+◌, ◌<◌, ◌==◌, ℤ, Bool, true, false, List, [], ◌∷◌, ◌++◌, Option, Some, None, Result, Ok, refl, sym, ap, ap₂, ◌∙◌, subst, arith, length, get_or, map}
 use Rattle.std.specs.Prelude.{All, MatchResult, ◌&&◌, ◌||◌, if◌then◌else◌}
 use Rattle.std.specs.List.{list_any, slice_get}
@@ -112,7 +112,7 @@ module _ (r : Run) (ss : List MachineState) where
   abbrev Good : Sent → Type 0
   Good = IsGoodOf (shapes_of r.system)
 
-  -- ---- one part behind the other
+  -- ---- one part after the other
 
   pub states_on : (a b : List Sent) → states_by r ss (a ++ b) ≡ states_by r (states_by r ss a) b
   states_on a b =
@@ -130,7 +130,7 @@ module _ (r : Run) (ss : List MachineState) where
       (replies_back m (get_or (shapes_of r.system) i c.shape) old.before (part i a) (part i b) (good_in_part (shapes_of r.system) a good i c.shape)
       (subst (RepliesBy m old.before) (part_append i a b) (h i c m old.before old.fmu)))
 
-  -- behind good answers each is told in the state behind them
+  -- after good answers each is told in the state after them
   pub told_on : (olds news : List Instance) → AreAt r ss olds → (log : List Sent) → Told log olds news → All Good log → AreAt r (states_by r ss log) news
   told_on olds news at log told good i c m z fmu =
       let old = fmu_before r ss (λ j d n s. state_by n s (part j log)) i c m z fmu in

@@ -314,7 +314,7 @@ module _ (system : System) (sound : IsSound system) (rules : Rules) (before : Li
             subst (λ (V : List (Option ℤ)). Walked system rules before (take (k + 1) order) V (g.log ++ sents i (es ++ e ∷ []))) values_is
             (subst (λ (l : List Sent). Walked system rules before (take (k + 1) order) (slice_set (W es) p (value_behind system rules (W es) p o)) l) log_is step)
 
-    -- it may be asked behind the others, whatever good answers they get
+    -- it may be asked after the others, whatever good answers they get
     asked_too : (x : Instance) → slice_get is i ≡ Some x → MayAskAll x.view.fixed.shape x.view.phase (g.calls ++ call ∷ [])
     asked_too x x_is = may_push x.view.fixed.shape x.view.phase g.calls call (g.asked x x_is) (λ es calls good.
         let others : MayAskAll x.view.fixed.shape x.view.phase (calls_in es) = subst (MayAskAll x.view.fixed.shape x.view.phase) (sym calls) (g.asked x x_is) in

@@ -40,7 +40,7 @@ use Rattle.event_iteration.proofs.Stages.{AreAll, IsRead, IsShown, Reads, fmu_of
 use Rattle.event_iteration.proofs.WalkAnswers.{last_alone_is_bad}
 use Rattle.event_iteration.proofs.Walking.{call_at-is, said-is, all_said_by, said_at, said_by, sent_by}
 
--- a Clock that is asked for its interval behind an instant
+-- a Clock that is asked for its interval after an instant
 abbrev pub IsAsked : Role → Option ℤ → Type 0
 IsAsked role v = (role ≡ TimeClock Countdown) ⊎ ((role ≡ TimeClock Changing) × (is_active v ≡ true))
 
@@ -65,7 +65,7 @@ intervals_read system now before values taken log e =
     (all_said_by IsRead system (intervals now) values e.replies taken (λ k d w. said_by IsRead system (intervals now) values e.replies _
     (λ port c is of. sent_by IsRead port.component.0 (asks_interval port.role port (value now _)) (e.replies _) (λ call y asks told m z. ap (after m z) (asked_interval port.role port (value now _) call asks).1))))
 
--- ---- countdown and changing Clocks, behind an instant
+-- ---- countdown and changing Clocks, after an instant
 
 module _ (r : Run) (sound : IsSound r.system) (s : Situation) (values : List (Option ℤ)) (all : AreAll r (written r s values)) (next : List Timer) (log : List Sent) (rearms : Rearms r.system r.plan.resolution s.t values s.timers next log)
     (replies : AreReplies r (written r s values) log) where
@@ -102,7 +102,7 @@ module _ (r : Run) (sound : IsSound r.system) (s : Situation) (values : List (Op
           let own : x ≡ fmu.0.look fmu.1 (C.GetInterval port.reference) = (cc) in
           ap interval_in own ∙ sym (ap (λ (o : Option Interval). unwrap_or o NotYetKnown) (at_fmu-is r ss port.component.0 d fmu.0 fmu.1 (λ b n z. Some (interval_in (n.look z (C.GetInterval port.reference)))) fmu.2))
 
-  -- so the timers behind the instant are the run's
+  -- so the timers after the instant are the run's
   timers_from : (p : ℕ) (ports : List Port) (olds : List Timer) → ((q : ℕ) (port : Port) → slice_get ports q ≡ Some port → slice_get r.system.ports (p + q) ≡ Some port) →
       timers_behind_from r.plan.resolution s.t values e.replies p ports olds ≡ next_timers_from r s values p ports olds
   timers_from p [] olds h = refl

@@ -1,4 +1,4 @@
--- The values behind several turns.
+-- The values after several turns.
 use Rattle.std.proofs.Common.{◌≡◌, ℕ, ◌<◌, ℤ, Bool, true, false, List, [], ◌∷◌, ◌++◌, Option, Some, None, Contains, refl, sym, ap, ap₂, ◌∙◌, subst, arith, length, drop, take, map, get_or, ◌+◌}
 use Rattle.std.specs.Prelude.{IfSome, filter, if◌then◌else◌, option_map, slice_get, slice_set}
 use Rattle.std.specs.Option.{option_and_then}
@@ -99,7 +99,7 @@ module _ (system : System) (rules : Rules) (turns : AreTurns system rules) where
   turned_fits (p ∷ ps) [] V len fits = turned_fits ps [] _ (length-set V p _ ∙ len) (turn_fits system rules turns V len fits p None)
   turned_fits (p ∷ ps) (o ∷ os) V len fits = turned_fits ps os _ (length-set V p _ ∙ len) (turn_fits system rules turns V len fits p o)
 
-  -- the value of a port that none of them is about may be written before or behind
+  -- the value of a port that none of them is about may be written before or after
   swaps : (V : List (Option ℤ)) (p : ℕ) (v : Option ℤ) (q : ℕ) (o : Option Reply) → (q ≡ p → ⊥) → (ReadsPort system q p → ⊥) →
       slice_set (slice_set V p v) q (value_behind system rules (slice_set V p v) q o) ≡ slice_set (slice_set V q (value_behind system rules V q o)) p v
   swaps V p v q o other apart =

@@ -128,7 +128,7 @@ fits_along system rules fitting before len fits _ _ _ (Went taken pre p reply va
 
 -- ---- instances
 
--- an instance behind a log, and what it was before
+-- an instance after a log, and what it was before
 module _ (system : System) (olds mids : List Instance) (log : List Sent) (told : Told log olds mids) (same : shapes olds ≡ shapes_of system) (i : ℕ) (c : Component) (of : slice_get system.components i ≡ Some c) (x : Instance)
     (there : slice_get mids i ≡ Some x) where
   in_mids : i < length mids

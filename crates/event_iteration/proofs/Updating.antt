@@ -1,4 +1,4 @@
--- The Updates behind an instant: the loop over the slots, and over machines where they lead.
+-- The Updates after an instant: the loop over the slots, and over machines where they lead.
 use Rattle.std.proofs.Common.{refl, ◌≡◌, ℕ, ◌<◌, ℤ, Bool, true, List, ◌++◌, Option, Some, Result, Ok, Err, sym, ap, ap₂, ◌∙◌, arith, length, get_or, map}
 use Rattle.std.specs.Prelude.{◌||◌, if◌then◌else◌}
 use Rattle.std.specs.List.{slice_get}
@@ -69,7 +69,7 @@ told_more old new log k e reply was again asked is =
 -- ---- over machines
 
 module _ (r : Run) (s : Situation) (values : List (Option ℤ)) (log : List Sent) (answered : IsAnswered (shapes_of r.system) (updating (shapes_of r.system)) log) where
-  -- they lead to the states behind the instant
+  -- they lead to the states after the instant
   pub states_updated : states_by r (written r s values) log ≡ (updated r s values).states
   states_updated = stage_states r (written r s values) has_events (λ (shape : Shape). C.Update) log answered
 

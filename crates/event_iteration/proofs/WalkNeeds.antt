@@ -1,4 +1,4 @@
--- What a walk takes of its rules and its order for granted, where the system is sound: each turn is about its source and its Clocks alone, and stands behind them.
+-- What a walk takes of its rules and its order for granted, where the system is sound: each turn is about its source and its Clocks alone, and comes after them.
 use Rattle.std.proofs.Common.{◌≡◌, ℕ, ◌<◌, ℤ, Bool, true, false, List, [], ◌∷◌, ◌++◌, Option, Some, None, Contains, append_assoc, inl, inr, refl, sym, ap, ◌∙◌, subst, length}
 use Rattle.std.specs.Prelude.{◌==◌, ◌&&◌, ◌||◌, if◌then◌else◌, not, option_map, slice_get}
 use Rattle.std.specs.List.{list_any}
@@ -148,9 +148,9 @@ silent_initially ports port others read (ClockInput feed) h = absurd (false≢tr
 silent_initially ports port others read ClockOutput h = absurd (false≢true h)
 silent_initially ports port others read (TimeClock timing) h = absurd (false≢true h)
 
--- ---- each port stands behind what it reads
+-- ---- each port comes after what it reads
 
--- what stands before a port doesn't stand behind it
+-- what stands before a port doesn't come after it
 not_behind : (IsAmong : ℕ → Type 0) (NeedsOf : ℕ → ℕ → Type 0) (order taken rest : List ℕ) (p q : ℕ) → IsOrder IsAmong NeedsOf order → order ≡ taken ++ p ∷ rest → Contains taken q → Contains rest q → ⊥
 not_behind IsAmong NeedsOf order taken rest p q ordered is before behind =
     let r = contains_split rest q behind in

@@ -1,4 +1,4 @@
--- What the calls of each part of a run make of told machines, by its log alone: the values that it found, the timers, what the answers say, and the states behind it (FMI 3.0, 4.2.1; 2.2.9).
+-- What the calls of each part of a run make of told machines, by its log alone: the values that it found, the timers, what the answers say, and the states after it (FMI 3.0, 4.2.1; 2.2.9).
 use Rattle.std.specs.Prelude.{◌≡◌, ℕ, ◌==◌, ℤ, Bool, List, Option, length}
 use Rattle.system_model.specs.Ports.{numbers}
 use Rattle.system_model.specs.Sound.{IsSound}
@@ -22,7 +22,7 @@ use Rattle.event_iteration.specs.Updates.{events_told, updated_by, updating}
 
 -- ---- Initialization Mode
 
--- the values found are those of a solution of its equations, which the machines have written behind the log
+-- the values found are those of a solution of its equations, which the machines have written after the log
 pub record FoundInitially (r : Run) (values : List (Option ℤ)) (log : List Sent) : Type 0 where
   pub initial : List (Option ℤ)
   pub solves : SolvesInitially r initial
@@ -47,7 +47,7 @@ FixedByLog =
 
 -- ---- an instant
 
--- with the ticks of its timers the values solve its equations, and the machines with event mode have them written behind the log
+-- with the ticks of its timers the values solve its equations, and the machines with event mode have them written after the log
 abbrev pub InstantByLog : Type 0
 InstantByLog =
     (r : Run) (s : Situation) (ticks : ℕ → Bool) (values : List (Option ℤ)) (log : List Sent) →
@@ -58,7 +58,7 @@ InstantByLog =
     log → AreReplies r s.states log →
     Solves r s values × (states_by r s.states log ≡ written r s values)
 
--- what the countdown and changing Clocks' FMUs answer behind it makes the timers those of the run, and the states stay
+-- what the countdown and changing Clocks' FMUs answer after it makes the timers those of the run, and the states stay
 abbrev pub IntervalsByLog : Type 0
 IntervalsByLog =
     (r : Run) (s : Situation) (values : List (Option ℤ)) (next : List Timer) (log : List Sent) →
@@ -68,7 +68,7 @@ IntervalsByLog =
     (states_by r (written r s values) log ≡ written r s values) ×
     (next ≡ next_timers r s values)
 
--- the Updates lead to the states behind it, and their answers say what those of the machines say, event times among it
+-- the Updates lead to the states after it, and their answers say what those of the machines say, event times among it
 abbrev pub UpdatesByLog : Type 0
 UpdatesByLog =
     (r : Run) (s : Situation) (values : List (Option ℤ)) (log : List Sent) →
@@ -82,7 +82,7 @@ UpdatesByLog =
 
 -- ---- before a step
 
--- the Sets behind EnterStep lead to the states of its beginning
+-- the Sets after EnterStep lead to the states of its beginning
 abbrev pub SetsByLog : Type 0
 SetsByLog =
     (r : Run) (s : Situation) (values : List (Option ℤ)) (log : List Sent) → IsSound r.system →

@@ -85,7 +85,7 @@ IsPlaceOf Output place = place ≡ S.Unasked
 IsPlaceOf (ClockInput feed) place = place ≡ S.Unasked
 IsPlaceOf ClockOutput place = place ≡ S.Unasked
 
--- the next tick of a Clock is its first at the point, or behind it; in a later instant of the point its first behind it. A countdown or changing Clock isn't armed for an earlier point
+-- the next tick of a Clock is its first at the point, or after it; in a later instant of the point its first after it. A countdown or changing Clock isn't armed for an earlier point
 abbrev pub IsNextFrom : (start t : ℕ) → (is_first : Bool) → ClockState → Type 0
 IsNextFrom start t is_first S.Unasked = ⊤
 IsNextFrom start t true (S.Periodic interval shift ticks) =

@@ -1,4 +1,4 @@
--- What the log of a walk tells, for any replies: the values are the answers, each input has its source's value, and nothing is read or set twice.
+-- What the log of a walk tells, for any replies: the values are the answers, each input has what its path makes of its source's value, and nothing is read or set twice.
 use Rattle.std.specs.Prelude.{◌≡◌, ℕ, ℤ, List, [], ◌∷◌, ◌++◌, Option, Some, Result, Ok, Err, Contains}
 use Rattle.std.specs.List.{slice_get}
 use Rattle.std.specs.Option.{option_and_then, option_map_or}
@@ -44,7 +44,7 @@ pub record Explains (system : System) (rules : Rules) (before : List (Option ℤ
       Contains taken p → value values p ≡ rules.takes p port values (value before p) (replies p)
   pub left : (p : ℕ) → (Contains taken p → ⊥) → value values p ≡ value before p
 
--- the log tells the first ports of the order, and ends with the call of the one behind them, whose answer isn't good
+-- the log tells the first ports of the order, and ends with the call of the one after them, whose answer isn't good
 pub record ExplainsUntil (system : System) (rules : Rules) (before : List (Option ℤ))
     (order : List ℕ) (bad : BadAnswer) (values : List (Option ℤ)) (log : List Sent) : Type 0 where
   pub taken : List ℕ
@@ -57,7 +57,7 @@ pub record ExplainsUntil (system : System) (rules : Rules) (before : List (Optio
   pub told : Explains system rules before taken values front
   pub stops : Stops system rules p bad values last
 
--- a walk through the order, up to the first answer that isn't good. What the values are behind that is of no account: the log tells those up to it
+-- a walk through the order, up to the first answer that isn't good. What the values are after that doesn't matter: the log tells those up to it
 abbrev pub WalkSays : System → Rules → List (Option ℤ) → List ℕ → List (Option ℤ) → List Sent →
     Result (Unit {0}) BadAnswer → Type 0
 WalkSays system rules before order values log (Ok x) = Explains system rules before order values log

@@ -25,7 +25,7 @@ seen port reply = option_and_then (value_in port.kind) reply
 abbrev pub is_set_from_feed : List Port → Port → Feed → Bool
 is_set_from_feed ports port feed = is_unclocked port && is_unclocked_at ports feed.from.0
 
--- an input without Clocks is set to its source's value, where that has no Clocks, and such a source is read
+-- an input without Clocks is set to what its path makes of its source's value, where the source has no Clocks, and such a source is read
 abbrev pub asks_initially : Role → List Port → Bool → Port → List (Option ℤ) → Option Call
 asks_initially (Input None) ports read port values = None
 asks_initially (Input (Some feed)) ports read port values =

@@ -1,4 +1,4 @@
--- The turns of an instant (FMI 3.0, 4.2.1: Event Mode, Step Mode; 2.2.8: Clocks; SSP 1.0: connections). With event mode inputs are set to the values of their sources and outputs are read, and so are Clocks; without event mode outputs are read in the first instant of a point, and inputs take the values of their sources without a call.
+-- The turns of an instant (FMI 3.0, 4.2.1: Event Mode, Step Mode; 2.2.8: Clocks; SSP 1.0: connections). With event mode inputs are set to what their paths make of their sources' values and outputs are read, and so are Clocks; without event mode outputs are read in the first instant of a point, and inputs take what comes to them without a call.
 use Rattle.std.specs.Prelude.{◌≡◌, ℕ, ◌<◌, ℤ, pos, ◌==◌, ◌&&◌, Bool, true, false, not, if◌then◌else◌, All, List, length, Option, Some, None}
 use Rattle.std.specs.Option.{option_map}
 use Rattle.sim_base.specs.declared.numbers.PortId.{PortId}
@@ -28,7 +28,7 @@ abbrev pub is_read_in_instant : Port → Bool → Bool → List (Option ℤ) →
 is_read_in_instant port has_event_mode is_first values =
     if has_event_mode then is_present port values else is_first
 
--- a connected input that is present is set to its source's value, where that has one, and an output is read; an input Clock is set where its source is active or it ticks, and an output Clock is asked
+-- a connected input that is present is set to what its path makes of its source's value, where that is something, and an output is read; an input Clock is set where its source is active or it ticks, and an output Clock is asked
 abbrev pub asks_in_instant : Role → Port → Bool → Bool → Bool → List (Option ℤ) → Option Call
 asks_in_instant (Input None) port has_event_mode is_first ticks values = None
 asks_in_instant (Input (Some feed)) port has_event_mode is_first ticks values =

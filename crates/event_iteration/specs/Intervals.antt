@@ -1,4 +1,4 @@
--- The questions for the intervals of Clocks (FMI 3.0, 2.2.9: fmi3GetIntervalFraction, fmi3GetShiftFraction): of fixed and changing Clocks in Initialization Mode, of countdown and changing Clocks behind instants.
+-- The questions for the intervals of Clocks (FMI 3.0, 2.2.9: fmi3GetIntervalFraction, fmi3GetShiftFraction): of fixed and changing Clocks in Initialization Mode, of countdown and changing Clocks after instants.
 use Rattle.std.specs.Prelude.{◌≡◌, ℕ, suc, ℤ, Bool, true, false, if◌then◌else◌, List, [], ◌∷◌, ◌++◌, Option, Some, None, Result, Ok, Err}
 use Rattle.std.specs.List.{list_any, slice_get}
 use Rattle.std.specs.Option.{option_map_or}
@@ -69,7 +69,7 @@ told_timer per_second (interval ∷ shift ∷ log) =
 told_timer per_second (interval ∷ []) = Never
 told_timer per_second [] = Never
 
--- the log behind those two
+-- the log after those two
 abbrev pub behind_two : List Sent → List Sent
 behind_two (interval ∷ shift ∷ log) = log
 behind_two (interval ∷ []) = []
@@ -81,7 +81,7 @@ shifted_timer per_second start (shift ∷ log) =
     armed_after start (counts_of (shift_by (reply_in shift.exchange)) per_second)
 shifted_timer per_second start [] = Never
 
--- the log behind that one
+-- the log after that one
 abbrev pub behind_one : List Sent → List Sent
 behind_one (shift ∷ log) = log
 behind_one [] = []
@@ -97,7 +97,7 @@ first_told_by Output per_second start log = Never
 first_told_by (ClockInput feed) per_second start log = Never
 first_told_by ClockOutput per_second start log = Never
 
--- the log behind the answers that are about the port
+-- the log after the answers that are about the port
 abbrev pub log_behind : Role → List Sent → List Sent
 log_behind (TimeClock Answered) log = behind_two log
 log_behind (TimeClock Changing) log = behind_one log
@@ -142,7 +142,7 @@ FixesForMachines system per_second start timers olds news =
     AreAt r (initialized r values) olds → AreAt r (initialized r values) news ×
     (timers ≡ first_timers r (initialized r values))
 
--- ---- countdown and changing Clocks, behind an instant
+-- ---- countdown and changing Clocks, after an instant
 
 -- a countdown Clock is asked for its interval, and a changing one where it ticks
 abbrev pub asks_interval : Role → Port → Option ℤ → Option Call
@@ -156,14 +156,14 @@ asks_interval Output port v = None
 asks_interval (ClockInput feed) port v = None
 asks_interval ClockOutput port v = None
 
--- behind an instant with these values each such Clock is asked for its interval; the values stay
+-- after an instant with these values each such Clock is asked for its interval; the values stay
 abbrev pub intervals : List (Option ℤ) → Rules
 intervals now = record {
   asks = λ p port c values. asks_interval port.role port (value now p);
   takes = λ p port values last reply. last;
 }
 
--- the timer of a port behind an instant: its tick takes the arming of a countdown Clock away, and then what its FMU answers arms it, leaves it or takes it away; a changing Clock that ticked is armed by what its FMU answers
+-- the timer of a port after an instant: its tick takes the arming of a countdown Clock away, and then what its FMU answers arms it, leaves it or takes it away; a changing Clock that ticked is armed by what its FMU answers
 abbrev pub timer_behind : Role → (per_second t : ℕ) → Option ℤ → Option Reply → Timer → Timer
 timer_behind (TimeClock Countdown) per_second t v reply old =
     answered per_second t (interval_by reply) (if is_active v then Never else old)
@@ -189,7 +189,7 @@ abbrev pub timers_behind : (per_second t : ℕ) → System → List (Option ℤ)
 timers_behind per_second t system values replies olds =
     timers_behind_from per_second t values replies 0 system.ports olds
 
--- by this log the countdown and changing Clocks were asked behind an instant at the point, with its values, and the timers went from these to those
+-- by this log the countdown and changing Clocks were asked after an instant at the point, with its values, and the timers went from these to those
 pub record Rearms (system : System) (per_second t : ℕ) (values : List (Option ℤ))
     (olds news : List Timer) (log : List Sent) : Type 0 where
   pub explains : Explains system (intervals values) values (port_order system) values log

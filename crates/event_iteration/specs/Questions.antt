@@ -157,7 +157,7 @@ pub record IsFixedUpTo (system : System) (k : ℕ) (table : Timetable) : Type 0 
   pub ahead : (q : ℕ) (port : Port) → k ≤ q → slice_get system.ports q ≡ Some port →
       slice_get table.clocks q ≡ Some (first_place port.role)
 
--- ---- countdown and changing Clocks, behind an instant
+-- ---- countdown and changing Clocks, after an instant
 
 -- each component with event mode is in Event Mode
 abbrev pub AreRunning : System → List InstanceMode → Type 0
@@ -217,7 +217,7 @@ armed_anew per_second t told =
 abbrev pub ticked_if : Bool → ClockState → ClockState
 ticked_if ticks place = if ticks then after_tick place else place
 
--- where a port stands behind an instant at the point, in which it has this value
+-- where a port stands after an instant at the point, in which it has this value
 abbrev pub place_behind : Role → (per_second t : ℕ) → Option ℤ → Interval → ClockState → ClockState
 place_behind (TimeClock Countdown) per_second t v told place =
     rearmed per_second t told (ticked_if (is_active v) place)
@@ -263,7 +263,7 @@ arms_now per_second (Unchanged f) = false
 arms_now per_second (Changed f) =
     option_map_or (λ counts. counts == 0) (counts_of f per_second) false
 
--- the first ports stand behind the instant, and the others as before
+-- the first ports stand as after the instant, and the others as before
 pub record IsBehindUpTo (system : System) (per_second t : ℕ) (values : List (Option ℤ))
     (replies : ℕ → Option Reply) (k : ℕ) (before after : Timetable) : Type 0 where
   pub start : after.start ≡ before.start

@@ -52,7 +52,7 @@ entered_step r s =
     each r s.states (λ i c m state. if c.shape.has_event_mode
     then after m state C.EnterStep else state)
 
--- where the instances are machines in the states of a situation behind these values, those with event mode behind EnterStep, they come to those of its step's beginning
+-- where the instances are machines in the states of a situation after these values, those with event mode after EnterStep, they come to those of its step's beginning
 abbrev pub DepartsForMachines : System → List (Option ℤ) → List Instance → List Instance → Type 0
 DepartsForMachines system values olds news =
     (r : Run) (s : Situation) → r.system ≡ system → s.before ≡ values →

@@ -64,7 +64,7 @@ pub record Stops (system : System) (rules : Rules) (p : ℕ) (bad : BadAnswer)
   pub told_of : bad.component.0 ≡ port.component.0
   pub why : IsWhy component.shape bad.why last.exchange
 
--- a port's turn with its log, and the values behind it
+-- a port's turn with its log, and the values after it
 abbrev pub TurnSays : System → Rules → ℕ → List (Option ℤ) → List (Option ℤ) → List Sent →
     Result (Unit {0}) BadAnswer → Type 0
 TurnSays system rules p values next log (Ok x) =
@@ -98,7 +98,7 @@ AsksIf (Some call) old new result = One call reply_in old new result
 
 -- ---- the walk
 
--- the ports were taken, one after the other, and these are the values and the log behind the last
+-- the ports were taken, one after the other, and these are the values and the log after the last
 pub data Walked (system : System) (rules : Rules) (before : List (Option ℤ)) : List ℕ →
     List (Option ℤ) → List Sent → Type 0 where
   Begun : (taken : List ℕ) (values : List (Option ℤ)) (log : List Sent) → taken ≡ [] →

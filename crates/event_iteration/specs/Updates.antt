@@ -1,4 +1,4 @@
--- The Updates behind an instant (FMI 3.0, 4.2.1: Event Mode, fmi3UpdateDiscreteStates): each FMU with event mode is asked for what follows, and may name a next event time.
+-- The Updates after an instant (FMI 3.0, 4.2.1: Event Mode, fmi3UpdateDiscreteStates): each FMU with event mode is asked for what follows, and may name a next event time.
 use Rattle.std.specs.Prelude.{◌≡◌, ℕ, ◌<◌, ℤ, Bool, false, if◌then◌else◌, List, [], ◌∷◌, All, Option, None, IfSome, Result, Ok, Err, OnOk}
 use Rattle.std.specs.List.{list_any}
 use Rattle.value_types.specs.declared.shape.Shape.{Shape}
@@ -70,7 +70,7 @@ pub record Updates (t : ℕ) (events : List (Option ℕ)) (olds news : List Inst
   pub stage : Stage (updating (shapes olds)) updated_by olds news result
   pub events_are : OnOk result (events ≡ events_told t (shapes olds) stage.log)
 
--- where the instances are machines in the states of an instant at the point with its values written, they come to those behind it, and what is told is what their answers say
+-- where the instances are machines in the states of an instant at the point with its values written, they come to those after it, and what is told is what their answers say
 abbrev pub LeadsForMachines : System → ℕ → List (Option ℕ) → List Instance → List Instance →
     Result Updated BadAnswer → Type 0
 LeadsForMachines system t events olds news (Err bad) = Unit {0}

@@ -114,7 +114,7 @@ MayWalk system rules before order olds =
     Walked system rules before taken values log → Told log (map untold olds) mids →
     MayTurn system rules p values mids
 
--- ---- values behind several turns
+-- ---- values after several turns
 
 -- the value that a port takes
 abbrev pub value_behind : System → Rules → List (Option ℤ) → ℕ → Option Reply → Option ℤ
@@ -122,7 +122,7 @@ value_behind system rules values p reply =
     option_and_then (λ (port : Port). rules.takes p port values (value values p) reply)
     (slice_get system.ports p)
 
--- the values behind the turns of these ports with these replies, one after the other; where the replies end there are none
+-- the values after the turns of these ports with these replies, one after the other; where the replies end there are none
 abbrev pub turned : System → Rules → List ℕ → List (Option Reply) → List (Option ℤ) →
     List (Option ℤ)
 turned system rules [] replies values = values
@@ -194,7 +194,7 @@ pub record IsPlain (system : System) (component : CompId) (p : ℕ) : Type 0 whe
   pub of : port.component ≡ component
   pub role : is_clock_role port.role ≡ false
 
--- behind this log the walk comes to a port of this component that has this call
+-- after this log the walk comes to a port of this component that has this call
 pub record ComesTo (system : System) (rules : Rules) (before : List (Option ℤ)) (order : List ℕ)
     (i : ℕ) (call : Call) (log : List Sent) : Type 0 where
   pub taken : List ℕ
@@ -210,7 +210,7 @@ pub record ComesTo (system : System) (rules : Rules) (before : List (Option ℤ)
   pub at : port.component.0 ≡ i
   pub asks : rules.asks p port component values ≡ Some call
 
--- the ports behind the first that waits that are fed by one that waits
+-- the ports after the first that waits that are fed by one that waits
 abbrev pub skipped : System → List ℕ → ℕ → Waiting → List ℕ
 skipped system order k waiting =
     filter (is_fed system (waits_in waiting)) (drop waiting.since (take k order))

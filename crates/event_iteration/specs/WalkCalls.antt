@@ -51,7 +51,7 @@ pub record IsUse (span : Span) (call : Call) : Type 0 where
   pub from : span.from ≤ use_in call
   pub below : use_in call < span.below
 
--- calls of such uses; behind others of earlier uses none of them stands twice
+-- calls of such uses; after others of earlier uses none of them stands twice
 pub record AreNew (span : Span) (calls : List Call) : Type 0 where
   pub names : 0 < span.from
   pub uses : All (IsUse span) calls
@@ -85,7 +85,7 @@ instant_span is_first true = record { from = 1; below = 3 }
 instant_span true false = record { from = 1; below = 2 }
 instant_span false false = record { from = 2; below = 2 }
 
--- with event mode it is asked for intervals behind an instant
+-- with event mode it is asked for intervals after an instant
 abbrev pub interval_span : Bool → Span
 interval_span true = record { from = 3; below = 4 }
 interval_span false = record { from = 2; below = 2 }

@@ -182,8 +182,9 @@ impl<'a> Turns for Initially<'a> {
 }
 
 /// Finds the values of Initialization Mode, in the stored order (FMI 3.0, 4.2.1): it reads each output without Clocks
-/// that feeds an input without Clocks, and sets each such input to its source's value, up to the first answer that isn't
-/// good. Calls that read outputs of one FMU, or set inputs of it, and follow one another are handed on together, 64 at a time. What the values were before is of no account.
+/// that feeds an input without Clocks, and sets each such input to what its path makes of its source's value, up to the first
+/// answer that isn't good. Calls that read outputs of one FMU, or set inputs of it, and follow one another are handed on
+/// together, 64 at a time. What the values were before doesn't matter.
 pub fn initialize<L: Peer>(
     slots: &mut [Slot<L>],
     system: &System,
@@ -208,7 +209,7 @@ pub fn initialize<L: Peer>(
     walk_all(slots, system, reads.as_slice(), values)
 }
 
-// Takes each value away.
+// Clears each value.
 fn clear(values: &mut [Option<i128>])
     ensures { (p : ℕ) → slice_index_or values.new p None ≡ None }
 {

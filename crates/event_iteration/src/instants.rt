@@ -229,11 +229,12 @@ impl<'a> Turns for InInstant<'a> {
 
 /// Finds the values of an instant at a point, in the stored order (FMI 3.0, 4.2.1: Event Mode, Step Mode; 2.2.8: Clocks), from
 /// those of the instant before. With event mode it makes each input Clock active that ticks or whose source is active, asks
-/// each output Clock, sets each connected input that is present to its source's value and reads each output that is present;
-/// a port that is absent keeps its value. Without event mode it reads each output in the first instant at a point alone, and
-/// inputs take the values of their sources. Calls that read outputs of one FMU, or set inputs of it, and follow one another are
-/// handed on together, 64 at a time. It stops at the first answer that isn't good. The schedule has a place for each
-/// port and tells which time-based Clocks tick; `is_first` says that it is the first instant at the point, a count.
+/// each output Clock, sets each connected input that is present to what its path makes of its source's value and reads each
+/// output that is present; a port that is absent keeps its value. Without event mode it reads each output in the first instant
+/// at a point alone, and inputs take what comes to them from their sources, without a call. Calls that read outputs of one
+/// FMU, or set inputs of it, and follow one another are handed on together, 64 at a time. It stops at the first answer that
+/// isn't good. The schedule has a place for each port and tells which time-based Clocks tick; `is_first` says that it is the
+/// first instant at the point, a count.
 pub fn instant<L: Peer>(
     slots: &mut [Slot<L>],
     system: &System,

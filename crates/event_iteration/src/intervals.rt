@@ -23,10 +23,10 @@ use slot_calls::BadAnswer;
 use system_model::{Role, System, Timing};
 use tick_schedule::{Schedule, plain};
 
-/// Goes on behind an instant at a point, with its values (FMI 3.0, 2.2.9): each Clock that ticked in it goes on to its next
+/// Goes on after an instant at a point, with its values (FMI 3.0, 2.2.9): each Clock that ticked in it goes on to its next
 /// tick, and each countdown Clock, whose arming a tick takes away, is asked for its interval, and so is each changing Clock
 /// that ticked, in port order, up to the first answer that isn't good. A new interval arms a countdown Clock for that many
-/// counts behind the point, one that is unchanged leaves it, and where there is none yet it is armed no longer; any interval
+/// counts after the point, one that is unchanged leaves it, and where there is none yet it is armed no longer; any interval
 /// arms a changing Clock. It is told whether a Clock is armed for the point itself.
 pub fn ask_intervals<L: Peer>(
     slots: &mut [Slot<L>],
@@ -246,7 +246,7 @@ fn arm_anew(schedule: &mut Schedule, p: usize, interval: Interval, per_second: u
     }
 }
 
-// Arms a Clock for an interval behind the point, and tells whether it is now armed for the point itself. It is armed no longer
+// Arms a Clock for an interval after the point, and tells whether it is now armed for the point itself. It is armed no longer
 // where the interval is no whole number of counts.
 fn arm_after(schedule: &mut Schedule, p: usize, interval: Fraction, per_second: u64, t: u64) -> bool
     requires { IsCountdown schedule.old p }

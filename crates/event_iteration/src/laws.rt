@@ -2,7 +2,7 @@ ghost use Rattle.event_iteration.specs.ByLog.{FixedByLog, InitialByLog, InstantB
 
 /// Laws of the log of one part of a run, where each reply is its machine's: the values found are the solution of the
 /// part's equations, the timers that the answers tell are those of the run, the answers to Updates say what those of the
-/// machines say, and the machines come to the states behind the part.
+/// machines say, and the machines come to the states after the part.
 pub fn parts_of_machines()
     ensures initial { InitialByLog }
     ensures fixed { FixedByLog }

@@ -1,4 +1,4 @@
--- A value behind a number on which it may depend.
+-- A value after a number on which it may depend.
 use Rattle.std.proofs.Common.{◌≡◌, ℕ, ◌+◌, ◌<◌, ◌≤◌, List, [], ◌++◌, length, take, drop, refl, sym, ap, subst, ◌∙◌, append_assoc, arith, inl, inr}
 use Rattle.std.proofs.lemmas.Bool.{cases_lt}
 use Rattle.std.proofs.lemmas.List.{take-append-drop, take-take, take_at, drop_at, take-append-le, length-append, length-take, length-drop, append-nil, nil_from_length}
@@ -96,7 +96,7 @@ next_bad first next single bytes n m at g h =
       none = λ b. h.none (next_begins first next single bytes n m (at + 1) g (subst (λ (k : ℕ). Begins (Behind first next) (take k bytes)) (omega arith) b));
     }
 
--- the first is there, and what was taken behind it decides
+-- the first is there, and what was taken after it decides
 pub next_takes : {N V : Type 0} (first : N → List ℕ → Type 0) (next : N → V → List ℕ → Type 0) (single : AreSingle first) (bytes : List ℕ) (n : N) (m : ℕ) (taken : Taken V)
     → Gets first bytes n m → Takes (next n) (drop m bytes) taken → Takes (Behind first next) bytes (moved m taken)
 next_takes first next single bytes n m (Got v k) g h = next_got first next bytes n v m k g h

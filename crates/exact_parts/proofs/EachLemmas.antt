@@ -1,4 +1,4 @@
--- Parts one behind another, and the walk over them.
+-- Parts one after another, and the walk over them.
 use Rattle.std.proofs.Common.{◌≡◌, ℕ, ◌+◌, List, [], ◌∷◌, ◌++◌, length, take, drop, refl, sym, ap, subst, ◌∙◌, append_assoc, arith}
 use Rattle.std.proofs.lemmas.List.{length-append}
 use Rattle.exact_parts.specs.declared.taken.Taken.{Taken}

@@ -1,4 +1,4 @@
--- Only one answer is right, where no frame is a proper front of another and a frame is of one value.
+-- Only one answer is right, where no frame is a proper prefix of another and a frame is of one value.
 use Rattle.std.proofs.Common.{◌≡◌, ℕ, ◌+◌, ◌<◌, ◌≤◌, List, [], ◌++◌, length, take, drop, refl, sym, ap, subst, ◌∙◌, append_assoc, arith, inl, inr}
 use Rattle.std.proofs.lemmas.Bool.{cases_lt}
 use Rattle.std.proofs.lemmas.List.{take-append-drop, take-take, length-append, append-nil, length-take}
@@ -6,7 +6,7 @@ use Rattle.exact_parts.specs.declared.taken.Taken.{Taken}
 use Rattle.exact_parts.specs.declared.taken.Taken.TheVariants.{Got, NeedMore, Bad}
 use Rattle.exact_parts.specs.Taking.{AreSingle, Begins, IsFront, Gets, Breaks, Takes}
 
--- a front of a front
+-- a prefix of a prefix
 rest_of : (m n : ℕ) (bytes more : List ℕ) → m ≤ n → take n bytes ++ more ≡ take m bytes ++ (drop m (take n bytes) ++ more)
 rest_of m n bytes more le =
     let cut : take m bytes ++ drop m (take n bytes) ≡ take n bytes = rw (← take-take m n bytes le) (take-append-drop m (take n bytes)) in
@@ -29,7 +29,7 @@ begins_cut frame m bytes b = record {
 pub begins : {V : Type 0} (frame : V → List ℕ → Type 0) (bytes : List ℕ) → IsFront frame bytes → Begins frame bytes
 begins frame bytes f = record { value = f.value; more = f.more; spelled = f.spelled }
 
--- a frame that ends within a front of another
+-- a frame that ends within a prefix of another
 pub not_within : {V : Type 0} (frame : V → List ℕ → Type 0) (single : AreSingle frame) (m n : ℕ) (bytes : List ℕ) (v : V) → m ≤ n → frame v (take m bytes) → IsFront frame (take n bytes) → ⊥
 not_within frame single m n bytes v le spelled f =
     let s = single v f.value (take m bytes) (drop m (take n bytes) ++ f.more) spelled (subst (frame f.value) (rest_of m n bytes f.more le) f.spelled) in

@@ -1,4 +1,5 @@
-//! Bytes read as parts, one behind another: what stands there, what more bytes can make whole, and the first byte that continues nothing.
+//! Bytes read as parts, one after another: what stands there, what more bytes can make whole, and the first byte that
+//! continues nothing.
 #![tactic(auto)]
 
 mod field;

@@ -12,7 +12,7 @@ pub enum Taken<T> {
     Bad { at: usize },
 }
 
-/// What was taken behind so many bytes, told from the first of these.
+/// What was taken after so many bytes, told from the first of these.
 pub fn behind<T>(length: usize, taken: Taken<T>) -> Taken<T>
     requires { length + end_of taken < 2 ^ 64 }
     ensures { result ≡ moved length taken }

@@ -85,7 +85,7 @@ module _ (t : SystemTree) (shapes : List Shape) where
   one_start : (k l : Connection) (s r q : Point) → IsFitting t shapes → JoinsBy t shapes k s q → JoinsBy t shapes l r q → s ≡ r
   one_start k l s r q fitting j h = one_end t shapes s r q fitting (k, j) (l, h)
 
-  -- from behind, two paths from outputs to one point go over the same connections
+  -- from the end, two paths from outputs to one point go over the same connections
   module _ (fitting : IsFitting t shapes) (p r : Point) (a b : Variable) (is : IsVariable shapes Output p a) (are : IsVariable shapes Output r b) where
     one_back : (ks ls : List Connection) (q : Point) → EndsWith t shapes p ks q → EndsWith t shapes r ls q → ks ≡ ls
     one_back [] ls q h g = absurd h

@@ -52,7 +52,7 @@ inside_within t n connections ks inside len ends =
 pub ends_within : (t : SystemTree) (n : ℕ) (connections : List joints.Connection) → IsWholeTree t → n ≡ length t.connectors → connections ≡ map ends_of t.connections → All (numbers.IsWithin n) connections
 ends_within t n connections whole len ends = inside_within t n connections t.connections whole.ends len ends
 
--- those without a transformation, and those turned round
+-- those without a transformation, and those reversed
 pub plain_within : (t : SystemTree) (n : ℕ) (connections : List joints.Connection) → IsWholeTree t → n ≡ length t.connectors → connections ≡ map ends_of (plain t).connections → All (numbers.IsWithin n) connections
 plain_within t n connections whole len ends =
     inside_within t n connections (plain t).connections (All-filter (λ (k : Connection). not (is_some k.change)) (AreInside t) t.connections whole.ends) len ends

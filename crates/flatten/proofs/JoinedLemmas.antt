@@ -61,7 +61,7 @@ plain_more ks i k within read b is = whole ∙ by b is
     by true e = ap (λ (z : Bool). plain_ends (take i ks) ++ map ends_of (cond (not z) (k ∷ []) [])) e
     by false e = ap (λ (z : Bool). plain_ends (take i ks) ++ map ends_of (cond (not z) (k ∷ []) [])) e
 
--- ---- and that of all, turned round
+-- ---- and that of all, reversed
 
 abbrev pub ends_back : Connection → joints.Connection
 ends_back k = record { start = k.end; end = k.start }

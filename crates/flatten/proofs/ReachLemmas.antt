@@ -1,4 +1,4 @@
--- Paths along links: one behind another, the last link of a path, and a path under other names of its points.
+-- Paths along links: one after another, the last link of a path, and a path under other names of its points.
 use Rattle.std.proofs.Common.{◌≡◌, ◌⊎◌, ℕ, List, [], ◌∷◌, Option, Some, refl, sym, ◌∙◌, subst, inl, inr}
 use Rattle.std.specs.List.{All}
 use Rattle.std.proofs.lemmas.List.Elements.{All-nil, All-cons, All-head, All-tail}

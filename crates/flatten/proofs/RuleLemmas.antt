@@ -191,7 +191,7 @@ module _ (t : SystemTree) (shapes : List Shape) (points : List paths.Point) (sou
           led_on p s x is system (inl same) = absurd (no_system t shapes Output p x is (subst (IsOfSystem t) (sym same) system))
           led_on p s x is system (inr h) = h.1
 
-  -- what breaks it is an output to a foreign input, or something of another class
+  -- what breaks it is an output to an ignored input, or something of another class
   abbrev pub IsMarkedOther : ℕ → Variable → Type 0
   IsMarkedOther c input =
       ((input.kind ≡ None) × IsLedTo t shapes (IsOutputAt t shapes) c) ⊎ ((class : Option Class) × (class ≢ class_at input) × IsLedTo t shapes (IsOfClass t shapes class) c)

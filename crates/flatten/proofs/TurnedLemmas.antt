@@ -1,4 +1,4 @@
--- Paths of connections turned round lead back.
+-- Paths of reversed connections lead back.
 use Rattle.std.proofs.Common.{List, [], ◌∷◌, sym, ap, ◌∙◌, inl, inr}
 use Rattle.std.specs.List.{All}
 use Rattle.std.proofs.lemmas.List.Elements.{All-head, All-tail}
@@ -53,7 +53,7 @@ module _ (t : SystemTree) (shapes : List Shape) where
   pub leads_unturned : (p q : Point) → Leads (turned t) shapes p q → Leads t shapes q p
   leads_unturned p q = reaches_back (Joins (turned t) shapes) (Joins t shapes) (IsOfSystem (turned t)) (IsOfSystem t) joins_unturned system_unturned p q
 
-  -- what leads on to an input along the connections is led up to from there along those turned round
+  -- what leads on to an input along the connections is led up to from there along the reversed ones
   pub on_from_up : (q e : Point) → LeadsUpTo (turned t) shapes q e → LeadsOnTo t shapes e q
   on_from_up q e (inl same) = inl (sym same)
   on_from_up q e (inr h) = inr (system_unturned e h.0, leads_unturned q e h.1)

@@ -73,7 +73,7 @@ module _ (t : SystemTree) (shapes : List Shape) where
   before_all p s q k (i ∷ []) joins through h = (s, h, through, joins)
   before_all p s q k (i ∷ (j ∷ js)) joins through h = (h.0, h.1, h.2, before_all p s h.0 k (j ∷ js) joins through h.3)
 
-  -- one more behind all others
+  -- one more after all others
   behind_all : (p s q : Point) (ks : List Connection) (k : Connection) → LeadsBy t shapes p ks s → IsOfSystem t s → JoinsBy t shapes k s q → LeadsBy t shapes p (ks ++ k ∷ []) q
   behind_all p s q [] k h through joins = absurd h
   behind_all p s q (l ∷ []) k h through joins = (s, h, through, joins)
@@ -120,7 +120,7 @@ module _ (t : SystemTree) (shapes : List Shape) where
             ∙ sym (filter_map-append (λ (z : Connection). z.change) more.path (k ∷ []));
       }
 
-  -- what is behind a connection of a way leads there, too
+  -- what follows a connection of a way leads there, too
   pub record IsPart (p : Point) (is : List ℕ) (j x : ℕ) : Type 0 where
     pub start : Point
     pub end : Point
@@ -186,7 +186,7 @@ module _ (t : SystemTree) (shapes : List Shape) (fitting : IsFitting t shapes) w
         let more : k ∷ ks ≡ l ∷ ls = one_back (k ∷ ks) (l ∷ ls) g.0 (subst (LeadsBack t shapes p (k ∷ ks)) same h.3) g.3 in
         ap (λ z. z ∷ (k ∷ ks)) (one_place i j h.0 g.0 q h.1 g.1) ∙ ap (λ zs. j ∷ zs) more
 
-    -- no connection stands on it twice: what is behind each of the two would be as long
+    -- no connection stands on it twice: what follows each of the two would be as long
     once : (is : List ℕ) (q : Point) → LeadsBack t shapes p is q → IsOnce is
     once is q h j k y at_j at_k =
         let a = part t shapes p q is h j y at_j in
@@ -254,7 +254,7 @@ module _ (t : SystemTree) (shapes : List Shape) (points : List paths.Point) (sou
         by (j ∷ []) g = none j p g
         by (j ∷ (l ∷ ls)) g = none j g.0 g.1
 
-    -- as many connections are behind it as there are
+    -- as many connections follow it as there are
     pub way_long : length t.connections ≤ length back → HasNoWay t shapes connector
     way_long long to p x is ends output h =
         let same : to ≡ way.to = same_Some to way.to (sym ends ∙ way.ends) in
@@ -476,7 +476,7 @@ module _ (f : FlatTree) (indexed : IsIndexed f) (fitting : IsFitting f.tree.now 
       same_number t shapes f.points.items f.connections.items indexed.shapes indexed.points indexed.connections source from.source way.from way.begins (from.begins ∙ ap Some same) in
       none feed.from (from.port.0, numbered ∙ from.port.1, from.port.2)
 
--- ---- the changes of a way, from behind
+-- ---- the changes of a way, from its end
 
 -- one connection more
 pub changes_more : (t : SystemTree) (back : List ℕ) (i k : ℕ) → i < length back → k ≡ get_or back (length back - 1 - i) 0

@@ -107,7 +107,7 @@ TellsTooWide c to marks =
 
 -- ---- ends
 
--- a number for what a connector stands for, behind those of all variables where it is a System's
+-- a number for what a connector stands for, after those of all variables where it is a System's
 abbrev pub number_of : ℕ → paths.Point → ℕ
 number_of count (Numbered number) = number
 number_of count (OfSystem c) = count + c

@@ -92,7 +92,7 @@ IsInputBeside class t shapes c =
     IsSomeAnd (variable_of t shapes c) (λ (x : Variable).
     (x.causality ≡ Input) × (class_at x ≢ Some class))
 
--- just the connectors are marked that lead on to such an input: along the connections turned round it leads up to them
+-- just the connectors are marked that lead on to such an input: along the reversed connections it leads up to them
 abbrev pub AreLeadingOn : Class → SystemTree → List Shape → List Bool → Type 0
 AreLeadingOn class t shapes marks =
     AreLedTo (turned t) shapes (IsInputBeside class t shapes) marks

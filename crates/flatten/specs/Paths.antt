@@ -86,7 +86,7 @@ plain t = record t {
   connections = filter (λ (k : Connection). not (is_some k.change)) t.connections;
 }
 
--- the tree with its connections turned round
+-- the tree with its connections reversed
 abbrev pub turned : SystemTree → SystemTree
 turned t = record t {
   connections = map (λ (k : Connection). record k { start = k.end; end = k.start }) t.connections;

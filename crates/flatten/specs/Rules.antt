@@ -35,7 +35,7 @@ use Rattle.parameter_values.specs.declared.change.Change.{Change}
 use Rattle.system_model.specs.Carried.{IsOn as IsFor}
 use Rattle.flatten.specs.Paths.{EndsBy, IsBefore, IsOn, plain}
 
--- ---- classes: of a foreign variable, and of a type that none but a foreign variable has, there is none
+-- ---- classes: of an ignored variable, and of a type that none but an ignored variable has, there is none
 
 abbrev pub class_at : Variable → Option Class
 class_at x = option_map class_of x.kind
@@ -78,7 +78,7 @@ IsForOther kind.CalculatedParameter x = ⊥
 abbrev pub HasOtherCausality : Connector → Variable → Type 0
 HasOtherCausality k x = IsForOther k.kind x.causality
 
--- its type isn't that of its variable, which isn't foreign
+-- its type isn't that of its variable, which isn't ignored
 abbrev pub HasOtherType : Connector → Variable → Type 0
 HasOtherType k x = (x.kind ≢ None) × GivesOther k.child (class_at x)
 
@@ -104,7 +104,7 @@ PassesOther t shapes p s wanted =
     (c : ℕ) × ((k : Connector) × IsOn t shapes p s c × (slice_get t.connectors c ≡ Some k) ×
     GivesOther k.child wanted)
 
--- the input is foreign, or the output or a connector between them is of another class
+-- the input is ignored, or the output or a connector between them is of another class
 abbrev pub IsOtherClass : SystemTree → List Shape → PathFault
 IsOtherClass t shapes p s q output input =
     (input.kind ≡ None) ⊎ ((class_at output ≢ class_at input) ⊎
@@ -180,7 +180,7 @@ abbrev pub Breaks : SystemTree → List Shape → FlatteningRule → ℕ → Typ
 Breaks t shapes f.NoSuchVariable node = NamesNoVariable t shapes node
 -- 41: a connector is an input or output, and its variable has another causality
 Breaks t shapes f.OtherCausality node = IsOfConnector HasOtherCausality t shapes node
--- 42: a connector isn't of its variable's class; or the last connection of a path whose ends and connectors aren't of one class, or that has a foreign end
+-- 42: a connector isn't of its variable's class; or the last connection of a path whose ends and connectors aren't of one class, or that has an ignored end
 Breaks t shapes f.OtherClass node =
     IsOfConnector HasOtherType t shapes node ⊎ EndsPath (IsOtherClass t shapes) t shapes node
 -- 43: the second of two connections with one end

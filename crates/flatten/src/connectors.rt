@@ -67,7 +67,7 @@ fn place_named<'a>(names: &VariableNames<'a>, connector: &'a Connector) -> Optio
     }
 }
 
-// What a connector stands for; without a variable that of a component has a number behind those of all variables.
+// What a connector stands for; without a variable that of a component has a number after those of all variables.
 fn point(number: usize, owner: Owner, place: Option<usize>, variables: &Variables) -> Point
     requires placed { IsPlaceIn variables.now owner place }
     requires small { number < 2 ^ 63 }
@@ -161,7 +161,7 @@ impl<'a> FlatTree<'a> {
         })
     }
 
-    /// The connections turned round: from where each ends to where it begins.
+    /// The connections reversed: from where each ends to where it begins.
     pub(crate) fn turned(&self, alloc: Global) -> Result<Vec<Connection>, AllocError>
         requires indexed { IsIndexed self.now }
         ensures { IfOk result (λ all. all.items ≡ map ends_of (turned self.now.tree.now).connections) }

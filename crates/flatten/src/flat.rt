@@ -107,9 +107,9 @@ fn answer(alloc: Global, flat: &FlatTree) -> Result<System, Refusal>
     }
 }
 
-/// The system of a tree of systems without its levels, where each component has a shape; or the first element that breaks
-/// a rule, and the rule of the least number that it breaks; or a loop of ports that need each other, told at the outermost
-/// System (SSP 1.0, 5.3). Time is n log n in the connectors, connections and what the shapes list.
+/// The flat system of a tree of systems in which each component has a shape; or the first element that breaks a rule, and the
+/// rule of the least number that it breaks; or a loop of ports that need each other, told at the outermost System (SSP 1.0,
+/// 5.3). Time is n log n in the connectors, connections and what the shapes list.
 pub fn flatten(alloc: Global, tree: &SystemTree, shapes: &[Shape]) -> Result<System, Refusal>
     requires whole { IsWholeTree tree.now }
     requires shapes { AreShapesOf tree.now shapes.now }

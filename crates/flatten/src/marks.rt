@@ -17,7 +17,7 @@ use ssd_tree::TypeChild;
 use std::alloc::{AllocError, Global};
 use value_types::{Causality, Class, PortType, class_of};
 
-/// The classes of variables and of the types of connectors; the last is that of foreign ones.
+/// The classes of variables and of the types of connectors; the last is that of ignored ones.
 const CLASSES: [Option<Class>; 5] = [
     Some(Class::Integer),
     Some(Class::Boolean),
@@ -38,7 +38,7 @@ const INTEGER_TYPES: [PortType; 8] = [
     PortType::UInt64,
 ];
 
-/// The class of a variable of this type; a foreign one has none.
+/// The class of a variable of this type; an ignored one has none.
 pub(crate) fn class_at(kind: Option<PortType>) -> Option<Class>
     ensures { result ≡ option_map class_of kind }
 {
@@ -48,7 +48,7 @@ pub(crate) fn class_at(kind: Option<PortType>) -> Option<Class>
     }
 }
 
-/// The class of the variables that a connector of this type is for; there is none where only foreign ones are of the type.
+/// The class of the variables that a connector of this type is for; there is none where only ignored ones are of the type.
 pub(crate) fn child_class(child: TypeChild) -> Option<Class>
     ensures { result ≡ child_class child }
 {

@@ -27,7 +27,7 @@ struct PortTable {
     feeds: Vec<Option<Feed>>,
 }
 
-// The type of an input or output that isn't foreign.
+// The type of an input or output that isn't ignored.
 fn port_type(variable: &Variable) -> Option<PortType>
     ensures { result ≡ (if is_port variable.now then variable.now.kind else None) }
 {

@@ -275,7 +275,7 @@ impl<'a> FlatTree<'a> {
         }
     }
 
-    // Whether a path to this input that passes where the connection begins has another class, or a foreign end.
+    // Whether a path to this input that passes where the connection begins has another class, or an ignored end.
     fn is_other_class(&self, marks: &Marks, start: usize, input: &Variable) -> bool
         requires indexed { IsIndexed self.now }
         requires marks { HasMarks self.now.tree.now self.now.shapes.now marks.now }

@@ -1,4 +1,4 @@
--- What holds of each kind of call (FMI 3.0, 4.2: the functions of Co-Simulation; 2.2.6: FMU state): its number in frames, its name as it is printed, what it is for, whether it moves the instance on, so that the same call may be answered otherwise behind it, and whether it may stand twice with no call between.
+-- What holds of each kind of call (FMI 3.0, 4.2: the functions of Co-Simulation; 2.2.6: FMU state): its number in frames, its name as it is printed, what it is for, whether it moves the instance on, so that the same call may be answered otherwise after it, and whether it may stand twice with no call between.
 use Rattle.std.specs.Prelude.{ℕ, ◌==◌, Bool, true, false, IsTrue, List, codes}
 use Rattle.fmi_calls.specs.declared.call.Call.{Call}
 use Rattle.fmi_calls.specs.declared.call.Call.TheVariants as C

@@ -1,4 +1,4 @@
--- The phase after a call with its reply, or with a fault in the reply's place (FMI 3.0, 4.2.1; 2.2.3 for Discard, Error and Fatal; 2.2.6: FMU state; 2.2.9: Clocks).
+-- The phase after a call with its reply, or with a fault in place of the reply (FMI 3.0, 4.2.1; 2.2.3 for Discard, Error and Fatal; 2.2.6: FMU state; 2.2.9: Clocks).
 use Rattle.std.specs.Prelude.{◌≡◌, ℕ, ◌+◌, ◌-◌, ◌^◌, ◌==◌, Bool, true, false, not, if◌then◌else◌, min, List, length, replicate, set, Option, Some, None, unwrap_or}
 use Rattle.std.specs.Option.{option_map_or}
 use Rattle.value_types.specs.Shape.{place_of}
@@ -150,7 +150,7 @@ counted phase call = record phase {
   restores = restores_after phase.restores call;
 }
 
--- the phase after a reply of this worth: a misreply is dealt with as Error is
+-- the phase after a reply of this worth: an invalid reply is handled as Error is
 abbrev pub graded : Shape → Phase → Call → Reply → Grade → Phase
 graded shape phase call reply Good = entered shape phase call reply
 graded shape phase call reply Refused =
@@ -158,7 +158,7 @@ graded shape phase call reply Refused =
 graded shape phase call reply Misreply =
     record phase { state = state_after_bad phase.state call Error }
 
--- the phase after a call; none stands for a fault in the reply's place
+-- the phase after a call; none stands for a fault in place of the reply
 abbrev pub next_of : Shape → Phase → Call → Option Reply → Phase
 next_of shape phase call None = record (counted phase call) { state = Lost }
 next_of shape phase call (Some reply) =

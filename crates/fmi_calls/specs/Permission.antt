@@ -50,7 +50,7 @@ none_marked marks = not (list_any (λ flag. flag) marks)
 
 -- ---- Clocks
 
--- an input Clock, and an output Clock, that isn't foreign
+-- an input Clock, and an output Clock, that isn't ignored
 abbrev pub is_input_clock : Variable → Bool
 is_input_clock v = is_input_port v && is_clock v
 
@@ -151,7 +151,7 @@ can_be_freed Fresh has_saved = false
 can_be_freed Lost has_saved = false
 can_be_freed Gone has_saved = false
 
--- behind Initialization Mode, until it is terminated
+-- after Initialization Mode, until it is terminated
 abbrev pub is_running : InstanceState → Bool
 is_running Event = true
 is_running Step = true

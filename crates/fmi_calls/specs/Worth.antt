@@ -83,7 +83,7 @@ is_valid shape C.Terminate A.Terminate = true
 is_valid shape C.FreeInstance A.FreeInstance = true
 is_valid shape call content = false
 
--- a reply of another kind is a misreply; else Discard, Error and Fatal are refusals; else a reply that isn't valid is a misreply
+-- a reply of another kind is an invalid reply; else Discard, Error and Fatal are refusals; else a reply that isn't valid is an invalid reply
 abbrev pub grade_of : Shape → Call → Reply → Grade
 grade_of shape call (R.Done is_warning content) =
     if is_valid shape call content then Good else Misreply

@@ -266,7 +266,7 @@ impl Reply {
 }
 
 impl Status {
-    /// A bad status among all.
+    /// A bad status as a `Status`.
     pub fn from_bad(status: BadStatus) -> Status
         ensures { result ≡ status_of_bad status }
     {

@@ -23,7 +23,7 @@ pub struct KindFacts {
     /// its name in FMI 3.0, without the prefix fmi3, the word Mode, and what tells one of several functions
     pub name: &'static str,
     pub part: Part,
-    /// Behind it the same call may be answered otherwise.
+    /// After it the same call may be answered otherwise.
     pub moves_on: bool,
     /// It may stand twice with no call between.
     pub may_repeat: bool,

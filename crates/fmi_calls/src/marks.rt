@@ -58,7 +58,7 @@ impl Marks {
         }
     }
 
-    /// Takes every mark away.
+    /// Clears every mark.
     pub(crate) fn clear(&mut self)
         ensures { self.new ≡ replicate (length self.old) false }
     {

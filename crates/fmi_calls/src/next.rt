@@ -5,7 +5,7 @@ ghost use Rattle.fmi_calls.specs.Next.{HasMarks, next_of, entered, end_of, is_ti
 use crate::{BadStatus, Call, Content, Grade, InstanceState, Marks, Phase, Reply, grade};
 use value_types::Shape;
 
-/// Goes on to the phase after a call, with its reply or with none at a fault. It takes no memory.
+/// Goes on to the phase after a call, with its reply or with none at a fault. It allocates no memory.
 pub fn next_phase(shape: &Shape, phase: &mut Phase, call: &Call, reply: Option<&Reply>)
     requires permitted { Permitted shape.now phase.old call.now }
     requires room { HasMarks shape.now phase.old }

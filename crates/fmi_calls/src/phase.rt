@@ -38,7 +38,7 @@ pub struct Phase {
     pub stop: u64,
     /// the size of the first step
     pub first_size: Option<u64>,
-    /// in Event Mode, whether an Update stands behind its beginning and the last one asked for no other
+    /// in Event Mode, whether an Update comes after its beginning and the last one asked for no other
     pub settled: bool,
     /// which variables were set, and which output Clocks were asked, in Event Mode in this instant, in Step Mode since the
     /// last step
@@ -54,7 +54,7 @@ pub struct Phase {
 }
 
 impl InstanceState {
-    /// Whether the instance is behind Initialization Mode and not terminated.
+    /// Whether the instance is past Initialization Mode and not terminated.
     pub(crate) fn is_running(self) -> bool
         ensures { result ≡ is_running self }
     {

@@ -15,7 +15,7 @@ use Rattle.fmu_description.specs.Description.{IsVariable, variables_in}
 abbrev reference_in : Variable → ℕ
 reference_in x = x.reference
 
--- the variable of an element at or behind a place
+-- the variable of an element at or after a place
 record IsBehind (t : List Node) (i : ℕ) (x : Variable) : Type 0 where
   place : ℕ
   behind : i ≤ place

@@ -181,7 +181,7 @@ marks_next t nodes i a b c u v w within p q = subst (λ z. Marks t z a c u w) (s
 
 -- ---- the whole
 
--- what is kept from turn to turn: what is marked is foreign; what follows a marked Clock is marked or is told of; what isn't marked still stands in the table
+-- what is kept from turn to turn: what is marked is ignored; what follows a marked Clock is marked or is told of; what isn't marked still stands in the table
 pub record IsSpreading (t : List Node) (marks : List Bool) (left : List ℕ) (listed : ℕ → List ℕ) : Type 0 where
   pub whole : length marks ≡ length t
   pub sound : (k : ℕ) → IsTrue (is_marked marks k) → IsForeign t k
@@ -197,7 +197,7 @@ not_marked zero (suc k) m = cc
 not_marked (suc n) zero m = cc
 not_marked (suc n) (suc k) m = not_marked n k m
 
--- what is foreign of itself is marked first
+-- what is ignored by itself is marked first
 pub spread_first : (t : List Node) (marks : List Bool) (left all : List ℕ) (listed : ℕ → List ℕ) → ((k : ℕ) → Contains all k ↔ IsSource t k) → ListsFollowers t listed
     → Marks t all (replicate (length t) false) marks [] left → IsSpreading t marks left listed
 spread_first t marks left all listed are lists m = record {
@@ -229,7 +229,7 @@ spread_first t marks left all listed are lists m = record {
 abbrev pub TakesOut : ℕ → (ℕ → List ℕ) → (ℕ → List ℕ) → Type 0
 TakesOut r old new = (q : ℕ) → ((q ≡ r) × (new q ≡ [])) ⊎ ((q ≡ r → ⊥) × (new q ≡ old q))
 
--- the elements that name the reference of a foreign Clock are marked
+-- the elements that name the reference of an ignored Clock are marked
 pub spread_more : (t : List Node) (old new : List Bool) (left rest more : List ℕ) (r : ℕ) (had has : ℕ → List ℕ) → IsSpreading t old left had → left ≡ rest ++ r ∷ []
     → TakesOut r had has → Marks t (had r) old new rest more → IsSpreading t new more has
 spread_more t old new left rest more r had has s split takes m = record {

@@ -1,4 +1,4 @@
--- Names in order, and the elements that stand behind one of their name.
+-- Names in order, and the elements that come after one of their name.
 use Rattle.std.proofs.Common.{◌≡◌, ◌↔◌, ◌⊎◌, ℕ, zero, suc, ◌+◌, ◌-◌, ◌<◌, ◌≤◌, Bool, true, false, List, length, Option, Some, get_or, set, refl, sym, ap, ◌∙◌, subst, inl, inr, arith, All, IsTrue}
 use Rattle.std.specs.List.{slice_get}
 use Rattle.std.specs.List.Sorted.{IsSorted, IsPermutation}
@@ -89,7 +89,7 @@ module _ (key : ℕ → Option (List ℕ)) (named : List Named) (is : AreNamed k
       let other : key k ≡ Some b.other.0.now = ap key (sym b.is) ∙ told_at (stands.0 + 1) b.other b.here in
       (b.other.0.now, other, (b.one.1, subst (λ (m : ℕ). b.one.1 < m) b.is b.behind.1, one))
 
-  -- one place back from an element of the name: it stands behind the one there, or that is the same element
+  -- one place back from an element of the name: it comes after the one there, or that is the same element
   module _ (k p : ℕ) (e : Named) (at_p : slice_get named p ≡ Some e) (low : e.1 < k) where
     step : (r : ℕ) (f : Named) → slice_get named (suc r) ≡ Some f → e.0.now ≡ f.0.now → f.1 ≡ k → p < suc r
         → ((g : Named) → slice_get named r ≡ Some g → e.0.now ≡ g.0.now → g.1 ≡ k → p < r → StandsBehind named k) → StandsBehind named k
@@ -146,13 +146,13 @@ module _ (key : ℕ → Option (List ℕ)) (named : List Named) (is : AreNamed k
         | inr behind ↦ absurd (let le = no_lower other.0 one.0 (sym same) (not_before other.1.0 one.1.0 other.0 one.0 at_other at_one behind) in omega arith)
       ]
 
-  -- the elements behind one of their name are those that repeat a name
+  -- the elements after one of their name are those that repeat a name
   pub stands_repeated : (k : ℕ) → StandsBehind named k ↔ IsRepeated key k
   stands_repeated k = (repeated_from k, stands_from k)
 
 -- ---- marks, one place after another
 
--- what is marked stands behind, and what stands behind at the places below n is marked
+-- what is marked repeats a name, and what repeats one at the places below n is marked
 pub record HasMarked (named : List Named) (n : ℕ) (marks : List Bool) : Type 0 where
   pub sound : (k : ℕ) → get_or marks k false ≡ true → StandsBehind named k
   pub whole : (i k : ℕ) → i + 1 < n → IsBehindAt named i k → get_or marks k false ≡ true
@@ -160,7 +160,7 @@ pub record HasMarked (named : List Named) (n : ℕ) (marks : List Bool) : Type 0
 module _ (named : List Named) (place : ℕ) (marks : List Bool) (one other : Named) (above : 1 ≤ place) (at_one : slice_get named (place - 1) ≡ Some one) (at_other : slice_get named place ≡ Some other)
     (has : HasMarked named place marks)
   where
-    -- it stands behind the one before it
+    -- it comes after the one before it
     pub marked_more : IsBehind one other → other.1 < length marks → HasMarked named (place + 1) (set marks other.1 true)
     marked_more behind within = record { sound = sound; whole = whole }
       where

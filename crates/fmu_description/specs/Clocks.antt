@@ -1,4 +1,4 @@
--- Foreign variables, and the Clocks of a description (FMI 3.0, 2.2.8: clocks; 2.4.7.5: attributes of clocks).
+-- Ignored variables, and the Clocks of a description (FMI 3.0, 2.2.8: clocks; 2.4.7.5: attributes of clocks).
 use Rattle.std.specs.Prelude.{◌≡◌, ◌⊎◌, ℕ, Bool, true, false, ◌&&◌, List, Option, Some, None, is_some, option_and_then, Contains, codes}
 use Rattle.value_types.specs.declared.shape.Causality.TheVariants as c
 use Rattle.value_types.specs.declared.shape.IntervalVariability.{IntervalVariability}
@@ -9,9 +9,9 @@ use Rattle.fmu_description.specs.Texts.{counter, variability, is_foreign_type}
 use Rattle.doc_tables.specs.Elements.{attribute, parent, name_of}
 use Rattle.fmu_description.specs.Elements.{is_variable, is_clock, is_dimension, references_of, causality_of, has_flag, clock_key}
 
--- ---- foreign variables, which are never set, read, bound or traced (a narrowing of this profile)
+-- ---- ignored variables, which are never set, read, bound or traced (a narrowing of this profile)
 
--- a variable is foreign of itself: by its type, as a Clock that is local, by a Dimension, or by a causality that the profile hasn't
+-- a variable is ignored by itself: by its type, as a Clock that is local, by a Dimension, or by a causality that the profile doesn't support
 abbrev pub IsForeignItself : List Node → ℕ → Type 0
 IsForeignItself t k =
     (is_foreign_type (name_of t k) ≡ true)
@@ -23,7 +23,7 @@ IsForeignItself t k =
 abbrev pub clocks_of : List Node → ℕ → List ℕ
 clocks_of t k = references_of t k (codes "clocks")
 
--- a variable is foreign of itself, or by a foreign Clock at whose ticks it has a value
+-- a variable is ignored by itself, or by an ignored Clock at whose ticks it has a value
 pub data IsForeign (t : List Node) : ℕ → Type 0 where
   OfItself : (k : ℕ) → is_variable t k ≡ true → IsForeignItself t k → IsForeign t k
   ByClock : (k clock reference : ℕ) → is_variable t k ≡ true → Contains (clocks_of t k) reference →

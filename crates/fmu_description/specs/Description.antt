@@ -45,7 +45,7 @@ ReadsStart kind text =
     (k : PortType) (bytes : List ℕ) → kind ≡ Some k → text ≡ Some bytes →
     ((value : ℤ) → Reads k bytes value → ⊥) → ⊥
 
--- a foreign variable has neither type nor start value
+-- an ignored variable has neither type nor start value
 abbrev pub IsKind : List Node → ℕ → Option PortType → Option ℤ → Type 0
 IsKind t k kind start =
     (IsForeign t k × (kind ≡ None) × (start ≡ None))

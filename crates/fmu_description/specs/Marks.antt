@@ -1,4 +1,4 @@
--- How the foreign variables are found: what is marked, and what is left to do.
+-- How the ignored variables are found: what is marked, and what is left to do.
 use Rattle.std.specs.Prelude.{ℕ, ◌+◌, ◌*◌, ◌<◌, ◌≤◌, Bool, IsTrue, true, false, not, ◌≡◌, ◌⊎◌, ◌↔◌, List, [], length, slice_index_or, count_by, Contains, Some}
 use Rattle.std.specs.Option.{option_map_or}
 use Rattle.std.specs.Ordering.{nat_cmp}
@@ -9,7 +9,7 @@ use Rattle.doc_grammar.specs.Nodes.{Node}
 use Rattle.fmu_description.specs.Elements.{is_variable, clock_key}
 use Rattle.fmu_description.specs.Clocks.{IsForeignItself, clocks_of}
 
--- a variable that is foreign of itself
+-- a variable that is ignored by itself
 abbrev pub IsSource : List Node → ℕ → Type 0
 IsSource t k = (is_variable t k ≡ true) × IsForeignItself t k
 

@@ -35,7 +35,7 @@ pub record AreNamed (key : ℕ → Option (List ℕ)) (named : List Named) : Typ
 abbrev pub IsBehind : Named → Named → Type 0
 IsBehind one other = (one.0.now ≡ other.0.now) × (one.1 < other.1)
 
--- the element at the next place is behind that at this one
+-- the element at the next place is after that at this one
 pub record IsBehindAt (named : List Named) (i k : ℕ) : Type 0 where
   pub one : Named
   pub other : Named

@@ -1,4 +1,4 @@
--- What the tables of a description have: elements by their value references, the CoSimulation, foreign variables.
+-- What the tables of a description have: elements by their value references, the CoSimulation, ignored variables.
 use Rattle.std.specs.Prelude.{◌≡◌, ◌↔◌, ◌==◌, ◌<◌, ℕ, Bool, IsTrue, List, All, Contains, Option, Some, find}
 use Rattle.std.specs.Option.{option_map}
 use Rattle.doc_grammar.specs.Nodes.{Node}
@@ -31,6 +31,6 @@ is_foreign foreign k = is_marked foreign.marks.items k
 abbrev pub FindsCoSimulation : List Node → Option ℕ → Type 0
 FindsCoSimulation t found = FindsFirst (is_co_simulation t) found
 
--- the elements that are marked are the foreign variables
+-- the elements that are marked are the ignored variables
 abbrev pub MarksForeign : List Node → (ℕ → Bool) → Type 0
 MarksForeign t marked = (k : ℕ) → IsTrue (marked k) ↔ IsForeign t k

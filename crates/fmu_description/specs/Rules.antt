@@ -61,7 +61,7 @@ MisreadsValue t k =
     (text : List ℕ) × (kind : PortType) × (attribute t k (codes "start") ≡ Some text)
     × (port_type (name_of t k) ≡ Some kind) × ((value : ℤ) → Reads kind text value → ⊥)
 
--- nor is the variable foreign
+-- nor is the variable ignored
 abbrev pub MisreadsStart : List Node → ℕ → Type 0
 MisreadsStart t k = (IsForeign t k → ⊥) × MisreadsValue t k
 
@@ -233,7 +233,7 @@ abbrev pub ViolatesDescription : List Node → ℕ → DescriptionRule → ℕ �
 ViolatesDescription t per_second r.RootName k = HasOtherName t k
 -- 11: another version than 3.0 (2.4.1)
 ViolatesDescription t per_second r.Version k = HasOtherVersion t k
--- 12: no CoSimulation (4.4; Model Exchange and Scheduled Execution are left out)
+-- 12: no CoSimulation (4.4; Model Exchange and Scheduled Execution are unsupported)
 ViolatesDescription t per_second r.NoCoSimulation k = LacksCoSimulation t k
 -- 13: a required attribute is absent (2.4)
 ViolatesDescription t per_second r.Absent k = LacksSomething t k
@@ -255,7 +255,7 @@ ViolatesDescription t per_second r.NoClock k = NamesNoClockAt t k
 ViolatesDescription t per_second r.NoVariable k = NamesNoVariableAt t k
 -- 22: a state is serialized only where it can be saved (2.2.6)
 ViolatesDescription t per_second r.SerializesUnsaved k = SerializesUnsaved t k
--- 23: tunable clocks are left out of this profile
+-- 23: tunable clocks are unsupported
 ViolatesDescription t per_second r.LeftOut k = IsTimed t k × HasVariability t k v.Tunable
 -- 24: a Clock asks for event mode (2.2.8)
 ViolatesDescription t per_second r.ClockWithoutEvents k = HasNoEvents t k

@@ -61,7 +61,7 @@ has_outer_space text = begins_with_space text || begins_with_space (reverse text
 abbrev pub parts_of : List ℕ → List (List ℕ)
 parts_of text = filter is_filled (slice_split is_space text)
 
--- references with one or more spaces between them, and none before the first or behind the last
+-- references with one or more spaces between them, and none before the first or after the last
 abbrev pub references : List ℕ → Option (List ℕ)
 references text = if has_outer_space text then None else all_of (map reference (parts_of text))
 

@@ -114,7 +114,7 @@ pub(crate) fn breaks_counts(tree: &Tree, node: usize, resolution: u64) -> bool
     is_timed(tree, node) && uses_uneven(tree, node, resolution)
 }
 
-/// A clock that the profile leaves out.
+/// A clock that the profile doesn't support.
 pub(crate) fn breaks_profile(tree: &Tree, node: usize) -> bool
     ensures { IsTrue result ↔ (IsTimed tree.now node × HasVariability tree.now node Tunable) }
 {

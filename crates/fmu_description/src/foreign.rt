@@ -1,4 +1,4 @@
-//! Which variables are foreign.
+//! Which variables are ignored.
 ghost use Rattle.std.specs.Prelude.{◌≡◌, ◌↔◌, ℕ, ◌<◌, ◌∷◌, [], ◌++◌, if◌then◌else◌, ◌==◌, true, false, Contains, IfOk, IsTrue, OnOk, length, replicate};
 ghost use Rattle.doc_tables.specs.Elements.{parent};
 ghost use Rattle.fmu_description.specs.Elements.{causality_of, is_clock, is_dimension};
@@ -13,14 +13,14 @@ use std::alloc::{AllocError, Global};
 use std::collections::BTreeMap;
 use value_types::Causality;
 
-/// The marks of the foreign variables.
+/// The marks of the ignored variables.
 #[derive(Drop)]
 pub(crate) struct Foreign {
     marks: Vec<bool>,
 }
 
 impl Foreign {
-    /// Whether the element describes a foreign variable.
+    /// Whether the element describes an ignored variable.
     pub(crate) fn is_foreign(&self, node: usize) -> bool
         ensures { result ≡ is_foreign self.now node }
     {
@@ -48,7 +48,7 @@ fn is_local_clock(tree: &Tree, node: usize) -> bool
     elements::is_clock(tree, node) && elements::causality_of(tree, node) == Causality::Local
 }
 
-// Whether a variable is foreign by what its own element says.
+// Whether a variable is ignored by what its own element says.
 fn is_foreign_itself(tree: &Tree, node: usize) -> bool
     requires { node < length tree.now }
     ensures { IsTrue result ↔ IsForeignItself tree.now node }
@@ -59,7 +59,7 @@ fn is_foreign_itself(tree: &Tree, node: usize) -> bool
         || elements::causality_of(tree, node) == Causality::Other
 }
 
-// The variables that are foreign of themselves.
+// The variables that are ignored by themselves.
 fn sources(alloc: Global, tree: &Tree) -> Result<Vec<usize>, AllocError>
     ensures { IfOk result (λ all. (k : ℕ) → Contains all.items k ↔ IsSource tree.now k) }
 {
@@ -151,7 +151,7 @@ fn no_marks(alloc: Global, len: usize) -> Result<Vec<bool>, AllocError>
     Ok(vec![in alloc; false; len]?)
 }
 
-/// The foreign variables of a description.
+/// The ignored variables of a description.
 pub(crate) fn foreign_variables(alloc: Global, tree: &Tree) -> Result<Foreign, AllocError>
     ensures { IfOk result (λ foreign. MarksForeign tree.now (is_foreign foreign)) }
 {

@@ -85,7 +85,7 @@ impl<'a> IndexedTree<'a> {
         }
     }
 
-    /// A foreign variable.
+    /// An ignored variable.
     pub(crate) fn is_foreign(&self, node: usize) -> bool
         requires { IsIndexed self.now }
         ensures { IsTrue result ↔ IsForeign self.now.tree.now node }

@@ -61,14 +61,14 @@ fn named_in_order(alloc: Global, tree: &Tree) -> Result<Vec<(&str, usize)>, Allo
     Ok(named)
 }
 
-// Whether an element stands behind one of its name.
+// Whether an element comes after one of its name.
 fn is_behind(one: (&str, usize), other: (&str, usize)) -> bool
     ensures { IsTrue result ↔ IsBehind one.entry other.entry }
 {
     one.0 == other.0 && one.1 < other.1
 }
 
-// Marks the elements that stand behind the one before them in the list.
+// Marks the elements that come after the one before them in the list.
 fn marks(alloc: Global, len: usize, named: &[(&str, usize)]) -> Result<Vec<bool>, AllocError>
     requires { All (λ (e : Named). e.1 < len) named.now }
     ensures { IfOk result (λ marks. (k : ℕ) →

@@ -65,7 +65,7 @@ pub(crate) fn references(alloc: Global, text: &str) -> Result<Option<Vec<u32>>, 
     references_among(alloc, parts.as_slice())
 }
 
-// Whether a space stands before or behind.
+// Whether a space stands before or after.
 fn has_outer_space(text: &str) -> bool
     ensures { result ≡ has_outer_space text.now }
 {

@@ -84,7 +84,7 @@ fn aliases_of(alloc: Global, tree: &Tree, node: usize) -> Result<Items<Text>, Al
     Ok(Items::from_vec(names))
 }
 
-/// The type; a foreign variable has none.
+/// The type; an ignored variable has none.
 fn kind_of(tree: &Tree, node: usize, is_foreign: bool) -> Option<PortType>
     ensures foreign { IsTrue is_foreign → result ≡ None }
     ensures own { (IsTrue is_foreign → ⊥) → result ≡ port_type (name_of tree.now node) }

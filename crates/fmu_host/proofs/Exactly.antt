@@ -25,7 +25,7 @@ use Rattle.fmu_host.specs.Rows.{OrMemory, Tells, TellsShape, serve_status}
 use Rattle.fmu_host.specs.Status.{status_of}
 use Rattle.fmu_host.proofs.When.{HasFacts}
 
--- ---- the words are one line
+-- ---- the arguments are one command line
 
 tails : (words : List (List ℕ)) (d e r s : List ℕ) → words ≡ d ∷ r ∷ [] → words ≡ e ∷ s ∷ [] → r ≡ s
 tails words d e r s a b = cc

@@ -48,7 +48,7 @@ ShapeFacts Unknown shape old new = (model_named shape.identifier ≡ None) × (n
 ShapeFacts (Served end) shape old new = ServesShape end shape old new
 ShapeFacts Memory shape old new = new ≡ old
 
--- memory is wanting to begin with, or the words are no line, and nothing is done; or no shape is read, and nothing else is done; or a shape is read
+-- memory runs out at once, or the arguments are no command line, and nothing is done; or no shape is read, and nothing else is done; or a shape is read
 pub data Facts (end : HostEnd) (words : List (List ℕ)) (old new : Stage) : Type 0 where
   Unbegun : end ≡ Memory → new ≡ old → Facts end words old new
   WithoutLine : end ≡ NoWords → IsNoLine words → new ≡ old → Facts end words old new

@@ -20,7 +20,7 @@ pub record Stage : Type 0 where
 abbrev pub stage : FolderView → SourceView → SinkView → Stage
 stage folder input output = record { folder = folder; link = link input output }
 
--- the words, what is told before and after, and the status
+-- the arguments, what is told before and after, and the status
 pub record Happened : Type 0 where
   pub words : List (List ℕ)
   pub old : Stage

@@ -1,4 +1,4 @@
--- The words of the command line: the directory of an FMU, and how many counts a second has.
+-- The arguments of the command line: the directory of an FMU, and how many counts a second has.
 use Rattle.std.specs.Prelude.{◌≡◌, ℕ, ◌^◌, ◌<◌, ◌≤◌, List, [], ◌∷◌, length, decimal}
 use Rattle.fmu_host.specs.declared.words.HostLine.{HostLine}
 
@@ -6,7 +6,7 @@ pub record Line : Type 0 where
   pub directory : List ℕ
   pub resolution : ℕ
 
--- the words are a directory, which isn't empty, and a resolution from 1 to 2^62, in digits without a leading zero
+-- the arguments are a directory, which isn't empty, and a resolution from 1 to 2^62, in digits without a leading zero
 pub record IsLine (words : List (List ℕ)) (line : Line) : Type 0 where
   pub spelled : words ≡ line.directory ∷ decimal line.resolution ∷ []
   pub directory : 0 < length line.directory

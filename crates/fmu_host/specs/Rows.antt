@@ -1,4 +1,4 @@
--- When each status comes. An `exact` row speaks of what the read of the description got, and yields to want of memory.
+-- When each status comes. An `exact` row speaks of what the read of the description got, and holds unless memory runs out.
 use Rattle.std.specs.Prelude.{◌≡◌, ◌⊎◌, ℕ, ◌-◌, ◌^◌, ◌<◌, ◌≤◌, List, Some, None, Result, Ok, Err}
 use Rattle.sim_base.specs.Causes.{Rose}
 use Rattle.sim_base.specs.Folder.{with_read}
@@ -21,11 +21,11 @@ use Rattle.fmu_host.specs.Facts.{ServesShape}
 use Rattle.fmu_host.specs.Happened.{Happened}
 use Rattle.fmu_host.specs.Line.{IsLine, IsNoLine, Line}
 
--- the words are a line, and this holds of it
+-- the arguments are a command line, and this holds of it
 abbrev pub OnLine : Happened → (Line → Type 0) → Type 0
 OnLine h P = (line : Line) × IsLine h.words line × P line
 
--- this status, or want of memory
+-- this status, or out of memory
 abbrev pub OrMemory : Happened → ℕ → Type 0
 OrMemory h status = (h.status ≡ status) ⊎ (h.status ≡ 11)
 
@@ -35,7 +35,7 @@ IsUnserved h = h.new.link ≡ h.old.link
 
 -- ---- what the folder tells
 
--- the words are this line, and the folder tells one read more, that of the description, with this answer
+-- the arguments are this command line, and the folder tells one read more, that of the description, with this answer
 pub record Tells (h : Happened) (line : Line) (answer : Result (List ℕ) ReadFault) : Type 0 where
   pub is : IsLine h.words line
   pub told : h.new.folder ≡ with_read h.old.folder (path_of line) answer
@@ -91,7 +91,7 @@ pub record Ends (h : Happened) (P : ServeEnd → Type 0) (line : Line) : Type 0 
   pub so : P end
   pub serves : ServesShape end shape h.old.link h.new.link
 
--- between two frames, or behind FreeInstance
+-- between two frames, or after FreeInstance
 abbrev pub IsDone : ServeEnd → Type 0
 IsDone end = (end ≡ E.Freed) ⊎ (end ≡ E.Ended)
 
@@ -103,7 +103,7 @@ IsBadFrame end = (at : ℕ) × (end ≡ E.BadFrame at)
 abbrev pub IsUnpermitted : ServeEnd → Type 0
 IsUnpermitted end = (call : Call) × (end ≡ E.NotPermitted call)
 
--- 2: exactly where the words are no line; then nothing is done
+-- 2: exactly where the arguments are no command line; then nothing is done
 pub record WordsRow (h : Happened) : Type 0 where
   pub when : h.status ≡ 2 → IsNoLine h.words × (h.new ≡ h.old)
   pub exact : IsNoLine h.words → OrMemory h 2
@@ -151,7 +151,7 @@ pub record ServedRow (h : Happened) : Type 0 where
       (end : ServeEnd) → TellsShape h line shape → TellsCalls h shape pieces count end →
       Answers h pieces end ⊎ (h.status ≡ 11)
 
--- memory was wanting: before a call was taken, when the description was read or not yet; or behind the calls that were served
+-- memory ran out: before a call was taken, when the description was read or not yet; or after the calls that were served
 pub data WantsMemory (h : Happened) (line : Line) : Type 0 where
   BeforeCalls : MayRead line h.old.folder h.new.folder → IsUnserved h → WantsMemory h line
   BehindCalls : Ends h (λ end. end ≡ E.Memory) line → WantsMemory h line

@@ -16,7 +16,7 @@ status_of Unknown = 5
 status_of (Served end) = serve_status end
 status_of Memory = 11
 
--- where the host can't give the words: they are no line, as where one of them isn't UTF-8, or memory is wanting
+-- where the host can't give the arguments: they are no command line, as where one of them isn't UTF-8, or memory runs out
 abbrev pub ungiven_end : ErrorKind → HostEnd
 ungiven_end OutOfMemory = Memory
 ungiven_end _ = NoWords

@@ -24,7 +24,7 @@ use value_types::Shape;
 /// What a call of the program came to.
 #[derive(Clone, Copy, Debug, PartialEq, Eq)]
 pub(crate) enum HostEnd {
-    /// The words are no directory and resolution.
+    /// The arguments are no directory and resolution.
     NoWords,
     /// The read of the description failed.
     Unread,
@@ -38,7 +38,7 @@ pub(crate) enum HostEnd {
     Unknown,
     /// The machine was served.
     Served(ServeEnd),
-    /// No memory is left.
+    /// Out of memory.
     Memory,
 }
 
@@ -62,8 +62,8 @@ impl HostEnd {
     }
 }
 
-/// Does what the words say that the host gives, the program's name first, and answers the program's status. Words that
-/// it can't give, as one that isn't UTF-8, are no command line.
+/// Does what the arguments say that the host gives, the program's name first, and answers the program's status. Where the host
+/// can't give one, as where it isn't UTF-8, they are no command line.
 pub(crate) fn host_args<F: Folder, I: Source, O: Sink>(
     alloc: Global,
     args: io::Result<Args>,
@@ -87,7 +87,7 @@ pub(crate) fn host_args<F: Folder, I: Source, O: Sink>(
     }
 }
 
-// The words behind the program's name.
+// The arguments after the program's name.
 fn words_behind(alloc: Global, given: Args) -> Result<Vec<String>, AllocError>
     ensures { IfOk result (λ words. words.items ≡ drop 1 (into_iter_items given)) }
 {
@@ -103,8 +103,8 @@ fn ungiven_end(error: &io::Error) -> HostEnd
     }
 }
 
-/// Does what the words say, without the program's name: reads the description in a directory, and serves the built-in machine
-/// that it names, calls from the input and replies to the output. Answers the program's status.
+/// Does what the arguments say, without the program's name: reads the description in a directory, and serves the built-in
+/// machine that it names, calls from the input and replies to the output. Answers the program's status.
 pub fn host_words<F: Folder, I: Source, O: Sink>(
     alloc: Global,
     words: &[String],

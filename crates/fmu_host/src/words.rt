@@ -1,4 +1,4 @@
-//! The words of the command line: a directory, and how many counts a second has.
+//! The arguments of the command line: a directory, and how many counts a second has.
 ghost use Rattle.std.specs.Prelude.{◌≡◌, ℕ, ◌^◌, ◌<◌, ◌≤◌, Some, IfSome, decimal, option_map};
 ghost use Rattle.command_line.specs.Line.{texts};
 ghost use Rattle.fmu_host.specs.Line.{IsLine, Line, line_of};
@@ -13,7 +13,7 @@ pub(crate) struct HostLine<'a> {
     pub resolution: u64,
 }
 
-/// What the words ask for, where they are a directory and a resolution.
+/// What the arguments ask for, where they are a directory and a resolution.
 pub(crate) fn read_words(words: &[String]) -> Option<HostLine<'_>>
     ensures ok { IfSome result (λ l. IsLine (texts words.now) (line_of l)) }
     ensures only { (line : Line) → IsLine (texts words.now) line →

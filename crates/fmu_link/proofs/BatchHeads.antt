@@ -1,4 +1,4 @@
--- What comes behind a batch in two parts: a head, and so many frames as it counts.
+-- What comes after a batch in two parts: a head, and so many frames as it counts.
 use Rattle.std.proofs.Common.{◌≡◌, ℕ, ◌+◌, ◌-◌, ◌*◌, ◌≤◌, inl, inr, List, ◌++◌, append_assoc, length, take, drop, arith, refl, sym, ap, ◌∙◌, subst, Some, None, Option, length-append, length-drop}
 use Rattle.std.specs.Option.{option_map}
 use Rattle.std.proofs.lemmas.List.{length-take, take_at}
@@ -25,7 +25,7 @@ module _ (room part head : List ℕ) (size : length room ≡ 1560) (long : lengt
   room_left : 24 ≤ length (part ++ drop 24 room)
   room_left = let whole = whole_head in omega (arith, whole, length-append part (drop 24 room))
 
-  -- and behind it the rest
+  -- and after it the rest
   both_in : (rest : List ℕ) (end : ℕ) → end ≡ 24 + length rest → take end (put_mid 24 (end - 24) (part ++ drop 24 room) rest) ≡ head ++ rest
   both_in rest end all = take-put_mid 24 (end - 24) (part ++ drop 24 room) rest end all room_left ∙ ap (λ (xs : List ℕ). xs ++ rest) head_in
 
@@ -36,7 +36,7 @@ module _ (room part head : List ℕ) (size : length room ≡ 1560) (long : lengt
   pub alone_asked : ((count : ℕ) → IsHeadOf count head → ⊥) → IsAskedFor (take 24 (part ++ drop 24 room))
   alone_asked none = subst IsAskedFor (sym head_in) (inl (long, none))
 
-  -- and where more came behind it
+  -- and where more came after it
   pub both_arrive : (old sent mid new : WireView) (batch rest : List ℕ) (end : ℕ) → end ≡ 24 + length rest → sent ≡ with_sent old batch → sent ≡ with_front head mid → mid ≡ with_front rest new →
       ArrivesAll old batch (take end (put_mid 24 (end - 24) (part ++ drop 24 room) rest)) new
   both_arrive old sent mid new batch rest end all is came second =
@@ -48,7 +48,7 @@ module _ (room part head : List ℕ) (size : length room ≡ 1560) (long : lengt
       subst IsAskedFor (sym (both_in rest end all))
       (inr (count, subst (IsHeadOf count) (sym (take_at head rest 24 long)) is, omega (arith, long, all, end_is, length-append head rest)))
 
-  -- the room behind the head, up to a place
+  -- the room after the head, up to a place
   pub rest_long : (rest : List ℕ) (end : ℕ) → 24 ≤ end → end ≤ 1560 → length rest ≡ length (take (end - 24) (drop 24 (part ++ drop 24 room))) → end ≡ 24 + length rest
   rest_long rest end ge le is =
       let whole = whole_head in

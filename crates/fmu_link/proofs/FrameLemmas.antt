@@ -14,7 +14,7 @@ use Rattle.fmu_link.specs.Exchange.{IsNoReply}
 pub reply_length : (reply : Reply) (bytes : List ℕ) → IsReplyFrame reply bytes → length bytes ≡ 24
 reply_length reply bytes h = ap length h.spelled ∙ head_length (head_of_reply reply)
 
--- a reply at the front of 24 bytes is all of them
+-- a reply at the start of 24 bytes is all of them
 pub whole_reply : (reply : Reply) (bytes : List ℕ) (size : ℕ) → length bytes ≡ 24 → Gets IsReplyFrame bytes reply size → IsReplyFrame reply bytes
 whole_reply reply bytes size whole h =
     let count = reply_length reply (take size bytes) h.spelled in

@@ -1,4 +1,4 @@
--- Several calls over a wire in one batch: it is sent alone, and its reply is a head that tells a count, and so many frames behind it.
+-- Several calls over a wire in one batch: it is sent alone, and its reply is a head that tells a count, and so many frames after it.
 use Rattle.std.specs.Prelude.{◌≡◌, ◌⊎◌, ℕ, ◌+◌, ◌*◌, ◌<◌, ◌≤◌, Bool, true, false, List, [], ◌∷◌, ◌++◌, length, take, get_or, Result, Ok, Err}
 use Rattle.sim_base.specs.Causes.{one_more}
 use Rattle.fmi_calls.specs.Kinds.{kind_of, kind_of_reply}
@@ -22,13 +22,13 @@ use Rattle.fmu_link.specs.Wire.{WireView, NotesReceive, with_front, with_sent}
 abbrev pub ArrivesAll : WireView → List ℕ → List ℕ → WireView → Type 0
 ArrivesAll old batch bytes new = with_sent old batch ≡ with_front bytes new
 
--- how many bytes are asked for behind a batch: a head, and behind it a frame for each reply that it counts, or no more where it is the head of no batch
+-- how many bytes are asked for after a batch: a head, and after it a frame for each reply that it counts, or no more where it is the head of no batch
 abbrev pub IsAskedFor : List ℕ → Type 0
 IsAskedFor bytes =
     ((length bytes ≡ 24) × ((count : ℕ) → IsHeadOf count bytes → ⊥)) ⊎
     ((count : ℕ) × IsHeadOf count (take 24 bytes) × (length bytes ≡ 24 * (count + 1)))
 
--- a head came behind the batch, and the wire failed or ended before all was there that it counts
+-- a head came after the batch, and the wire failed or ended before all was there that it counts
 pub record BreaksBehind (old : WireView) (batch : List ℕ) (fault : WireFault) (new : WireView) : Type 0 where
   pub head : List ℕ
   pub count : ℕ
@@ -39,7 +39,7 @@ pub record BreaksBehind (old : WireView) (batch : List ℕ) (fault : WireFault) 
   pub awaited : length room ≡ 24 * count
   pub broke : NotesReceive {T = Unit {0}} mid new room (Err fault)
 
--- the wire failed or ended before the head was there, or behind it
+-- the wire failed or ended before the head was there, or after it
 abbrev pub BreaksOff : WireView → List ℕ → WireFault → WireView → Type 0
 BreaksOff old batch fault new =
     Breaks old batch fault new ⊎ BreaksBehind old batch fault new
@@ -143,7 +143,7 @@ GoSingly old (call ∷ calls) (reply ∷ replies) new =
     (name : List ℕ) × (token : List ℕ) × (mid : LineView) ×
     Exchanged call name token old mid (Ok reply) × GoSingly mid calls replies new
 
--- so the first of the calls did, and the one behind them got this fault
+-- so the first of the calls did, and the one after them got this fault
 pub record BreaksSingly (calls : List Call) (old : LineView) (fault : PeerFault)
     (new : LineView) : Type 0 where
   pub front : List Call

@@ -21,7 +21,7 @@ with_sent view bytes = record view { sent = option_map (λ before. before ++ byt
 abbrev pub with_front : List ℕ → WireView → WireView
 with_front bytes view = record view { coming = option_map (λ rest. bytes ++ rest) view.coming }
 
--- so many bytes from the front are no longer to come
+-- so many of the first bytes are no longer to come
 abbrev pub without_front : ℕ → WireView → WireView
 without_front n view = record view { coming = option_map (λ bytes. drop n bytes) view.coming }
 
@@ -37,13 +37,13 @@ with_fault view = record view { faults = one_more view.faults }
 abbrev pub FallsShort : Option (List ℕ) → List ℕ → Type 0
 FallsShort coming into = length (unwrap_or coming []) < length into
 
--- what sending makes of what a wire tells: all of the bytes were sent, or after a failure a part from their front
+-- what sending makes of what a wire tells: all of the bytes were sent, or after a failure a prefix of them
 abbrev pub NotesSend : {T : Type 0} → WireView → WireView → List ℕ → Result T WireFault → Type 0
 NotesSend old new bytes (Ok _) = new ≡ with_sent old bytes
 NotesSend old new bytes (Err Failed) = (n : ℕ) × (new ≡ with_fault (with_sent old (take n bytes)))
 NotesSend old new bytes (Err Ended) = ⊥
 
--- what receiving makes of it: the room is filled with the front of what was to come, which is gone from it; or there was less, and it is gone; or after a failure some part from the front is gone
+-- what receiving makes of it: the room is filled with the first bytes of what was to come, which are gone from it; or there were fewer, and all are gone; or after a failure some of the first bytes are gone
 abbrev pub NotesReceive : {T : Type 0} → WireView → WireView → List ℕ → Result T WireFault → Type 0
 NotesReceive old new into (Ok _) = old ≡ with_front into new
 NotesReceive old new into (Err Ended) = FallsShort old.coming into × (new ≡ at_end old)

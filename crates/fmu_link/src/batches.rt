@@ -21,7 +21,7 @@ use link_frames::{batch_count, batch_len, put_batch, take_batch_reply, take_repl
 const MOST_BYTES: usize = 24 * 65;
 
 /// Sends calls in one batch, and takes what answers them, up to the first reply that isn't good. What follows that is
-/// dropped. Fewer replies, the last of them good, are garbled behind those that came; more, or replies of another kind than
+/// dropped. Fewer replies, the last of them good, are garbled after those that came; more, or replies of another kind than
 /// the calls, or no batch of replies, at the first.
 pub(crate) fn call_batch<W: Wire>(
     wire: &mut W,
@@ -157,7 +157,7 @@ fn is_all(calls: &[Call], count: usize) -> bool
     count == calls.len()
 }
 
-// The phase behind a call with its reply.
+// The phase after a call with its reply.
 fn note(instance: &mut Instance, call: &Call, reply: &Reply)
     requires { Permitted instance.old.shape instance.old.phase call.now }
     ensures phase { instance.new.phase ≡ next_of instance.old.shape instance.old.phase call.now

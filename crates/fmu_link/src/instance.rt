@@ -45,7 +45,7 @@ impl Instance {
         ensures quiet { IfOk result (λ i. i.bad_replies ≡ 0) }
         ensures single { IfOk result (λ i. i.takes_batches ≡ false) }
     {
-        // What is dear to let go is made last.
+        // What is expensive to drop is made last.
         Ok(Instance {
             bad_replies: 0,
             takes_batches: false,

@@ -1,4 +1,4 @@
-//! An FMU in a process of its own as a peer: its calls as frames over a wire that bytes go out on and come in on.
+//! An FMU in a process of its own as a peer: calls and replies are frames over a wire.
 #![tactic(auto)]
 
 mod batches;

@@ -114,7 +114,7 @@ fn is_listed(calls: &[u64], call: u64) -> bool
     calls.contains(&call)
 }
 
-// Fills all of `into` with the front of the bytes from a place on, if they are as many.
+// Fills all of `into` with the first of the bytes from a place on, if they are as many.
 fn fill(into: &mut [u8], bytes: &[u8], from: usize) -> bool
     ensures enough { IsTrue result ↔ (length into.old ≤ length (drop from bytes.now)) }
     ensures filled { IsTrue result → drop from bytes.now ≡ into.new ++ drop

@@ -33,7 +33,7 @@ impl<W: Wire> Piped<W> {
     ghost use Rattle.fmu_peer.specs.Start.{IsStarted};
     ghost use Rattle.fmu_link.specs.Piped.{piped_view};
 
-    /// A peer before its first call, over a wire that hasn't failed. All the memory that its calls need is taken here.
+    /// A peer before its first call, over a wire that hasn't failed. All the memory that its calls need is allocated here.
     pub fn start(
         alloc: Global,
         wire: W,

@@ -10,7 +10,7 @@ pub enum WireFault {
     Ended,
 }
 
-/// What bytes are sent on, and others received from, each in their order.
+/// A channel on which bytes are sent, and others received, each in their order.
 pub trait Wire {
     ghost use Rattle.fmu_link.specs.Wire.{WireView, NotesSend, NotesReceive};
 
@@ -18,11 +18,11 @@ pub trait Wire {
     /// failed.
     ghost view: { Self → WireView };
 
-    /// Sends all of the bytes, or after a fault a part from their front. It doesn't answer `Ended`, and takes no memory.
+    /// Sends all of the bytes, or after a fault a prefix of them. It doesn't answer `Ended`, and allocates no memory.
     fn send(&mut self, bytes: &[u8]) -> Result<(), WireFault>
         ensures noted { NotesSend (view self.old) (view self.new) bytes.now result };
 
-    /// Fills all of `into` with the front of the bytes to come, or answers `Ended` where there are fewer. It takes no
+    /// Fills all of `into` with the first of the bytes to come, or answers `Ended` where there are fewer. It allocates no
     /// memory.
     fn receive(&mut self, into: &mut [u8]) -> Result<(), WireFault>
         ensures noted { NotesReceive (view self.old) (view self.new) into.new result };

@@ -40,7 +40,7 @@ or_assoc : (a b c d : Bool) → a ≡ (b || false) → c ≡ d → (a || c) ≡ 
 or_assoc a true c d e f = ap (λ (x : Bool). x || c) e
 or_assoc a false c d e f = ap (λ (x : Bool). x || c) e ∙ f
 
--- a call, and those behind it
+-- a call, and those after it
 pub then_more : (old mid new : View) (c : Call) (cs : List Call) (f g : Bool) → mid.fixed ≡ old.fixed → ClosesWith (c ∷ []) old f mid → ClosesWith cs mid g new → ClosesWith (c ∷ cs) old (f || g) new
 then_more old mid new c cs f g same h k = elim h.turn [
   | inl (may, (result, rest, there, is, asked, (none, last))) ↦ record {

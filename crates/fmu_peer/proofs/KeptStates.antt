@@ -1,4 +1,4 @@
--- Where calls that read or set lead: behind good answers the state stays as it was, and behind another the instance is where it was, or over.
+-- Where calls that read or set lead: after good answers the state stays as it was, and after another the instance is where it was, or over.
 use Rattle.std.proofs.Common.{◌≡◌, inl, inr, ℕ, ℤ, Result, Bool, true, false, List, [], ◌∷◌, ◌++◌, length, take, drop, Option, Some, None, Ok, Err, refl, sym, ap, ◌∙◌, subst, append_assoc}
 use Rattle.std.specs.Prelude.{IsTrue, ◌||◌}
 use Rattle.std.specs.Result.{result_ok}
@@ -40,7 +40,7 @@ sorts_of calls s k d lt = elim s.reads_or_sets [
 sorts_front : (calls : List Call) (n : ℕ) → AreSorts calls → AreSorts (take n calls)
 sorts_front calls n sorts = all_front ReadsOrSets (take n calls) (drop n calls) (subst AreSorts (sym (take-append-drop n calls)) sorts)
 
--- ---- the state behind any answer
+-- ---- the state after any answer
 
 or_true : (b : Bool) → IsTrue (b || true)
 or_true true = refl
@@ -97,7 +97,7 @@ agrees_fault mode old new calls before after fault f sort h =
     let front : AreSorts (f.front ++ f.call ∷ []) = all_front ReadsOrSets (f.front ++ f.call ∷ []) f.left (subst AreSorts whole (sorts_of calls sort)) in
     agrees_along mode old new es f.talks (subst AreSorts (sym calls_are) front) h
 
--- ---- the state behind good answers
+-- ---- the state after good answers
 
 -- the state, and the slot for a saved one, are as they were
 pub record Keeps (old new : Phase) : Type 0 where
@@ -124,7 +124,7 @@ keeps_along shape old new (e ∷ es) fixed (mid, may, asked, rest) good sorts =
         subst (λ (p : Phase). Keeps old.phase p) (sym phase) (good_keeps old.fixed.shape old.phase call reply sort (subst (λ (s : Shape). grade_of s call reply ≡ G.Good) (sym fixed) is_good))
     first call (Err fault) phase sort is_good = absurd is_good
 
--- behind calls that were answered well
+-- after calls that were answered well
 pub answered_keeps : (old new : View) (calls : List Call) (replies : List Reply) → AnsweredAll old calls replies new → length replies ≡ length calls → AreOfOneSort calls → Keeps old.phase new.phase
 answered_keeps old new calls replies a len sort =
     keeps_along old.fixed.shape old new (exchanges calls replies) refl a.talks a.good (subst AreSorts (sym (calls_beside calls replies len)) (sorts_of calls sort))

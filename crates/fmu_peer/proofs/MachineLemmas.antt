@@ -20,7 +20,7 @@ use Rattle.fmi_calls.specs.Permission.{Permitted, is_running}
 use Rattle.fmi_calls.specs.Worth.{grade_of}
 use Rattle.fmu_peer.specs.Machine.{IsInPhase, IsMachineOf, Machine, MachineState, SavedMachine, after, is_alive, is_discard, is_initialization, kept, put_back}
 
--- ---- where the instance stands behind a reply, if it is still alive
+-- ---- where the instance stands after a reply, if it is still alive
 
 -- a bad answer leaves the state, or the instance isn't alive
 bad_same : (state : InstanceState) (status : BadStatus) → is_alive (state_after_bad state C.Terminate status) ≡ true → state_after_bad state C.Terminate status ≡ state
@@ -28,7 +28,7 @@ bad_same state Discard alive = refl
 bad_same state Error alive = absurd (cc)
 bad_same state Fatal alive = absurd (cc)
 
--- behind Initialization Mode the instance isn't in it
+-- after Initialization Mode the instance isn't in it
 not_initial : (state : InstanceState) → is_running state ≡ true → is_initialization state ≡ false
 not_initial P.Fresh at = refl
 not_initial P.Instantiated at = refl
@@ -56,7 +56,7 @@ running_not_initial true = refl
 running_not_initial false = refl
 
 module _ (shape : Shape) (p : Phase) (reply : Reply) where
-  -- behind a call that leaves the state where its answer is good
+  -- after a call that leaves the state where its answer is good
   stays : (call : Call) (g : Grade) → (entered shape p call reply).state ≡ p.state
       → ((status : BadStatus) → is_alive (state_after_bad p.state call status) ≡ true → state_after_bad p.state call status ≡ p.state)
       → is_alive (graded shape p call reply g).state ≡ true → (graded shape p call reply g).state ≡ p.state
@@ -158,16 +158,16 @@ back_slot (Some saved) s = refl
 pub in_phase_first : (shape : Shape) (m : Machine) → IsMachineOf shape m → IsInPhase m (fresh shape) m.first
 in_phase_first shape m is = record { mode = λ alive. is.before; saved = λ alive. none_saved m m.first.slot is.empty }
 
--- behind a fault the instance is lost
+-- after a fault the instance is lost
 pub in_phase_lost : (shape : Shape) (m : Machine) (phase : Phase) (call : Call) (s : MachineState) → IsInPhase m (next_of shape phase call None) s
 in_phase_lost shape m phase call s = in_none m (next_of shape phase call None) s (λ alive. cc)
 
 module _ (shape : Shape) (m : Machine) (is : IsMachineOf shape m) (phase : Phase) (s : MachineState) (old : IsInPhase m phase s) where
-  -- the phase behind a call
+  -- the phase after a call
   abbrev new : Call → Phase
   new call = graded shape (counted phase call) call (m.look s call) (grade_of shape call (m.look s call))
 
-  -- behind a call that leaves the state of the instance
+  -- after a call that leaves the state of the instance
   abbrev Leaves : Call → Type 0
   Leaves call = is_alive (new call).state ≡ true → (new call).state ≡ phase.state
 

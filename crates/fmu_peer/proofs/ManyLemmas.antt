@@ -54,7 +54,7 @@ pub talks_push : (old mid new : View) (es : List Exchange) (e : Exchange) → Ta
 talks_push old mid new [] e t may asked = subst (λ (v : View). Talks v (e ∷ []) new) t (new, may, asked, refl)
 talks_push old mid new (x ∷ es) e (next, may_x, asked_x, rest) may asked = (next, may_x, asked_x, talks_push next mid new es e rest may asked)
 
--- the call at a place may be asked, and the others behind it
+-- the call at a place may be asked, and the others after it
 pub record MayNext (shape : Shape) (phase : Phase) (cs : List Call) (i : ℕ) (d : Call) : Type 0 where
   pub may : Permitted shape phase (get_or cs i d)
   pub next : (reply : Reply) → grade_of shape (get_or cs i d) reply ≡ G.Good → MayAskAll shape (next_of shape phase (get_or cs i d) (Some reply)) (drop (i + 1) cs)
@@ -118,7 +118,7 @@ faults_behind old mid new cs before rs i d fault e lt behind talks good may aske
   talks = talks_push old mid new (exchanges (take i cs) (take i rs)) (without (get_or cs i d) fault) talks may asked;
 }
 
--- the places behind one that was written are as they were
+-- the places after one that was written are as they were
 pub places_more : (before rs : List Reply) (i : ℕ) (r : Reply) → drop i rs ≡ drop i before → drop (i + 1) (set rs i r) ≡ drop (i + 1) before
 places_more before rs i r behind = drop-set-lt (i + 1) rs i r (omega arith) ∙ drop_more_same rs before i behind
 

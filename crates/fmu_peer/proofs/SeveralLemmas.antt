@@ -92,7 +92,7 @@ calls_beside [] replies len = refl
 calls_beside (c ∷ calls) [] len = absurd (omega (arith, len))
 calls_beside (c ∷ calls) (r ∷ replies) len = ap (λ (cs : List Call). c ∷ cs) (calls_beside calls replies (omega (arith, len)))
 
--- behind a fault
+-- after a fault
 pub failed_by_fault : (old : View) (calls : List Call) (before after : List Reply) (fault : PeerFault) (new : View) → (f : FaultsBehind old calls before after fault new) → FailedBehind old calls (Link f.call fault) new
 failed_by_fault old calls before after fault new f = record {
   front = exchanges f.front f.replies;
@@ -106,7 +106,7 @@ failed_by_fault old calls before after fault new f = record {
   talks = f.talks;
 }
 
--- behind a last answer that isn't good
+-- after a last answer that isn't good
 pub failed_by_last : (old : View) (calls : List Call) (replies : List Reply) (count : ℕ) (new : View) (why : Why) (a : AnsweredFirst old calls replies count new) → length replies ≡ length calls →
     IsWhy old.fixed.shape why a.last → FailedBehind old calls why new
 failed_by_last old calls replies count new why a len bad = record {
@@ -133,7 +133,7 @@ failed_by_last old calls replies count new why a len bad = record {
 
 -- ---- the last of them
 
--- what is put behind two equal lists is equal
+-- what is put after two equal lists is equal
 push_last : {X : Type 0} (xs ys : List X) (x y : X) → xs ++ x ∷ [] ≡ ys ++ y ∷ [] → x ≡ y
 push_last [] [] x y e = ap (λ l. get_or l 0 x) e
 push_last [] (z ∷ ys) x y e = absurd (omega (arith, ap length e, length-append ys (y ∷ [])))
@@ -157,7 +157,7 @@ last_is old calls replies count new a len c r =
     more : (i : ℕ) → i < length calls → exchanges (take (i + 1) calls) (take (i + 1) replies) ≡ exchanges (take i calls) (take i replies) ++ answer_at calls replies i c r ∷ []
     more i lt = exchanges_more calls replies i c r len lt
 
--- the default of a place within a list is of no account
+-- the default of a place within a list doesn't matter
 pub grade_any : (shape : Shape) (calls : List Call) (replies : List Reply) (i : ℕ) (c d : Call) (p q : Reply) (g : Grade) → i < length calls → i < length replies → grade_of shape (get_or calls i c) (get_or replies i p) ≡ g →
     grade_of shape (get_or calls i d) (get_or replies i q) ≡ g
 grade_any shape calls replies i c d p q g lt le h =

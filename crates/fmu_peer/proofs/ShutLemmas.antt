@@ -49,7 +49,7 @@ freeable P.Step full may (inr over) = absurd (cc)
 freeable P.Terminated full may (inr over) = absurd (cc)
 freeable P.Gone full may (inr over) = absurd (cc)
 
--- behind Initialization Mode an instance can be freed where it keeps no state
+-- after Initialization Mode an instance can be freed where it keeps no state
 freed_running : (s : InstanceState) (full : Bool) → is_running s ≡ true → can_be_freed s full ≡ not full
 freed_running P.Event full at = refl
 freed_running P.Step full at = refl
@@ -69,7 +69,7 @@ empty_if_not false may = refl
 empty_at_step : (s : InstanceState) (full : Bool) → is_running s ≡ true → can_be_freed s full ≡ true → full ≡ false
 empty_at_step s full at may = empty_if_not full (sym (freed_running s full at) ∙ may)
 
--- ---- behind Terminate
+-- ---- after Terminate
 
 step_is_freeable : (s : InstanceState) (full : Bool) → is_running s ≡ true → full ≡ false → can_be_freed s full ≡ true
 step_is_freeable s full at empty = freed_running s full at ∙ ap not empty
@@ -87,7 +87,7 @@ stuck_after shape p reply G.Good at empty stuck = let free : not p.slot.is_full 
 stuck_after shape p reply G.Refused at empty stuck = stuck_refused (bad_status_of reply) p at empty stuck
 stuck_after shape p reply G.Misreply at empty stuck = absurd (cc)
 
--- behind Terminate an instance that can't be freed is lost
+-- after Terminate an instance that can't be freed is lost
 pub stuck_is_lost : (u mid : View) (result : Result Reply PeerFault) → Asked u C.Terminate result mid → is_running u.phase.state ≡ true → u.phase.slot.is_full ≡ false →
     can_be_freed mid.phase.state mid.phase.slot.is_full ≡ false → mid.phase.state ≡ P.Lost
 stuck_is_lost u mid (Ok reply) a at empty stuck =
@@ -110,7 +110,7 @@ freed_terminated shape p talk t e first second = inr (inl (record {
   terminated = λ at. (talk, t, refl, first);
 }))
 
--- an exchange more leads to the phase behind it
+-- an exchange more leads to the phase after it
 leads_on : (u mid : View) (c : Call) (r : Result Reply PeerFault) (p : Phase) (talk : List Exchange) → u.phase ≡ phase_from u.fixed.shape p talk → Asked u c r mid →
     mid.phase ≡ phase_from u.fixed.shape p (talk ++ record { call = c; result = r } ∷ [])
 leads_on u mid c r p talk leads a =
@@ -196,7 +196,7 @@ discard_of : (shape : Shape) (reply : Reply) → grade_of shape C.Free reply ≡
 discard_of shape (R.Done is_warning content) e d = absurd (if_not_refused (is_valid shape C.Free content) e)
 discard_of shape (R.Refused kind status) e d = ap (λ (k : Kind). R.Refused k status) (kind_free shape kind status e) ∙ ap (R.Refused K.Free) d
 
--- behind Free the state isn't kept, or it was answered Discard
+-- after Free the state isn't kept, or it was answered Discard
 pub data AfterFree (q : Phase) (r : Result Reply PeerFault) : Type 0 where
   Freed : (q.slot.is_full ≡ false) ⊎ (is_over q.state ≡ true) → (q.state ≡ P.Lost) ⊎ (can_be_freed q.state false ≡ true) → AfterFree q r
   Kept : q.slot.is_full ≡ true → r ≡ Ok (R.Refused K.Free Discard) → AfterFree q r

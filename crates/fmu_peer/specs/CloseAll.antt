@@ -1,4 +1,4 @@
--- The closing of several instances, one behind the other.
+-- The closing of several instances, one after the other.
 use Rattle.std.specs.Prelude.{◌≡◌, ◌⊎◌, ℕ, ◌==◌, Bool, true, false, ◌||◌, ◌&&◌, if◌then◌else◌, is_some, unwrap_or, Some, List, [], ◌∷◌, ◌++◌, map, set, slice_get, All}
 use Rattle.std.specs.List.{list_any}
 use Rattle.fmi_calls.specs.declared.call.Call.TheVariants as C
@@ -103,7 +103,7 @@ befores cs = map (λ (c : Closing). c.old) cs
 abbrev pub afters : List Closing → List Instance
 afters cs = map (λ (c : Closing). c.new) cs
 
--- behind instances that are closed: each is closed in its turn, and spared where one of its source, as they all stand then, answered by Fatal
+-- after instances that are closed: each is closed in its turn, and spared where one of its source, as they all stand then, answered by Fatal
 abbrev pub InOrder : List Instance → List Closing → Type 0
 InOrder closed [] = Unit {0}
 InOrder closed (c ∷ cs) =

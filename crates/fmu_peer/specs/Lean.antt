@@ -31,7 +31,7 @@ SizesFall bound (C.Save ∷ cs) = Unit {0}
 SizesFall bound (C.Free ∷ cs) = Unit {0}
 SizesFall bound (_ ∷ cs) = SizesFall bound cs
 
--- the sizes of the steps behind each Save fall
+-- the sizes of the steps after each Save fall
 abbrev pub StepsFall : List Call → Type 0
 StepsFall [] = Unit {0}
 StepsFall (C.Save ∷ cs) = SizesFall None cs × StepsFall cs

@@ -60,7 +60,7 @@ pub record AnsweredFirst (old : View) (calls : List Call) (replies : List Reply)
   pub good : AllGood old.fixed.shape front
   pub ends : (count ≡ length calls) ⊎ (IsGood old.fixed.shape last → ⊥)
 
--- the first calls got good replies, and the one behind them this fault; the places of the replies behind those are as they were
+-- the first calls got good replies, and the one after them this fault; the places of the replies after those are as they were
 pub record FaultsBehind (old : View) (calls : List Call) (before after : List Reply)
     (fault : PeerFault) (new : View) : Type 0 where
   pub replies : List Reply
@@ -87,7 +87,7 @@ IsToCome reply = kind_of_reply reply ≡ K.FreeInstance
 abbrev pub to_come : Reply
 to_come = R.Refused K.FreeInstance B.Fatal
 
--- how many came, from the front
+-- how many came, from the first on
 abbrev pub count_came : List Reply → ℕ
 count_came [] = 0
 count_came (reply ∷ replies) =

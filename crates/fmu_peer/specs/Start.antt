@@ -18,7 +18,7 @@ pub record IsStarted (host name directory : List ℕ) (shape : Shape) (v : View)
   pub machine : IfSome v.fixed.machine (IsMachineOf shape)
   pub faults : v.faults ≡ 0
 
--- `Unknown` exactly where the call didn't fail, for want of memory or else, and the identifier isn't known
+-- `Unknown` exactly where the call didn't fail, out of memory or otherwise, and the identifier isn't known
 abbrev pub AnswersUnknown : {T : Type 0} → Bool → Result T StartFault → Type 0
 AnswersUnknown known (Ok link) = known ≡ true
 AnswersUnknown known (Err Unknown) = known ≡ false

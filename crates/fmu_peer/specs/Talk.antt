@@ -1,4 +1,4 @@
--- A talk is the list of exchanges with one instance. An exchange is a call with its reply, or with the fault in the reply's place.
+-- A talk is the list of exchanges with one instance. An exchange is a call with its reply, or with the fault in place of the reply.
 use Rattle.std.specs.Prelude.{◌≡◌, ◌⊎◌, true, List, [], ◌∷◌, ◌++◌, map, All, MatchResult, Ok}
 use Rattle.std.specs.Result.{result_ok}
 use Rattle.value_types.specs.declared.shape.Shape.{Shape}
@@ -48,7 +48,7 @@ IsGood shape e = MatchResult e.result (λ reply. grade_of shape e.call reply ≡
 abbrev pub AllGood : Shape → List Exchange → Type 0
 AllGood shape talk = All (IsGood shape) talk
 
--- from this phase on the talk ends with FreeInstance, which in Event Mode and in Step Mode stands right behind a Terminate
+-- from this phase on the talk ends with FreeInstance, which in Event Mode and in Step Mode stands right after a Terminate
 pub record EndsFreed (shape : Shape) (phase : Phase) (talk : List Exchange) : Type 0 where
   pub front : List Exchange
   pub last : Exchange

@@ -57,7 +57,7 @@ marks_of stay C.Update result =
     } ∷ []
 marks_of stay call result = []
 
--- what stands before, behind an exchange
+-- what stands before, after an exchange
 abbrev pub stay_behind : Stay → Call → Result Reply PeerFault → Stay
 stay_behind stay C.Update result = record { follows = true; arms = false }
 stay_behind stay (C.GetInterval reference) result =

@@ -16,7 +16,7 @@ pub enum Why {
     Link { call: Call, fault: PeerFault },
 }
 
-/// A peer whose transition failed, and why. It can't be let go.
+/// A peer whose transition failed, and why. It can't be dropped.
 pub struct Ended<L: Peer> {
     pub peer: L,
     pub why: Why,

@@ -86,7 +86,7 @@ fn is_to_come(reply: &Reply) -> bool
     reply.kind() == Kind::FreeInstance
 }
 
-// How many replies came, from the front.
+// How many replies came, from the first on.
 fn came(replies: &[Reply]) -> usize
     ensures { result ≡ count_came replies.now }
 {
@@ -149,7 +149,7 @@ fn ask_many<L: Peer>(peer: &mut L, calls: &[Call], replies: &mut [Reply]) -> Res
     }
 }
 
-/// An FMU in a state (FMI 3.0, 4.2.1). It can't be let go: it is closed.
+/// An FMU in a state (FMI 3.0, 4.2.1). It can't be dropped: it is closed.
 pub struct Fmu<L: Peer, M: Mode> {
     pub peer: L,
     pub mode: PhantomData<M>,
@@ -429,7 +429,7 @@ impl<L: Peer, M: Mode> Fmu<L, M> {
         ask(&mut self.peer, &Call::SetClock { reference })
     }
 
-    /// Asks for the interval of a Clock: of a fixed one in Initialization Mode, of a countdown Clock in Event Mode.
+    /// Asks for the interval of a Clock: of a fixed one in Initialization Mode, of a countdown or changing one in Event Mode.
     pub fn interval(&mut self, reference: u32) -> Result<Reply, Why>
         requires { Permitted (L.view self.old.peer).fixed.shape (L.view self.old.peer).phase
             (Call.GetInterval reference) }
@@ -441,7 +441,7 @@ impl<L: Peer, M: Mode> Fmu<L, M> {
         ask(&mut self.peer, &Call::GetInterval { reference })
     }
 
-    /// Asks for the shift of a fixed Clock.
+    /// Asks for the shift of a fixed or changing Clock, in Initialization Mode.
     pub fn shift(&mut self, reference: u32) -> Result<Reply, Why>
         requires { Permitted (L.view self.old.peer).fixed.shape (L.view self.old.peer).phase
             (Call.GetShift reference) }

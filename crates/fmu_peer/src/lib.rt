@@ -1,4 +1,4 @@
-//! The other side of an FMU: peers that answer calls, spawners that start them, and an FMU in typed states.
+//! FMUs as a master sees them: peers that answer calls, spawners that start them, and an FMU in typed states.
 #![tactic(auto)]
 
 mod closing;

@@ -18,7 +18,7 @@ pub enum PeerFault {
     Garbled { bytes: [u8; 24] },
 }
 
-/// A call with its reply, or with the fault in the reply's place.
+/// A call with its reply, or with the fault in place of the reply.
 #[derive(Clone, Copy, Debug, PartialEq, Eq)]
 pub struct Exchange {
     pub call: Call,
@@ -39,14 +39,14 @@ pub trait Peer: Send {
         ensures phase { result.now ≡ (view self.now).phase }
         ensures legal { IsLegal (view self.now) };
 
-    /// Answers a call. It takes no memory.
+    /// Answers a call. It allocates no memory.
     fn call(&mut self, call: &Call) -> Result<Reply, PeerFault>
         requires { Permitted (view self.old).fixed.shape (view self.old).phase call.now }
         ensures { Asked (view self.old) call.now result (view self.new) };
 
     /// Answers calls one after another, all of which read variables or all of which set them, up to the first answer that
     /// isn't good, and tells how many were answered. After a fault the places of the replies that didn't come are as they
-    /// were. It takes no memory.
+    /// were. It allocates no memory.
     fn call_many(&mut self, calls: &[Call], replies: &mut [Reply]) -> Result<usize, PeerFault>
         requires sort { AreOfOneSort calls.now }
         requires places { length replies.old ≡ length calls.now }

@@ -1,4 +1,4 @@
-/// A state that an instance keeps in its slot. It can't be let go: it is freed, or abandoned with an instance that may be
+/// A state that an instance keeps in its slot. It can't be dropped: it is freed, or abandoned with an instance that may be
 /// sent nothing more.
 pub struct Saved {
     pub(crate) kept: (),

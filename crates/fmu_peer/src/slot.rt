@@ -74,8 +74,8 @@ impl<L: Peer> Slot<L> {
 }
 
 /// Closes FMUs in their order, each by the calls that it still may be sent: a state that it keeps is freed, then it is
-/// terminated from Event Mode or Step Mode, and freed. After a refusal with Fatal, in the run or in the closing, the instances of that
-/// source are sent nothing more (FMI 3.0, 2.2.3). No answer keeps it from going on, and it takes no memory.
+/// terminated from Event Mode or Step Mode, and freed. After a refusal with Fatal, in the run or in the closing, the instances
+/// of that source are sent nothing more (FMI 3.0, 2.2.3). No answer keeps it from going on, and it allocates no memory.
 pub fn close_all<L: Peer>(slots: &mut [Slot<L>])
     ensures { ClosesAll (map (λ s. instance_in L.view s) slots.old)
         (map (λ s. instance_in L.view s) slots.new) }

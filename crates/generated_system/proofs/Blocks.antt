@@ -1,4 +1,4 @@
--- A list made of blocks, one behind the other: where the elements of each block stand.
+-- A list made of blocks, one after the other: where the elements of each block stand.
 use Rattle.std.proofs.Common.{◌≡◌, ℕ, zero, suc, ◌+◌, ◌-◌, ◌<◌, ◌≤◌, List, [], ◌∷◌, ◌++◌, length, map, refl, sym, ◌∙◌, ap, arith, ◌⊎◌, inl, inr, length-append}
 use Rattle.std.specs.Prelude.{Some, slice_get}
 use Rattle.std.specs.List.{flat_map, range_with_len}

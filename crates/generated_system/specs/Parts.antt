@@ -15,7 +15,7 @@ abbrev pub fed_by : List PortId → Option ℕ → Option Feed
 fed_by outputs None = None
 fed_by outputs (Some j) = option_map (λ (p : PortId). record { from = p; changes = [] }) (slice_get outputs j)
 
--- one more component stands behind the others, by what is drawn for it
+-- one more component comes after the others, by what is drawn for it
 pub record Adds (drawn : Drawn) (old new : Parts) : Type 0 where
   pub components : new.components.items ≡
       old.components.items ++ component_of (length old.components.items) drawn.machine ∷ []

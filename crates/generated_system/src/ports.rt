@@ -28,7 +28,7 @@ fn port(
     })
 }
 
-/// Puts the ports of a component behind those of the others. It answers the number of its output.
+/// Appends the ports of a component to those of the others. It answers the number of its output.
 pub(crate) fn push_ports(
     alloc: Global,
     ports: &mut Vec<Port>,

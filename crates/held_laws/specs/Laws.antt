@@ -23,7 +23,7 @@ pub record IsReadFrom (packings : List Packing) (kept read : Snapshot) : Type 0 
   pub states : unpacked packings (packed packings kept.states) ≡ Some read.states
   pub others : read ≡ record kept { states = read.states }
 
--- where the states are read back from their bytes, what the resumed run writes is what the run that was held writes behind the instants before
+-- where the states are read back from their bytes, what the resumed run writes is what the run that was held writes after the instants before
 abbrev pub ResumesFromBytes : Type 0
 ResumesFromBytes =
     (r : Run) → IsSound r.system → AreMachines r → WellBehaved r → (packings : List Packing) →

@@ -8,7 +8,7 @@ pub fn steps_within()
 {}
 
 /// A law: where FMUs behave well and their states are read back from their bytes, a run that is resumed with what was kept
-/// writes exactly what the run that was held writes behind the instants before.
+/// writes exactly what the run that was held writes after the instants before.
 pub fn resumes_from_bytes()
     ensures { ResumesFromBytes }
 {

@@ -78,7 +78,7 @@ takes_more old mid new done rest n turns within e t enough =
 take_front : (a b : List ℕ) → take (length a) (a ++ b) ≡ a
 take_front a b = take-append-le (length a) a b (omega arith) ∙ take_all (length a) a (omega arith)
 
--- what was written so far is a front of all that is to be written
+-- what was written so far is a prefix of all that is to be written
 pub front : (bytes done rest : List ℕ) → bytes ≡ done ++ rest → done ≡ take (length done) bytes
 front bytes done rest e = sym (ap (take (length done)) e ∙ take_front done rest)
 
@@ -122,7 +122,7 @@ written_writer old new bytes (Err error) steady bound keeps =
 
 -- ---- all of the bytes
 
--- a call went wrong behind a part
+-- a call went wrong after a part
 pub part_error : (old mid new : StreamView) (bytes done rest : List ℕ) → bytes ≡ done ++ rest → Takes old mid done → new ≡ with_error mid → StopsShort old new bytes
 part_error old mid new bytes done rest split t wrong =
     record { count = length done; mid = mid; takes = subst (Takes old mid) (front bytes done rest split) t; cause = inl wrong }

@@ -35,7 +35,7 @@ abbrev pub after_read : ReadCounts → Result ℕ Error → ReadCounts
 after_read counts (Ok n) = counts
 after_read counts (Err error) = after_error (error_kind error) counts
 
--- one read: the front of the room is the front of what was to come, and is gone from it; none is given into room only at the end; an error takes nothing
+-- one read: the room begins with the first bytes of what was to come, which are gone from it; where the room isn't empty none are given only at the end; an error takes nothing
 pub record Gives (old new : InStreamView) (into : List ℕ) (result : Result ℕ Error) : Type 0 where
   pub within : IsWithinRoom result into
   pub taken : ReadConsumes old.left new.left result into
@@ -53,7 +53,7 @@ pub record Retries {T E : Type 0} (old new : ReadCounts) (result : Result T E) :
   pub signals : ℕ
   pub so : EndsAfter old new signals result
 
--- all the reads of a take: the bytes go from what was to come to the front of the room
+-- all the reads of a take: the bytes go from what was to come to the start of the room
 pub record GivesFront (old new : InStreamView) (into : List ℕ)
     (result : Result ℕ Error) : Type 0 where
   pub within : IsWithinRoom result into

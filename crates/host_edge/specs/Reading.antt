@@ -21,7 +21,7 @@ pub record FileView : Type 0 where
 abbrev pub after_error : FileView → ErrorKind → Option (List ErrorKind)
 after_error view kind = option_map (λ kinds. kinds ++ kind ∷ []) view.errors
 
--- what is left was put behind the bytes, up to a limit; or there was an error
+-- what is left was put after the bytes, up to a limit; or there was an error
 abbrev pub ReadsUpTo : {T : Type 0} → FileView → FileView → ℕ → List ℕ → List ℕ →
     Result T Error → Type 0
 ReadsUpTo old new limit bytes all (Ok count) =

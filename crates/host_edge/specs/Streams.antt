@@ -28,7 +28,7 @@ abbrev pub after_error : ErrorKind → StreamView → StreamView
 after_error Interrupted view = with_signals view 1
 after_error _ view = with_error view
 
--- a write took a front of the bytes; one that took none went wrong
+-- a write took a prefix of the bytes; one that took none went wrong
 abbrev pub Writes : StreamView → StreamView → List ℕ → Result ℕ Error → Type 0
 Writes old new bytes (Ok n) =
     (n ≤ length bytes) × (new ≡ (if n == 0 then with_error old else with_bytes old (take n bytes)))
@@ -39,7 +39,7 @@ abbrev pub Flushes : {T : Type 0} → StreamView → StreamView → Result T Err
 Flushes old new (Ok done) = new ≡ old
 Flushes old new (Err error) = new ≡ with_error old
 
--- a write took some bytes of the front, or a signal broke it off; or it went wrong
+-- a write took some of the first bytes, or a signal broke it off; or it went wrong
 abbrev pub WritesSome : StreamView → StreamView → List ℕ → Result ℕ Error → Type 0
 WritesSome old new bytes (Ok n) =
     new ≡ (if n == 0 then with_signals old 1 else with_bytes old (take n bytes))
@@ -50,7 +50,7 @@ pub record Takes (old new : StreamView) (bytes : List ℕ) : Type 0 where
   pub signals : ℕ
   pub is : new ≡ with_signals (with_bytes old bytes) signals
 
--- a front of the bytes was taken, and then a call went wrong, behind which no other was made; or signals had broken off half of all the calls that are tried
+-- a prefix of the bytes was taken, and then a call went wrong, after which no other was made; or signals had broken off half of all the calls that are tried
 pub record StopsShort (old new : StreamView) (bytes : List ℕ) : Type 0 where
   pub count : ℕ
   pub mid : StreamView

@@ -17,7 +17,7 @@ pub trait OpenedFile {
     /// What it tells: the bytes that are left, and the kinds of the errors that it answered.
     ghost view: { Self → FileView };
 
-    /// Puts what is left behind the bytes, up to a limit.
+    /// Appends what is left to the bytes, up to a limit.
     fn read_up_to(&mut self, limit: u64, bytes: &mut Vec<u8>) -> io::Result<usize>
         ensures { ReadsUpTo (view self.old) (view self.new) limit bytes.old.items bytes.new.items result };
 }

@@ -13,7 +13,7 @@ pub trait InStream {
     /// What it tells: the bytes that are still to come, how many of its reads went wrong, and how many a signal broke off.
     ghost view: { Self → InStreamView };
 
-    /// Moves bytes from the front of those to come to the front of `into`, and answers how many: none exactly at the end of
+    /// Moves bytes from the start of those to come to the start of `into`, and answers how many: none exactly at the end of
     /// all bytes, where `into` isn't empty.
     fn read(&mut self, into: &mut [u8]) -> io::Result<usize>
         ensures { Gives (view self.old) (view self.new) into.new result };

@@ -12,7 +12,7 @@ pub trait Stream {
     /// What it tells: its bytes, how many of its calls went wrong, and how many a signal broke off.
     ghost view: { Self → StreamView };
 
-    /// Writes a front of the bytes, and answers its length.
+    /// Writes a prefix of the bytes, and answers its length.
     fn write(&mut self, bytes: &[u8]) -> io::Result<usize>
         ensures { Writes (view self.old) (view self.new) bytes.now result };
 
@@ -79,7 +79,7 @@ impl<W: Stream> Sink for StreamSink<W> {
             (record { content = (W.view self.old.stream).content; puts = None; faults = self.old.faults })
             (record { content = (W.view self.new.stream).content; puts = None; faults = self.new.faults }) bytes.now result }
 
-        // It fails only where a call of the stream went wrong, and stops there, or behind 2^63 signals.
+        // It fails only where a call of the stream went wrong, and stops there, or after 2^63 signals.
         ensures takes { TakesBytes (W.view self.old.stream) (W.view self.new.stream) bytes.now
             result }
     {
@@ -93,7 +93,7 @@ impl<W: Stream> Sink for StreamSink<W> {
     }
 }
 
-// Writes all of the bytes and flushes them. After an error the stream may have them all, or a part from their front.
+// Writes all of the bytes and flushes them. After an error the stream may have them all, or a prefix of them.
 fn write_through<W: Stream>(stream: &mut W, bytes: &[u8]) -> io::Result<()>
     ensures { TakesBytes (W.view stream.old) (W.view stream.new) bytes.now result }
 {
@@ -103,7 +103,7 @@ fn write_through<W: Stream>(stream: &mut W, bytes: &[u8]) -> io::Result<()>
     }
 }
 
-// Writes all of the bytes, or before an error a part from their front.
+// Writes all of the bytes, or before an error a prefix of them.
 fn write_bytes<W: Stream>(stream: &mut W, bytes: &[u8]) -> io::Result<()>
     ensures { TakesBytes (W.view stream.old) (W.view stream.new) bytes.now result }
 {
@@ -120,7 +120,7 @@ fn write_bytes<W: Stream>(stream: &mut W, bytes: &[u8]) -> io::Result<()>
     Err(ErrorKind::TimedOut.into())
 }
 
-// One write, and how many bytes of the front it took: none where a signal came between.
+// One write, and how many of the first bytes it took: none where a signal came between.
 fn write_some<W: Stream>(stream: &mut W, bytes: &[u8]) -> io::Result<usize>
     ensures bound { IfOk result (λ n. n ≤ length bytes.now) }
     ensures some { WritesSome (W.view stream.old) (W.view stream.new) bytes.now result }

@@ -1,4 +1,4 @@
--- What the bytes of one frame come to: its head, and its texts behind it.
+-- What the bytes of one frame come to: its head, and its texts after it.
 use Rattle.std.proofs.Common.{◌≡◌, inl, inr, ℕ, ◌+◌, ◌-◌, ◌*◌, ◌≤◌, ◌<◌, List, [], ◌∷◌, ◌++◌, length, take, append-nil, refl, sym, ap, ◌∙◌, subst, arith, append_assoc, length-append, length-take}
 use Rattle.std.proofs.lemmas.Bool.{cases_lt}
 use Rattle.std.proofs.lemmas.List.{length-take-le, take-append-le, take-take, take_all, take_at}
@@ -116,7 +116,7 @@ batch_headed count bytes b =
       spelled = ap (take 24) b.batch.spelled ∙ take_at (spelling (batch_head (length b.values))) b.batch.rest 24 (head_length (batch_head (length b.values))) ∙ ap (λ (n : ℕ). spelling (batch_head n)) (sym count_is);
     }
 
--- what goes on behind a head is a batch of as many
+-- what goes on after a head is a batch of as many
 told_count : (count value : ℕ) (bytes more : List ℕ) → IsHeadOf count (take 24 bytes) → 24 ≤ length bytes → IsCallBatch value (bytes ++ more) → value ≡ count
 told_count count value bytes more h long b =
     head_tells value count (take 24 bytes) (subst (IsHeadOf value) (take-append-le 24 bytes more long) (batch_headed value (bytes ++ more) b)) h

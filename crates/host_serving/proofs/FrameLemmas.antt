@@ -1,4 +1,4 @@
--- Bytes that are taken one part behind another.
+-- Bytes that are taken one part after another.
 use Rattle.std.proofs.Common.{◌≡◌, ℕ, ◌+◌, ◌≤◌, List, [], ◌++◌, length, take, Option, Some, None, refl, sym, ap, ◌∙◌, append_assoc}
 use Rattle.std.specs.Io.KnownBytes.{Consumes}
 use Rattle.sim_base.specs.Source.{SourceView}
@@ -17,7 +17,7 @@ consumes_more (Some a) None c xs ys h k = absurd h
 consumes_more (Some a) (Some b) None xs ys h k = absurd k
 consumes_more (Some a) (Some b) (Some c) xs ys h k = h ∙ ap (λ l. xs ++ l) k ∙ sym (append_assoc xs ys c)
 
--- one part behind another
+-- one part after another
 pub takes_more : (a b c : SourceView) (xs ys : List ℕ) → Takes a b xs → Takes b c ys → Takes a c (xs ++ ys)
 takes_more a b c xs ys h k = record { taken = consumes_more a.left b.left c.left xs ys h.taken k.taken; quiet = k.quiet ∙ h.quiet }
 
@@ -29,7 +29,7 @@ consumes-nil (Some xs) = refl
 pub takes_none : (a : SourceView) → Takes a a []
 takes_none a = record { taken = consumes-nil a.left; quiet = refl }
 
--- the front of the room once a part behind a place is written
+-- the start of the room once a part after a place is written
 pub part_written : (into part : List ℕ) (count size n : ℕ) → count ≤ length into → n ≤ length part → take (count + n) (put_mid count size into part) ≡ take count into ++ take n part
 part_written into part count size n within few =
     let whole : take (count + length part) (put_mid count size into part) ≡ take count into ++ part = take-put_mid count size into part (count + length part) refl within in
@@ -37,7 +37,7 @@ part_written into part count size n within few =
     sym (take-take (count + n) (count + length part) (put_mid count size into part) (omega (arith, few)))
     ∙ ap (take (count + n)) whole ∙ ap (λ (m : ℕ). take (m + n) (take count into ++ part)) (sym long) ∙ take-append-add (take count into) part n
 
--- all that stands behind the place
+-- all that comes after the place
 pub front_more : (into part : List ℕ) (count n : ℕ) → count ≤ length into → n ≤ length part → take (count + n) (put_mid count (length into - count) into part) ≡ take count into ++ take n part
 front_more into part count n within few = part_written into part count (length into - count) n within few
 
@@ -59,16 +59,16 @@ filled_more before now after into part count n within so takes =
       subst (Takes before after) (sym (front_more into part count n within takes.within)) (takes_more before now after (take count into) (take n part) so one),
     )
 
--- the beginning of a frame stays where there is room behind it
+-- the beginning of a frame stays where there is room after it
 pub resized : (old new head rest : List ℕ) (n : ℕ) → old ≡ head → new ≡ take n old ++ rest → length head ≡ 24 → 24 ≤ n → take 24 new ≡ head
 resized old new head rest n same e long many =
     let all : take n old ≡ head = ap (take n) same ∙ take_all n head (omega (arith, long, many)) in
     ap (take 24) (e ∙ ap (λ l. l ++ rest) all) ∙ take-append-le 24 head rest (omega (arith, long)) ∙ take_all 24 head (omega (arith, long))
 
--- what was copied to the front of the room
+-- what was copied to the start of the room
 pub copied : (room part : List ℕ) (size : ℕ) → length part ≡ 24 → take 24 (put_mid 0 size room part) ≡ part
 copied room part size long = take-put_mid 0 size room part 24 (omega (arith, long)) (omega arith)
 
--- and a part that was written behind it
+-- and a part that was written after it
 pub written_behind : (room first part : List ℕ) (size n : ℕ) → take 24 room ≡ first → 24 ≤ length room → n ≤ length part → take (24 + n) (put_mid 24 size room part) ≡ first ++ take n part
 written_behind room first part size n front within few = part_written room part 24 size n within few ∙ ap (λ (xs : List ℕ). xs ++ take n part) front

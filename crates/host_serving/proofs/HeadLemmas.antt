@@ -77,7 +77,7 @@ by_call (C.Instantiate event_mode early_return batches) name token front more lo
 by_call call name token front more long some e range can =
     absurd (no_texts (facts_of (kind_of call)).number (detail_of call) 0 (reference_of call) (first_of call (length name)) (last_of call (length token)) front more long some e)
 
--- a frame that goes on behind its head
+-- a frame that goes on after its head
 pub tells_texts : (frame : CallFrame) (front more : List ℕ) → length front ≡ 24 → 0 < length more → IsCallFrame frame (front ++ more) → TellsTexts front more
 tells_texts frame front more long some is =
     by_call frame.call (bytes_at frame.name (front ++ more)) (bytes_at frame.token (front ++ more)) front more long some is.is_frame.spelled is.is_frame.in_range is.is_frame.can_be_sent

@@ -79,7 +79,7 @@ no_last : (front : List Exchange) (last : Exchange) → [] ≡ front ++ last ∷
 no_last [] last e = cc
 no_last (x ∷ front) last e = cc
 
--- behind the last of the calls none is left
+-- after the last of the calls none is left
 none_left : (shape : Shape) (c : Call) (r : Reply) (cs : List Call) (mid new : View) (last : Exchange) → new ≡ mid → grade_of shape c r ≡ G.Good → of c r ≡ last → (1 ≡ suc (length cs)) ⊎ (IsGood shape last → ⊥) → Items shape mid cs [] new
 none_left shape c r [] mid new last rest good is ends = rest
 none_left shape c r (d ∷ cs) mid new last rest good is (inl len) = absurd (omega (arith, len))
@@ -166,7 +166,7 @@ module _ (shape : Shape) (m : Machine) where
         | inr b ↦ b.0 (subst (λ (x : Reply). grade_of shape first x ≡ G.Good) (sym next.looks) good)
       ]
 
-  -- the call that isn't permitted behind good replies
+  -- the call that isn't permitted after good replies
   pub forbids_same : (told : Call) (phase : Phase) (s : MachineState) (calls : List Call) → ItemForbidden shape m told phase s calls → (front left : List Call) (replies : List Reply) (old new : View) (call : Call) →
       calls ≡ front ++ call ∷ left → StandsAt shape m phase s old → length replies ≡ length front → Talks old (exchanges front replies) new → AllGood shape (exchanges front replies) → (Permitted shape new.phase call → ⊥) → told ≡ call
   forbids_same told _ _ _ (Now phase s left' cannot) [] left replies old new call is at len talks good forbidden = cc is

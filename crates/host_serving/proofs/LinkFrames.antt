@@ -14,7 +14,7 @@ use Rattle.link_frames.proofs.CallerLemmas.{batch_begins, call_batches_apart, ca
 use Rattle.host_serving.specs.Frames.{IsBatchOfCalls, IsLinkFrame}
 use Rattle.host_serving.proofs.HeadLemmas.{frame_long}
 
--- the first byte of bytes, of a front of them, and with more behind them
+-- the first byte of bytes, of a prefix of them, and with more after them
 pub first_kept : (bytes more : List ℕ) → 0 < length bytes → slice_index (bytes ++ more) 0 ≡ slice_index bytes 0
 first_kept [] more some = absurd (omega (arith, some))
 first_kept (x ∷ xs) more some = refl
@@ -28,7 +28,7 @@ some_taken : (bytes : List ℕ) (n : ℕ) → 0 < length bytes → 0 < length (t
 some_taken [] n some = absurd (omega (arith, some))
 some_taken (x ∷ xs) n some = (let one : n + 1 ≡ suc n = omega arith in subst (λ (k : ℕ). 0 < length (take k (x ∷ xs))) (sym one) (omega arith))
 
--- ---- fronts
+-- ---- prefixes
 
 pub call_front : (bytes : List ℕ) → IsFront IsCallFrame bytes → IsFront IsLinkFrame bytes
 call_front bytes f = record { value = inl f.value; more = f.more; spelled = f.spelled; goes_on = f.goes_on }
@@ -71,7 +71,7 @@ batch_breaks bytes at batch b =
 
 -- ---- one frame at most
 
--- a frame is of one call or one batch, and none is a proper front of another
+-- a frame is of one call or one batch, and none is a proper prefix of another
 pub link_single : AreSingle IsLinkFrame
 link_single (inl f) (inl g) bytes more is was = let same = call_single f g bytes more is was in (ap (λ (x : CallFrame). inl x) same.0, same.1)
 link_single (inr m) (inr n) bytes more is was = let same = calls_single m n bytes more is was in (ap (λ (k : ℕ). inr k) same.0, same.1)

@@ -34,7 +34,7 @@ use Rattle.host_serving.proofs.ItemLemmas.{Answer, Items, StandsAt, answered, fo
 abbrev Link : Type 0
 Link = CallFrame ⊎ ℕ
 
--- a frame at the front of bytes is what is taken from them
+-- a frame at the start of bytes is what is taken from them
 gets_front : (frame : Link) (front rest bytes : List ℕ) → IsLinkFrame frame front → bytes ≡ front ++ rest → Gets IsLinkFrame bytes frame (length front)
 gets_front frame front rest bytes spelled both =
     let whole = ap length both ∙ length-append front rest in
@@ -51,11 +51,11 @@ got_size a b m n e = cc
 bad_place : (a b : ℕ) → ◌≡◌ {A = Taken Link} (Bad a) (Bad b) → a ≡ b
 bad_place a b e = cc
 
--- what follows a front
+-- what follows a prefix
 behind : (front rest bytes : List ℕ) → bytes ≡ front ++ rest → drop (length front) bytes ≡ rest
 behind front rest bytes both = ap (drop (length front)) both ∙ drop-append_seam front rest
 
--- a front of so many bytes
+-- a prefix of so many bytes
 ahead : (front rest bytes : List ℕ) → bytes ≡ front ++ rest → take (length front) bytes ≡ front
 ahead front rest bytes both = ap (take (length front)) both ∙ take-append-le (length front) front rest (omega arith) ∙ take_all (length front) front (omega arith)
 
@@ -117,7 +117,7 @@ all_taken new bytes taken left end =
     let none : left.rest ≡ [] = subst IsAtEnd left.has end in
     left.both ∙ ap (λ (l : List ℕ). taken ++ l) none ∙ append-nil taken
 
--- bytes that break are no front of others that go on
+-- bytes that break are no prefix of others that go on
 breaks_more : (taken rest bytes : List ℕ) (at : ℕ) → bytes ≡ taken ++ rest → Breaks IsLinkFrame taken at → Breaks IsLinkFrame bytes at
 breaks_more taken rest bytes at both breaks =
     let whole = ap length both ∙ length-append taken rest in
@@ -130,14 +130,14 @@ breaks_more taken rest bytes at both breaks =
 
 -- ---- what the bytes come to, by what was taken of them
 
--- behind the frame of a call
+-- after the frame of a call
 data AtCall (shape : Shape) (m : Machine) (phase : Phase) (s : MachineState) (call : Call) (rest : List ℕ) : List (List ℕ) → ℕ → ServeEnd → Type 0 where
   Refuses : (Permitted shape phase call → ⊥) → AtCall shape m phase s call rest [] 0 (E.NotPermitted call)
   Frees : Permitted shape phase call → call ≡ C.FreeInstance → AtCall shape m phase s call rest (frame_of (as_sent call (m.look s call)) ∷ []) 1 E.Freed
   Goes : (pieces : List (List ℕ)) (count : ℕ) (end : ServeEnd) → Permitted shape phase call → call ≢ C.FreeInstance →
       Comes shape m (next_of shape phase call (Some (m.look s call))) (after m s call) rest pieces count end → AtCall shape m phase s call rest (frame_of (as_sent call (m.look s call)) ∷ pieces) (1 + count) end
 
--- behind a batch of calls
+-- after a batch of calls
 data AtBatch (shape : Shape) (m : Machine) (phase : Phase) (s : MachineState) (calls : List Call) (rest : List ℕ) : List (List ℕ) → ℕ → ServeEnd → Type 0 where
   Halts : (call : Call) → ItemForbidden shape m call phase s calls → AtBatch shape m phase s calls rest [] 0 (E.NotPermitted call)
   Answers : (q : Phase) (z : MachineState) (replies : List Reply) (pieces : List (List ℕ)) (count : ℕ) (end : ServeEnd) → ItemsCome shape m phase s calls replies q z →
@@ -257,7 +257,7 @@ module _ (shape : Shape) (m : Machine) where
 
 -- ---- one frame that was served
 
--- a call that was taken stands at the front of the bytes
+-- a call that was taken stands at the start of the bytes
 starts : (old new : Scene) (pieces : List (List ℕ)) (count : ℕ) (end : ServeEnd) (tells : Tells old pieces count end) (call : Call) (read : TakesCall old.input new.input call) →
     StartsWith tells.bytes call (left_of old.input.left new.input.left tells.bytes read.bytes tells.has read.takes.taken).rest
 starts old new pieces count end tells call read =

@@ -33,7 +33,7 @@ pub record Takes (old new : SourceView) (bytes : List ℕ) : Type 0 where
   pub taken : Consumes old.left new.left bytes
   pub quiet : new.faults ≡ old.faults
 
--- a whole frame of the call was taken, and no byte behind it
+-- a whole frame of the call was taken, and no byte after it
 pub record TakesCall (old new : SourceView) (call : Call) : Type 0 where
   pub frame : CallFrame
   pub bytes : List ℕ
@@ -41,7 +41,7 @@ pub record TakesCall (old new : SourceView) (call : Call) : Type 0 where
   pub is : frame.call ≡ call
   pub takes : Takes old new bytes
 
--- a whole batch of so many calls was taken, which are the front of this room, and no byte behind it
+-- a whole batch of so many calls was taken, which stand at the start of this room, and no byte after it
 pub record TakesBatch (old new : SourceView) (room : List ℕ) (count : ℕ) : Type 0 where
   pub spelled : IsCallBatch count (take (24 * (count + 1)) room)
   pub takes : Takes old new (take (24 * (count + 1)) room)
@@ -93,7 +93,7 @@ eight_at bytes place =
     ∷ slice_index bytes (place + 4) ∷ slice_index bytes (place + 5) ∷
     slice_index bytes (place + 6) ∷ slice_index bytes (place + 7) ∷ []
 
--- so much follows the beginning in any frame that goes on behind it
+-- so much follows the beginning in any frame that goes on after it
 abbrev pub IsRoom : List ℕ → ℕ → Type 0
 IsRoom beginning room =
     (value : CallFrame) (more : List ℕ) → 0 < length more →

@@ -159,7 +159,7 @@ Forbids old new call =
     ((calls : List Call) × TakesCalls old new calls ×
     ForbidsOne old.machine new.machine calls call × (new.output ≡ old.output))
 
--- what ends the serving, right behind the calls that were served
+-- what ends the serving, right after the calls that were served
 abbrev pub EndsBy : Scene → Scene → ServeEnd → Type 0
 EndsBy old new E.Freed =
     (served : Served) × ServesOne old new served × (served.call ≡ C.FreeInstance)
@@ -186,7 +186,7 @@ abbrev pub IsCounted : ServeEnd → ℕ → Type 0
 IsCounted E.TooMany count = 2 ^ 64 - 1 ≤ count
 IsCounted end count = count < 2 ^ 64 - 1
 
--- all of it: the calls that were served, and behind them what ended it
+-- all of it: the calls that were served, and after them what ended it
 pub record HasServed (old new : Scene) (end : ServeEnd) : Type 0 where
   pub served : List Served
   pub last : Scene

@@ -38,7 +38,7 @@ pub record StartsWithBatch (bytes : List ℕ) (calls : List Call) (rest : List �
   pub batch : IsBatchOfCalls calls front
   pub both : bytes ≡ front ++ rest
 
--- the calls of a batch, from a phase and a state of the machine on, with the replies up to the first that isn't good, and the phase and the state behind them
+-- the calls of a batch, from a phase and a state of the machine on, with the replies up to the first that isn't good, and the phase and the state after them
 pub data ItemsCome (shape : Shape) (m : Machine) : Phase → MachineState → List Call → List Reply →
     Phase → MachineState → Type 0 where
   Through : (phase : Phase) (s : MachineState) → ItemsCome shape m phase s [] [] phase s
@@ -52,7 +52,7 @@ pub data ItemsCome (shape : Shape) (m : Machine) : Phase → MachineState → Li
       ItemsCome shape m (next_of shape phase call (Some (m.look s call))) (after m s call) left replies q z →
       ItemsCome shape m phase s (call ∷ left) (m.look s call ∷ replies) q z
 
--- behind good replies this call of a batch isn't permitted
+-- after good replies this call of a batch isn't permitted
 pub data ItemForbidden (shape : Shape) (m : Machine) (call : Call) : Phase → MachineState →
     List Call → Type 0 where
   Now : (phase : Phase) (s : MachineState) (left : List Call) →
@@ -121,7 +121,7 @@ pub record KeepsTo (old new : Scene) (result : ServeEnd) (pieces : List (List �
   pub ends : result ≡ end
   pub output : new.output ≡ with_pieces old.output pieces
 
--- or a take, a put or a call failed, or memory was wanting
+-- or a take, a put or a call failed, or memory ran out
 abbrev pub MayKeepTo : Scene → Scene → ServeEnd → List (List ℕ) → ServeEnd → Type 0
 MayKeepTo old new result pieces end =
     KeepsTo old new result pieces end ⊎ ((result ≡ E.Failed) ⊎ (result ≡ E.Memory))

@@ -1,4 +1,4 @@
-//! One FMU behind a link: the frames of calls come in, and those of its replies go out.
+//! The host's end of a link, with one FMU: the frames of calls come in, and those of its replies go out.
 #![tactic(auto)]
 
 mod reading;

@@ -38,11 +38,11 @@ pub(crate) enum NextFrame {
     Bad { at: u64 },
     /// A take failed.
     Failed,
-    /// No memory is left for the texts of a frame.
+    /// Out of memory for the texts of a frame.
     Memory,
 }
 
-/// Takes the next frame from a source, and no byte behind it. The calls of a batch go into the room, behind its head.
+/// Takes the next frame from a source, and no byte after it. The calls of a batch go into the room, after its head.
 pub(crate) fn next_frame<I: Source>(
     alloc: Global,
     input: &mut I,
@@ -123,7 +123,7 @@ fn no_batch(head: &[u8; HEAD], count: usize) -> NextFrame
     }
 }
 
-// Takes the calls of a batch behind its head.
+// Takes the calls of a batch after its head.
 fn next_items<I: Source>(
     head: &[u8; HEAD],
     calls: usize,
@@ -191,7 +191,7 @@ fn next_with_texts<I: Source>(alloc: Global, head: &[u8; HEAD], input: &mut I) -
     }
 }
 
-// Takes the texts of a frame behind its beginning.
+// Takes the texts of a frame after its beginning.
 fn next_in<I: Source>(frame: &mut [u8], input: &mut I) -> NextFrame
     requires front { IsFront IsCallFrame (take 24 frame.old) }
     requires long { 24 ≤ length frame.old }

@@ -15,7 +15,7 @@ use link_frames::{MOST_ITEMS, put_batch_reply, put_reply};
 use sim_base::{Sink, Source};
 use std::alloc::Global;
 
-/// What ends a serving.
+/// Why serving ended.
 #[derive(Clone, Copy, Debug, Drop, PartialEq, Eq)]
 pub enum ServeEnd {
     /// The instance was freed.
@@ -31,13 +31,14 @@ pub enum ServeEnd {
     Failed,
     /// As many calls were served as are counted: 2^64 - 1. A batch in which that is reached is served to its end.
     TooMany,
-    /// No memory is left for the texts of a frame.
+    /// Out of memory for the texts of a frame.
     Memory,
 }
 
 /// Serves the calls that come as frames, one after another: asks the machine each call that is permitted, and puts the frame
 /// of its reply. The calls of a batch are answered up to the first whose reply isn't good, by one batch of replies; where one
-/// of them isn't permitted nothing is put for them. It ends behind FreeInstance, or where a frame, a call, a count or the input ends it.
+/// of them isn't permitted nothing is put for them. It ends after FreeInstance, or where a frame, a call, a count or the input
+/// ends it.
 pub fn serve<I: Source, O: Sink, M: Peer>(
     alloc: Global,
     input: &mut I,
@@ -217,7 +218,7 @@ fn is_of_kind(reply: &Reply, call: &Call) -> bool
     reply.kind() == call.kind()
 }
 
-// What ends the serving behind a call that was served.
+// What ends the serving after a call that was served.
 fn end_behind(call: Call) -> Next
     ensures { EndsBehind call result }
 {

@@ -1,4 +1,4 @@
--- Outlines that say the same but for the numbers of elements, as that of several documents and that of the one in which each stands in the place of its Component (SSP 1.0: Component; source, type).
+-- Outlines that say the same but for the numbers of elements, as that of several documents and that of the one in which each stands in place of its Component (SSP 1.0: Component; source, type).
 use Rattle.std.specs.Prelude.{◌≡◌, List, [], map}
 use Rattle.std.specs.Option.{option_map}
 use Rattle.sim_base.specs.declared.read_book.ReadNote.{ReadNote}

@@ -13,7 +13,7 @@ ghost use Rattle.system_files.specs.Order.{Agree, Comes, ComesAlone, Found, Sear
 ghost use Rattle.inlined_answers.specs.Alike.{AreTaken, GiveTheSame, IsMade, SayTheSame};
 
 /// Laws: where two outlines say the same but for the numbers of elements, as that of documents that stand in one another and
-/// that of the one document in which each stands in the place of its Component, they make the same system, their bindings
+/// that of the one document in which each stands in place of its Component, they make the same system, their bindings
 /// give the same values, and their FMUs stand in the same folders; so that the files of the one come to what those of the
 /// other come to, and what is loaded of them is the same but for the orders of ports.
 pub fn inlined_answers()

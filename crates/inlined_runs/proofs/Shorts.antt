@@ -95,7 +95,7 @@ goes_to (GoesOn s) d = s
 true_false : true ≡ false → ⊥
 true_false e = cc e
 
--- the run ends here, behind the instant or before it
+-- the run ends here, after the instant or before it
 pub record Stops (r : Run) (s : Situation) : Type 0 where
   pub values : List (Option ℤ)
   pub solves : Solves r s values

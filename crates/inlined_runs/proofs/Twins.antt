@@ -343,7 +343,7 @@ pub record Laws : Type 0 where
   pub fixed : FixedOnce
   pub lost : LostOnce
 
--- an answer of want of memory, or of a put that failed, is none of a call that nothing hinders
+-- a call of which nothing fails answers neither that memory ran out nor that a put failed
 hindered : (h : Happened) (text : List ℕ) → IsUnhindered h → Answers h 11 text → ⊥
 hindered h text hinders (inl few) = hinders.memory few.0
 hindered h text hinders (inr mute) = hinders.puts mute.0
@@ -367,7 +367,7 @@ runs_alike laws h k line asked loaded machines twins find asks known hinders hin
 
 -- ---- no run
 
--- the status with its line, where nothing hinders
+-- the status with its line, where nothing fails
 answered : (h : Happened) (status : ℕ) (text : List ℕ) → IsUnhindered h → AnswersOr11 h status text → (h.status ≡ status) × (h.err_after ≡ with_piece h.err text)
 answered h status text hinders (inl few) = absurd (hindered h memory_line hinders few)
 answered h status text hinders (inr (inl said)) = said

@@ -1,4 +1,4 @@
--- Two calls of the program with the same words: over documents that stand in one another, and over the one document in which each stands in the place of its Component (SSP 1.0: Component; source, type).
+-- Two calls of the program with the same arguments: over documents that stand in one another, and over the one document in which each stands in place of its Component (SSP 1.0: Component; source, type).
 use Rattle.std.specs.Prelude.{◌≡◌, ◌≢◌, ℕ, List, ◌++◌, map, All, None, Some}
 use Rattle.sim_base.specs.Causes.{Rose}
 use Rattle.sim_base.specs.declared.read_book.ReadNote.{ReadNote}
@@ -20,7 +20,7 @@ use Rattle.run_program.specs.Peers.{AreKnown, IsFirstUnknown}
 use Rattle.run_program.specs.Rows.{IsToFind, ReadsAlike}
 use Rattle.run_program.specs.TraceCheck.{KeepsRows}
 
--- two calls that keep the program's rows, with the words of this line, by the same spawner and onto the same sinks
+-- two calls that keep the program's rows, with the arguments of this line, by the same spawner and onto the same sinks
 pub record AreTwins (h k : Happened) (line : Line) : Type 0 where
   pub keeps : KeepsRows h × KeepsRows k
   pub is : IsLine h.words line × IsLine k.words line

@@ -30,8 +30,8 @@ pub fn one_lost_value()
     situation_laws();
 }
 
-/// Laws over two calls of the program with the same words, the one over documents that stand in one another, the other over
-/// one document that says what they say together. Both are to find the same (`found`). Where both do, FMUs that behave
+/// Laws over two calls of the program with the same arguments, the one over documents that stand in one another, the other
+/// over one document that says what they say together. Both are to find the same (`found`). Where both do, FMUs that behave
 /// well as the same machines give the same status, the same bytes on `out` and the same line on `err`, where nothing fails
 /// (`runs`); a model identifier that isn't known is told alike (`unknown`), and so is the size of a system (`sizes`).
 pub fn inlined_runs()

@@ -1,4 +1,4 @@
--- Numbers that lie in their spans are read at once: what the spans of a place are doesn't depend on the numbers behind it.
+-- Numbers that lie in their spans are read at once: what the spans of a place are doesn't depend on the numbers after it.
 use Rattle.std.proofs.Common.{◌≡◌, ℕ, zero, suc, ◌≤◌, Bool, true, false, List, [], ◌∷◌, length, take, drop, refl, sym, subst, ◌∙◌, arith}
 use Rattle.std.specs.Prelude.{if◌then◌else◌, nat_le, nat_lt}
 use Rattle.std.proofs.lemmas.List.{length-drop, length-take, nil_from_length, take-append-drop}
@@ -161,7 +161,7 @@ reference_same OfBatch kind d f r s = refl
 reference_same (CallItem items) kind d f r s = refl
 reference_same (ReplyItem items) kind d f r s = reply_reference (nat_le 2 d) kind f r s
 
--- ---- numbers one behind another
+-- ---- numbers one after another
 
 dropped_bytes : (n : ℕ) (bytes : List ℕ) → AreBytes bytes → AreBytes (drop n bytes)
 dropped_bytes zero bytes h = h

@@ -81,7 +81,7 @@ module _ {V : Type 0} (frame : V → List ℕ → Type 0) (kind : V → Kind) (o
       let behind = frames_long vs rest more in
       omega (arith, size, whole, behind)
 
--- behind the head
+-- after the head
 items_stand : {V : Type 0} (frame : V → List ℕ → Type 0) (kind : V → Kind) (long : (v : V) (front : List ℕ) → frame v front → (kind v ≡ K.Get) ⊎ (kind v ≡ K.Set) → length front ≡ 24) → ItemsStand frame kind
 items_stand frame kind long values bytes i d b lt =
     let size = head_length (batch_head (length values)) in
@@ -167,7 +167,7 @@ frames_one {V} frame kind a b single (v ∷ vs) (w ∷ ws) bytes len (front, res
       | inr ge ↦ (let m = split first tail front rest (sym e) ge in let back = ends_with frame single w v first front m.0 tail rest was is m.1 m.2 in (sym back.0, sym back.1))
     ]
 
--- the head tells how many, and behind it stand their frames
+-- the head tells how many, and after it stand their frames
 one_batch : {V : Type 0} (frame : V → List ℕ → Type 0) (kind : V → Kind) → AreSingle frame →
     ((values others : List V) (bytes : List ℕ) → IsBatch frame kind values bytes → IsBatch frame kind others bytes → length values ≡ length others) → OneBatch frame kind
 one_batch frame kind single counts values others bytes b c =

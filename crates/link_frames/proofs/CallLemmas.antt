@@ -419,7 +419,7 @@ past bytes i j len le = nil_from_length (slice_range bytes i j) (omega (arith, l
 bare : (h : Head) (bytes : List ℕ) → bytes ≡ spelling h ++ ([] ++ []) → length bytes ≡ 24
 bare h bytes e = ap length e ∙ omega (arith, length-append (spelling h) [], head_length h)
 
--- the bytes behind the numbers are what is sent
+-- the bytes after the numbers are what is sent
 part_sent : (call : Call) (name token bytes : List ℕ) (i j : ℕ) → IsFrameOf call name token bytes → 24 ≤ i → sent call (slice_range bytes i j) ≡ slice_range bytes i j
 part_sent (C.Instantiate event_mode early_return batches) name token bytes i j h le = refl
 part_sent (C.EnterInitialization start stop) name token bytes i j h le = sym (past bytes i j (bare (head_of_call (C.EnterInitialization start stop) (length name) (length token)) bytes h.spelled) le)

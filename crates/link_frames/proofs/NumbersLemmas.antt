@@ -1,4 +1,4 @@
--- The numbers that a frame begins with, read one behind another.
+-- The numbers that a frame begins with, read one after another.
 use Rattle.std.proofs.Common.{◌≡◌, ℕ, zero, suc, ◌+◌, ◌-◌, ◌<◌, List, [], ◌∷◌, ◌++◌, length, take, drop, set, refl, sym, ap, subst, ◌∙◌, arith}
 use Rattle.std.proofs.lemmas.List.{length-append, length-take, take_more_set}
 use Rattle.exact_parts.specs.declared.field.Spans.{Spans}

@@ -88,7 +88,7 @@ three_ends : (a b x size : ℕ) → has_room a size ≡ true → 0xF0 ≤ a → 
 three_ends a b x size room wide ok later =
     filled (a ∷ b ∷ x ∷ []) (128 ∷ []) size (four_bytes a b x 128 wide (grind (arith, nat_tests)) ok later refl) (omega arith) (grind (arith, nat_tests))
 
--- ---- where bytes, of which no front is text, stop to begin one
+-- ---- where bytes, of which no prefix is text, stop to begin one
 
 abbrev pub NoFront : List ℕ → Type 0
 NoFront bytes = (n : ℕ) → 0 < n → n ≤ length bytes → IsUtf8 (take n bytes) → ⊥
@@ -126,7 +126,7 @@ room_stops (a ∷ rest) size none some le room = record {
       ];
 }
 
--- a whole character of two bytes or of three would be a front
+-- a whole character of two bytes or of three would be a prefix
 wide_two : (a b : ℕ) (rest : List ℕ) (size : ℕ) → NoFront (a ∷ b ∷ rest) → has_room a size ≡ true → second_ok a b ≡ true → 0xE0 ≤ a
 wide_two a b rest size none room ok =
     elim (leb_tells 0xE0 a) [
@@ -241,7 +241,7 @@ error_ends [] size none some room e = absurd (omega (arith, some))
 error_ends (a ∷ []) size none some room e = one_ends a size room
 error_ends (a ∷ b ∷ rest) size none some room e = two_end (second_ok a b) a b rest size none room refl (sym (error_more a b rest size room) ∙ e)
 
--- ---- behind the whole characters
+-- ---- after the whole characters
 
 pub no_front : (bytes : List ℕ) (valid : ℕ) → IsValidUpTo bytes valid → NoFront (drop valid bytes)
 no_front bytes valid found n some le text =
@@ -323,7 +323,7 @@ whole_front size bytes lt text =
     let f = whole_ends bytes size (subst IsUtf8 all text) lt in
     record { value = tt; more = f.more; spelled = record { size_is = f.size_is; text = f.text }; goes_on = f.goes_on }
 
--- ---- the three answers behind the whole characters, of which `from_utf8` says that there are v bytes
+-- ---- the three answers after the whole characters, of which `from_utf8` says that there are v bytes
 
 part_short : (size n : ℕ) (bytes : List ℕ) → n ≡ min (length bytes) size → length (take n bytes) ≤ size
 part_short size n bytes e = omega (arith, length-take n bytes, e)

@@ -23,7 +23,7 @@ use Rattle.exact_parts.specs.Taking.{Behind}
 abbrev pub batch_head : ℕ → Head
 batch_head count = head 19 0 0 count 0 0
 
--- the frames of these, each of this kind, one behind another
+-- the frames of these, each of this kind, one after another
 abbrev pub AreFrames : {V : Type 0} → (V → List ℕ → Type 0) → (V → Kind) → Kind → List V →
     List ℕ → Type 0
 AreFrames frame kind one [] bytes = bytes ≡ []
@@ -82,7 +82,7 @@ pub record IsHeadOf (count : ℕ) (bytes : List ℕ) : Type 0 where
 
 -- ---- laws
 
--- the i-th item of a batch has the 24 bytes behind the head and the items before it
+-- the i-th item of a batch has the 24 bytes after the head and the items before it
 abbrev pub ItemsStand : {V : Type 0} → (V → List ℕ → Type 0) → (V → Kind) → Type 0
 ItemsStand {V} frame kind =
     (values : List V) (bytes : List ℕ) (i : ℕ) (default : V) →
@@ -113,7 +113,7 @@ IsCallBatch = IsBatchOf IsCallFrame (λ (frame : CallFrame). kind_of frame.call)
 abbrev pub IsReplyBatch : ℕ → List ℕ → Type 0
 IsReplyBatch = IsBatchOf IsReplyFrame kind_of_reply
 
--- ---- the parts of a batch, one behind another
+-- ---- the parts of a batch, one after another
 
 -- what the items are, by the number of the first one's kind
 abbrev pub items_at : ℕ → Items
@@ -129,7 +129,7 @@ ItemsOf side items zero v bytes = bytes ≡ []
 ItemsOf side items (suc left) v bytes =
     Behind (Reads (item_form side items) 7 []) (λ (ns : List ℕ). ItemsOf side items left) v bytes
 
--- the first, and behind it the others, which are as it is
+-- the first, and after it the others, which are as it is
 abbrev pub FirstOf : Side → ℕ → Unit {0} → List ℕ → Type 0
 FirstOf side count =
     Behind (Reads (item_form side Either) 7 []) (λ (ns : List ℕ).
@@ -140,6 +140,6 @@ abbrev pub CountOf : Side → List ℕ → ℕ → List ℕ → Type 0
 CountOf side numbers count bytes =
     (count ≡ slice_index numbers 4) × FirstOf side (slice_index numbers 4) tt bytes
 
--- the head, and behind it the items
+-- the head, and after it the items
 abbrev pub BatchParts : Side → ℕ → List ℕ → Type 0
 BatchParts side = Behind (Reads OfBatch 7 []) (CountOf side)

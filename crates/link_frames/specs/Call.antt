@@ -91,7 +91,7 @@ range start end = record { start = start; end = end }
 abbrev pub bytes_at : Range ℕ → List ℕ → List ℕ
 bytes_at place bytes = slice_range bytes place.start place.end
 
--- a call with the places of its name and its token in the frame, the one right behind the other, and the bytes of the frame
+-- a call with the places of its name and its token in the frame, the one right after the other, and the bytes of the frame
 pub record IsCallFrame (frame : CallFrame) (bytes : List ℕ) : Type 0 where
   pub is_frame : IsFrameOf frame.call (bytes_at frame.name bytes) (bytes_at frame.token bytes) bytes
   pub name_at : frame.name ≡ range 24 (24 + length (bytes_at frame.name bytes))
@@ -170,16 +170,16 @@ pub record IsCallNumbers (numbers : List ℕ) : Type 0 where
   pub name : name_len numbers ≤ text_max
   pub token : token_len numbers ≤ text_max
 
--- ---- the parts of a frame, one behind another
+-- ---- the parts of a frame, one after another
 
--- the token, behind which the frame ends
+-- the token, after which the frame ends
 abbrev pub TokenOf : List ℕ → CallFrame → List ℕ → Type 0
 TokenOf numbers frame bytes = (frame ≡ frame_at numbers) × IsText (token_len numbers) tt bytes
 
--- the name, and behind it the token
+-- the name, and after it the token
 abbrev pub TextsOf : List ℕ → CallFrame → List ℕ → Type 0
 TextsOf numbers = Behind (IsText (name_len numbers)) (λ (name : Unit {0}). TokenOf numbers)
 
--- the numbers, and behind them the texts
+-- the numbers, and after them the texts
 abbrev pub PartsOf : CallFrame → List ℕ → Type 0
 PartsOf = Behind (Reads OfCall 7 []) TextsOf

@@ -166,7 +166,7 @@ done_row K.Free flags qualifier = plain_reply
 done_row K.Terminate flags qualifier = plain_reply
 done_row K.FreeInstance flags qualifier = plain_reply
 
--- a reply: with another status than OK and Warning all behind it is 0
+-- a reply: with another status than OK and Warning all after it is 0
 abbrev pub reply_row : Kind → ℕ → ℕ → ℕ → Row
 reply_row kind status flags qualifier =
     if nat_le 2 status then plain_reply else done_row kind flags qualifier

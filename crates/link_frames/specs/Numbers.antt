@@ -5,14 +5,14 @@ use Rattle.exact_parts.specs.Field.{Field, InSpans, number}
 use Rattle.link_frames.specs.Layout.{kinds_of, row_of, size_at, spans_at, zero_only}
 use Rattle.exact_parts.specs.Taking.{Behind}
 
--- all the numbers, where so many stand behind those before, and the bytes of these
+-- all the numbers, where so many stand after those before, and the bytes of these
 abbrev pub Reads : Form → ℕ → List ℕ → List ℕ → List ℕ → Type 0
 Reads form zero before all bytes = (all ≡ before) × (bytes ≡ [])
 Reads form (suc left) before all bytes =
     Behind (Field (size_at (length before)) (spans_at form before)) (λ (n : ℕ).
     Reads form left (before ++ (n ∷ []))) all bytes
 
--- the numbers of these sizes, one behind another
+-- the numbers of these sizes, one after another
 abbrev pub numbers_by : List ℕ → List ℕ → List ℕ
 numbers_by [] bytes = []
 numbers_by (size ∷ sizes) bytes = number 0 (take size bytes) ∷ numbers_by sizes (drop size bytes)

@@ -63,7 +63,7 @@ fn take_items(side: Side, items: Items, left: usize, bytes: &[u8]) -> Taken<()>
     }
 }
 
-// Takes the first item, and those behind it, which are as it is.
+// Takes the first item, and those after it, which are as it is.
 fn take_first(side: Side, count: usize, bytes: &[u8]) -> Taken<()>
     requires { 1 ≤ count }
     ensures { Takes (FirstOf side count) bytes.now result }
@@ -180,7 +180,7 @@ fn frame_of(call: &Call) -> [u8; 24]
     frame
 }
 
-/// Puts the batch of these calls, and answers its length. What stands behind it stays.
+/// Puts the batch of these calls, and answers its length. What comes after it stays.
 pub fn put_batch(calls: &[Call], out: &mut [u8]) -> usize
     requires has_frame { CanBeBatched calls.now }
     requires has_room { 24 * (length calls.now + 1) ≤ length out.old }
@@ -204,7 +204,7 @@ fn frame_of_reply(reply: &Reply) -> [u8; 24]
     frame
 }
 
-/// Puts the batch of these replies, and answers its length. What stands behind it stays.
+/// Puts the batch of these replies, and answers its length. What comes after it stays.
 pub fn put_batch_reply(replies: &[Reply], out: &mut [u8]) -> usize
     requires has_frame { CanAnswer replies.now }
     requires has_room { 24 * (length replies.now + 1) ≤ length out.old }

@@ -217,7 +217,7 @@ pub fn frame_len(call: &Call, name: &str, token: &str) -> usize
 }
 
 /// Puts the frame of a call, for Instantiate with its texts, the instance's name and its instantiation token; with other
-/// calls the texts aren't used. Answers the frame's length. What stands behind the frame stays.
+/// calls the texts aren't used. Answers the frame's length. What comes after the frame stays.
 pub fn put_call(call: &Call, name: &str, token: &str, out: &mut [u8]) -> usize
     requires has_frame { CanBeSent call.now (length name.now) (length token.now) }
     requires has_room { 24 + length (sent call.now name.now) + length

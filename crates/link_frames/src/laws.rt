@@ -8,7 +8,7 @@ ghost use Rattle.link_frames.specs.Call.{IsCallFrame, IsFrameOf, frame_with, sen
 ghost use Rattle.link_frames.specs.Reply.{IsReplyFrame};
 ghost use Rattle.exact_parts.specs.Taking.{AreSingle};
 
-/// Laws of frames: no frame is a proper front of another and each is of one value, each value has one frame, these are
+/// Laws of frames: no frame is a proper prefix of another and each is of one value, each value has one frame, these are
 /// their lengths, and what is put for a call is what is taken.
 pub fn frame_laws()
     ensures calls { AreSingle IsCallFrame }
@@ -26,7 +26,7 @@ pub fn frame_laws()
         IsCallFrame (frame_with call name token) bytes }
 {}
 
-/// Laws of batches: none is a proper front of another, nor is a batch of a single frame or a single frame of a batch; the
+/// Laws of batches: none is a proper prefix of another, nor is a batch of a single frame or a single frame of a batch; the
 /// bytes of a batch are those of one list of calls or replies, of which the i-th has the 24 bytes from `24 * (i + 1)` on.
 pub fn batch_laws()
     ensures calls { AreSingle IsCallBatch }

@@ -24,7 +24,7 @@ pub(crate) enum Form {
     ReplyItem(Items),
 }
 
-/// The spans of the numbers behind the kind.
+/// The spans of the numbers after the kind.
 #[derive(Clone, Copy, Debug, PartialEq, Eq)]
 pub(crate) struct Row {
     /// the type of the variable, or the status

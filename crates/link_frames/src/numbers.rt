@@ -8,7 +8,7 @@ use exact_parts::{Taken, behind, is_in, number_of, take_number};
 /// The numbers that a frame begins with: kind; type or status; flags; 0; reference or qualifier; two more.
 pub(crate) type Numbers = [u64; 7];
 
-// Takes the numbers from a place on, behind those before.
+// Takes the numbers from a place on, after those before.
 fn take_from(form: Form, place: usize, numbers: Numbers, bytes: &[u8]) -> Taken<Numbers>
     requires { place ≤ 7 }
     ensures { Takes (Reads form (7 - place) (take place numbers)) bytes.now result }
@@ -31,7 +31,7 @@ fn take_from(form: Form, place: usize, numbers: Numbers, bytes: &[u8]) -> Taken<
     }
 }
 
-// What stands behind so many bytes.
+// What comes after so many bytes.
 fn past(bytes: &[u8], size: usize) -> &[u8]
     requires { size ≤ length bytes.now }
     ensures { result.now ≡ drop size bytes.now }

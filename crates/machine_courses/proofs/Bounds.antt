@@ -1,4 +1,4 @@
--- The bound of a step is there: of the points behind one, up to the stop, the least that no step passes over.
+-- The bound of a step is there: of the points after one, up to the stop, the least that no step passes over.
 use Rattle.std.proofs.Common.{◌≡◌, ◌⊎◌, inl, inr, ℕ, zero, suc, ◌+◌, ◌-◌, ◌*◌, ◌<◌, ◌≤◌, List, [], ◌∷◌, Option, Some, None, refl, sym, ap, subst, arith}
 use Rattle.std.proofs.lemmas.Bool.{cases_lt}
 use Rattle.std.proofs.lemmas.Option.{none-some as none_some, same_Some}

@@ -1,4 +1,4 @@
--- The instants of a course of told machines: a front of their run, and with its end their trace.
+-- The instants of a course of told machines: a prefix of their run, and with its end their trace.
 use Rattle.std.proofs.Common.{◌≡◌, ℕ, ℤ, List, [], ◌∷◌, ◌++◌, Option, refl, sym, ap, ◌∙◌, subst, append_assoc, append-nil, false}
 use Rattle.std.specs.Prelude.{All}
 use Rattle.std.proofs.lemmas.List.Elements.{All-append, All-nil}
@@ -55,7 +55,7 @@ none_behind : {A : Type 0} (xs : List A) (x : A) → xs ++ x ∷ [] ≡ [] → �
 none_behind [] x e = absurd (cc)
 none_behind (y ∷ ys) x e = absurd (cc)
 
--- ---- fronts
+-- ---- prefixes
 
 -- without its last instant
 pub front_before : (r : Run) (is : List Instant) (i : Instant) → IsFront r (is ++ i ∷ []) → IsFront r is
@@ -67,7 +67,7 @@ front_before r is i (S.Before s came) = by s (is ++ i ∷ []) came refl where
       S.Before before (subst (CameTo r before) (sym (same_front is earlier i (instant_of before values) (sym e ∙ js_is))) came)
 front_before r is i (Behind s values earlier came solves kept e) = S.Before s (subst (CameTo r s) (sym (same_front is earlier i (instant_of s values) e)) came)
 
--- the run so far, whose points are within those of the plan: before an instant, or behind one
+-- the run so far, whose points are within those of the plan: before an instant, or after one
 pub data Front (r : Run) (is : List Instant) : Type 0 where
   Nowhere : is ≡ [] → Front r is
   Ahead : (z : Situation) → CameTo r z is → IsWithin r.plan z.t z.n → Front r is
@@ -78,7 +78,7 @@ is_front r is (Nowhere none) = S.Nothing none
 is_front r is (Ahead z came within) = S.Before z came
 is_front r is (Past z values earlier came within solves kept is_is) = Behind z values earlier came solves kept is_is
 
--- a trace is a front and what continues it
+-- a trace is a prefix and what continues it
 pub traced_on : (r : Run) (kind : EndKind) (end : ℕ) (s : Situation) (earlier rest : List Instant) → CameTo r s earlier → Continues r s rest kind end → IsTrace r (earlier ++ rest) kind end
 traced_on r kind end _ _ rest (AtFirst s is initial solves kept begins none) on =
     subst (λ (xs : List Instant). IsTrace r (xs ++ rest) kind end) (sym none) (Runs initial solves kept (subst (λ (z : Situation). Continues r z rest kind end) begins on))

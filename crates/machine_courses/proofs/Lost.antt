@@ -33,7 +33,7 @@ use Rattle.machine_courses.specs.Outcomes.{IsLost}
 
 -- ---- a call that failed
 
--- behind another log
+-- after another log
 pub lost_behind : (n : ℕ) (before log : List Sent) (why : Why) → IsLost n log why → IsLost n (before ++ log) why
 lost_behind n before log why l = record {
   link = l.link;

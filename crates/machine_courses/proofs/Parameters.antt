@@ -1,4 +1,4 @@
--- The Sets of bound parameters: behind them told machines have these values.
+-- The Sets of bound parameters: after them told machines have these values.
 use Rattle.std.proofs.Common.{◌≡◌, ℕ, zero, suc, ◌+◌, ◌<◌, ◌==◌, Bool, true, false, List, [], ◌∷◌, ◌++◌, Some, refl, ap, ◌∙◌, arith, get_or}
 use Rattle.std.specs.Prelude.{All, if◌then◌else◌}
 use Rattle.std.specs.List.{AllZip, slice_get}
@@ -111,7 +111,7 @@ all_from k (c ∷ cs) (values ∷ lists) zip =
 pub binding_all : (system : System) (bound : Bound) → BindsParameters system bound → All (IsParameterSet 0 system.components) (binding bound)
 binding_all system bound binds = all_from 0 system.components bound.components binds
 
--- what holds of calls that go on behind a log holds of one of its calls and of those in front of it
+-- what holds of calls that go on after a log holds of one of its calls and of those before it
 pub amid_all : (P : Asking → Type 0) (front : List Sent) (last : Sent) (back : List Sent) (left : List Asking) → All P (askings (front ++ last ∷ back) ++ left) →
     P (asking_of last) × All (λ (s : Sent). P (asking_of s)) front
 amid_all P [] last back left all = (all 0 (asking_of last) (omega arith), All-nil (λ (s : Sent). P (asking_of s)))

@@ -48,7 +48,7 @@ module _ (r : Run) where
     pub solves : Solves r z s.values
     pub states : ss ≡ written r z s.values
 
-  -- behind an instant, which is the last of these
+  -- after an instant, which is the last of these
   pub record Sees (s : Spot) (is : List Instant) : Type 0 where
     pub z : Situation
     pub earlier : List Instant
@@ -76,7 +76,7 @@ module _ (r : Run) where
     pub done : following r sees.z w.s.values ≡ Done
     pub step : IsStep r.system r.plan (over w.s is sees).timers (over w.s is sees).events (over w.s is sees).t w.to
 
-  -- all came to one point behind it, and each keeps what it was asked last
+  -- all came to one point after it, and each keeps what it was asked last
   pub record Lands (w : Way) (point : ℕ) (asked : Bool) (is : List Instant) : Type 0 where
     pub goes : Goes w is
     pub asks : List ℕ

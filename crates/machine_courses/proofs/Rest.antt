@@ -141,7 +141,7 @@ module _ (r : Run) (sound : IsSound r.system) (plan : IsPlan r.plan) (machines :
   goes_on (suc left) z enough reached within V solves =
       goes_again r.plan.limit z (omega arith) (λ y later there inside W solved. goes_on left y (omega (arith, enough, later)) there inside W solved) reached within V solves
 
-  -- a trace behind these instants
+  -- a trace after these instants
   pub record Whole (front : List Instant) : Type 0 where
     pub kind : EndKind
     pub point : ℕ

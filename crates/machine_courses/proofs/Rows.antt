@@ -80,7 +80,7 @@ module _ (r : Run) (s : Spot) (ticks : ℕ → Bool) (is : List Instant) (ss : L
   walk_at P h = subst (λ (n : ℕ). P n c.z.before) (sym c.at.number) (subst (P s.n) (sym c.values) h)
 
 module _ (r : Run) (sound : IsSound r.system) (plan : IsPlan r.plan) (machines : AreMachines r) (ignore : IgnoreSlots r) where
-  -- behind an instant
+  -- after an instant
   module _ (s : Spot) (is : List Instant) (x : Sees r s is) where
     pub sees_situation : IsSituation r x.z
     sees_situation = situation_by r sound machines x.z x.earlier x.at.came

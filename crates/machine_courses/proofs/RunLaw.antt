@@ -46,7 +46,7 @@ made_replies r made log making replies =
     subst (λ (ss : List MachineState). AreReplies r ss log) (stage_states r (I.first_states r) everyone (instantiate_of r.plan.link) made making) (replies_then r (I.first_states r) made log making.good replies)
 
 module _ (r : Run) (sound : IsSound r.system) (plan : IsPlan r.plan) (machines : AreMachines r) (ignore : IgnoreSlots r) where
-  -- behind an instant
+  -- after an instant
   module _ (s : Spot) (again asked : Bool) (is : List Instant) (ss : List MachineState) (x : Says r s again asked is ss) (kind : EndKind) (point : ℕ) where
     ends_by : (f : Following) → by_answers asked again (suc s.n == r.plan.limit) ≡ f → LeadsBy f r x.sees.z s.values (Ends kind point) → IsTrace r is kind point
     ends_by f e leads = trace_seen r s is x.sees kind point (leads_by r x.sees.z s.values f (Ends kind point) (follows r sound plan machines ignore s again asked is ss x ∙ e) leads)

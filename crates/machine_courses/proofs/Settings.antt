@@ -82,7 +82,7 @@ quiet_part k (s ∷ log) all = by (s.component == k) all (λ rest. quiet_part k 
       (on (All-tail (λ (c : Call). 0 < use_in c) s.exchange.call (own k (askings log)) all))
   by false all on = on all
 
--- so do the calls of a walk in front of its last
+-- so do the calls of a walk before its last
 pub like_walk : (span : Span) (k : ℕ) (log front : List Sent) (last : Sent) → log ≡ front ++ last ∷ [] → AreNew span (own k (askings log)) → (m : Machine) (z : MachineState) → IsLike z (state_by m z (part k front))
 like_walk span k log front last is new m z =
     let names = new.names in

@@ -58,7 +58,7 @@ none_falls shapes bad log s = by s.front (s.calls_are ∙ ap (λ (l : List Sent)
   by [] e = absurd (cc)
   by (x ∷ front) e = absurd (cc)
 
--- the pieces of a trace, behind those of a front
+-- the pieces of a trace, after those of a prefix
 pieces_behind : (system : System) (plan : Plan) (is : List Instant) (i : Instant) (rest : List Instant) (kind : EndKind) (point : ℕ) →
     trace_pieces system plan ((is ++ i ∷ []) ++ rest) kind point ≡ pieces_of system plan is ++ text_of i ∷ (map text_of rest ++ end_text kind point ∷ [])
 pieces_behind system plan is i rest kind point =

@@ -11,7 +11,7 @@ use Rattle.run_model.specs.Trace.{Leads, instant_of}
 use Rattle.event_iteration.specs.Lost.{IsFirstLost}
 use Rattle.event_iteration.specs.declared.lost.LostValue.{LostValue}
 
--- the run comes to this situation behind these instants
+-- the run comes to this situation after these instants
 pub data CameTo (r : Run) : Situation → List Instant → Type 0 where
   AtFirst : (s : Situation) (is : List Instant) (initial : List (Option ℤ)) →
       SolvesInitially r initial →
@@ -22,7 +22,7 @@ pub data CameTo (r : Run) : Situation → List Instant → Type 0 where
       CameTo r before earlier → Solves r before values → Leads r before values (GoesOn s) →
       is ≡ earlier ++ instant_of before values ∷ [] → CameTo r s is
 
--- the run begins with these instants, whatever is behind the last
+-- the run begins with these instants, whatever is after the last
 pub data IsFront (r : Run) (is : List Instant) : Type 0 where
   Nothing : is ≡ [] → IsFront r is
   Before : (s : Situation) → CameTo r s is → IsFront r is

@@ -18,7 +18,7 @@ use Rattle.calling_sequence.specs.Ends.{EndsBy}
 use Rattle.system_model.specs.Plans.{IsPlan}
 use Rattle.machine_courses.specs.Outcomes.{IsLost, Output, PutsRun, TracesWell}
 
--- each machine was made, and then a run of the system by its plan, whose replies are theirs, ended so with this log behind these instants, and put this
+-- each machine was made, and then a run of the system by its plan, whose replies are theirs, ended so with this log after these instants, and put this
 pub record IsRunOf (r : Run) (made log : List Sent) (is : List Instant) (end : RunEnd)
     (o : Output) : Type 0 where
   pub sound : IsSound r.system

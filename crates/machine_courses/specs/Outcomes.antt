@@ -16,7 +16,7 @@ use Rattle.calling_sequence.specs.Ends.{header_of, pieces_of, text_of, trace_pie
 use Rattle.calling_sequence.specs.Puts.{CutsPiece, with_pieces}
 use Rattle.machine_courses.specs.Fronts.{IsFront, LacksStepAt, LosesAt}
 
--- what a sink was before and is behind a run, and how many instants were counted
+-- what a sink was before and is after a run, and how many instants were counted
 pub record Output : Type 0 where
   pub before : SinkView
   pub after : SinkView
@@ -43,13 +43,13 @@ pub record PutsBroken (r : Run) (o : Output) : Type 0 where
   pub front : IsFront r is
   pub text : PutsText r o is K.Fault point
 
--- a piece behind the text of these instants: the next instant of the run, or an end line
+-- a piece after the text of these instants: the next instant of the run, or an end line
 abbrev pub IsNextPiece : Run → List Instant → List ℕ → Type 0
 IsNextPiece r is piece =
     ((i : Instant) × IsFront r (is ++ i ∷ []) × (piece ≡ text_of i)) ⊎
     ((kind : EndKind) × (point : ℕ) × (piece ≡ end_text kind point))
 
--- the header's put failed, or that of a piece behind the text of the run so far
+-- the header's put failed, or that of a piece after the text of the run so far
 pub record CutsFront (r : Run) (o : Output) : Type 0 where
   pub is : List Instant
   pub front : IsFront r is
@@ -81,7 +81,7 @@ pub record IsLost (n : ℕ) (log : List Sent) (why : Why) : Type 0 where
   pub within : last.component < n
   pub unanswered : is_err last.exchange.result ≡ true
 
--- the put of one piece of the trace failed, behind those before it
+-- the put of one piece of the trace failed, after those before it
 pub record CutsTrace (r : Run) (o : Output) : Type 0 where
   pub is : List Instant
   pub kind : EndKind

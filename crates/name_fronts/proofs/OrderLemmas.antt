@@ -1,4 +1,4 @@
--- Fronts of texts and the order of their bytes.
+-- Prefixes of texts and the order of their bytes.
 use Rattle.std.proofs.Common.{◌≡◌, ℕ, ◌≤◌, true, false, List, [], ◌∷◌, ◌++◌, refl, sym, ap, ◌∙◌, arith, nat_lt}
 use Rattle.std.specs.Ordering.{is_lt, nat_cmp}
 use Rattle.std.specs.Cmp.Lexicographic.{slice_cmp}
@@ -6,11 +6,11 @@ use Rattle.std.proofs.lemmas.Bool.Decides.{nat_tests}
 use Rattle.std.proofs.lemmas.Grind.{common_steps}
 use Rattle.name_fronts.specs.Fronts.{IsFront}
 
--- behind equal first bytes the rest decides
+-- after equal first bytes the rest decides
 rest_decides : (x y : ℕ) (xs ys : List ℕ) → y ≡ x → is_lt (slice_cmp nat_cmp (y ∷ ys) (x ∷ xs)) ≡ false → is_lt (slice_cmp nat_cmp ys xs) ≡ false
 rest_decides x y xs ys same above = grind (arith, nat_tests, common_steps)
 
--- a text that stands between a front of another and that one begins with the front
+-- a text that stands between a prefix of another and that one begins with the prefix
 pub between : (front middle text : List ℕ) → is_lt (slice_cmp nat_cmp middle front) ≡ false → is_lt (slice_cmp nat_cmp text middle) ≡ false
     → IsFront front text → IsFront front middle
 between [] middle text above below is = (middle, refl)
@@ -45,7 +45,7 @@ not_above (x ∷ xs) (y ∷ ys) (z ∷ zs) above below =
           grind (arith, nat_tests, common_steps)
     ] refl
 
--- a front of a text isn't above it
+-- a prefix of a text isn't above it
 pub front_below : (front text : List ℕ) → IsFront front text → is_lt (slice_cmp nat_cmp text front) ≡ false
 front_below [] [] is = refl
 front_below [] (y ∷ ys) is = refl

@@ -56,12 +56,12 @@ step sorted shorter text at e (Some m) rising links there link below =
       ] refl;
     }
 
--- it stands behind the place
+-- it comes after the place
 abbrev pub IsBehind : ℕ → Option ℕ → Type 0
 IsBehind k None = Unit {0}
 IsBehind k (Some m) = m < k
 
--- an entry behind the place has this place among the paths, and begins the name
+-- an entry after the place has this place among the paths, and begins the name
 pub record IsTold (sorted : List Entry) (name : List ℕ) (next : Option ℕ) (place : ℕ) : Type 0 where
   pub k : ℕ
   pub entry : Entry
@@ -74,7 +74,7 @@ pub record IsWalkNext (sorted : List Entry) (name : List ℕ) (at : ℕ) (last :
   pub valid : IfSome last (λ m. (m < length sorted) × IsUpTo sorted name m)
   pub covers : (k : ℕ) → k < at → BeginsAt sorted name k → IsAtMost k last
 
--- all that stand behind the place and begin the name are told, and each that is told stands behind it
+-- all that come after the place and begin the name are told, and each that is told comes after it
 pub record IsWalked (sorted : List Entry) (name : List ℕ) (places : List ℕ) (next : Option ℕ) : Type 0 where
   pub valid : IfSome next (λ m. (m < length sorted) × IsUpTo sorted name m)
   pub covers : (k : ℕ) (e : Entry) → slice_get sorted k ≡ Some e → IsFront e.0.now name → IsAtMost k next ⊎ Contains places e.1

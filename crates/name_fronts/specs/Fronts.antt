@@ -31,7 +31,7 @@ pub record AreFronts (paths : List (List ℕ)) (name : List ℕ) (places : List 
 abbrev pub Entry : Type 0
 Entry = Bor (List ℕ) × ℕ
 
--- no path stands behind a greater one
+-- no path comes after a greater one
 abbrev pub IsRising : List Entry → Type 0
 IsRising sorted =
     (i j : ℕ) (a b : Entry) → i ≤ j → slice_get sorted i ≡ Some a → slice_get sorted j ≡ Some b →

@@ -62,7 +62,7 @@ places_top ns = places_inner 0 0 1 ns ∙ from_none (map (λ (n : NestedComponen
     from_none [] = refl
     from_none (x ∷ xs) = let e : x + 0 ≡ x = omega arith in ap (λ (y : ℕ). y ∷ map (λ (x : ℕ). x + 0) xs) e ∙ ap (λ (ys : List ℕ). x ∷ ys) (from_none xs)
 
--- the inner document's stand in the place of the first that waited, and the others behind them
+-- the inner document's stand in place of the first that waited, and the others after them
 pub placed_more : (s : Seam) (document level count : ℕ) (ns : List NestedComponent) (ws all : List Waiting) → s.component < count → AreBetween 0 s.components (map (λ (n : NestedComponent). n.component) ns)
     → AreBetween (suc s.component) count (map (λ (w : Waiting). w.component) ws) → all ≡ map (waiting_from s.component document level) ns ++ map (moved_waiting s) ws
     → AreBetween 0 ((count - 1) + s.components) (map (λ (w : Waiting). w.component) all)

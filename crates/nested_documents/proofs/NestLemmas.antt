@@ -16,7 +16,7 @@ use Rattle.nested_documents.specs.States.{gathered}
 use Rattle.nested_documents.proofs.BetweenLemmas.{placed_more}
 use Rattle.nested_documents.proofs.PutLemmas.{length_inlined}
 
--- it, and those behind it
+-- it, and those after it
 pub first_of : (ws : List Waiting) (w : Waiting) → Some w ≡ slice_get ws 0 → ws ≡ w ∷ drop 1 ws
 first_of [] w e = absurd (none-some w (sym e))
 first_of (v ∷ vs) w e = ap (λ (x : Waiting). x ∷ vs) (sym (same_Some w v e))
@@ -30,7 +30,7 @@ taken_first (v ∷ vs) w rest less e f = ap (λ (x : Waiting). x ∷ vs) (sym e)
 pub first_within : (high : ℕ) (all : List Waiting) (w : Waiting) (rest : List Waiting) → all ≡ w ∷ rest → AreBetween 0 high (waiting_places all) → w.component < high
 first_within high all w rest e b = (subst (λ (ws : List Waiting). AreBetween 0 high (waiting_places ws)) e b).1.0
 
--- and the others' places are behind it
+-- and the others' places are after it
 pub rest_behind : (high : ℕ) (all : List Waiting) (w : Waiting) (rest : List Waiting) → all ≡ w ∷ rest → AreBetween 0 high (waiting_places all) → AreBetween (suc w.component) high (waiting_places rest)
 rest_behind high all w rest e b = (subst (λ (ws : List Waiting). AreBetween 0 high (waiting_places ws)) e b).1.1
 

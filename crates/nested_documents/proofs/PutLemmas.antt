@@ -6,7 +6,7 @@ use Rattle.ssd_tree.specs.declared.tree.SystemTree.{SystemTree}
 use Rattle.nested_documents.specs.declared.seam.Frame.{Frame}
 use Rattle.nested_documents.specs.Inlining.{inlined, put}
 
--- what stood behind was taken off, then what goes, and then the rest was put on
+-- what came after was taken off, then what goes, and then the rest was put on
 pub put_is : {A : Type 0} (at gone : ℕ) (inner outer front joined whole : List A) → front ≡ take at (take (at + gone) outer) → joined ≡ front ++ inner → whole ≡ joined ++ drop (at + gone) outer → whole ≡ put at gone inner outer
 put_is {A} at gone inner outer front joined whole e f g =
     let h : take at (take (at + gone) outer) ≡ take at outer = take-take at (at + gone) outer (omega arith) in

@@ -81,14 +81,14 @@ one_more rs ss r e =
 pub part_more : (rs ss : List Run) (r : Run) (document node count : ℕ) → ss ≡ rs ++ r ∷ [] → r.document ≡ document → r.node ≡ node → r.count ≡ count → elements_in ss ≡ elements_in rs ++ run document node count
 part_more rs ss r document node count e d n c = one_more rs ss r e ∙ ap (λ (xs : List Place). elements_in rs ++ xs) (rw (d, n, c) refl)
 
--- the front, a whole document and the rest
+-- the prefix, a whole document and the rest
 pub put_run : (front back joined all : List Run) (whole : Run) (document count at : ℕ) (elements : List Place) → joined ≡ front ++ whole ∷ [] → all ≡ joined ++ back → whole.document ≡ document → whole.node ≡ 0 → whole.count ≡ count → elements_in front ≡ take at elements → elements_in back ≡ drop at elements → elements_in all ≡ with_elements at document count elements
 put_run front back joined all whole document count at elements e f d n c g h =
     let j : elements_in joined ≡ take at elements ++ run document 0 count = part_more front joined whole document 0 count e d n c ∙ ap (λ (xs : List Place). xs ++ run document 0 count) g in
     ap elements_in f ∙ (places_append joined back
     ∙ (ap (λ (xs : List Place). xs ++ elements_in back) j ∙ (ap (λ (xs : List Place). (take at elements ++ run document 0 count) ++ xs) h ∙ append_assoc (take at elements) (run document 0 count) (drop at elements))))
 
--- the runs from one on: that one and those behind it
+-- the runs from one on: that one and those after it
 from_one : (rs : List Run) (i : ℕ) (r : Run) → i < length rs → r ≡ get_or rs i r → elements_in (drop i rs) ≡ run r.document r.node r.count ++ elements_in (drop (i + 1) rs)
 from_one rs i r less is =
     let e : drop i rs ≡ r ∷ drop (i + 1) rs = rw (add-one, drop-cons rs i r, ← is) refl in

@@ -1,4 +1,4 @@
--- Two documents put together, one of which stands in the place of a Component of the other (SSP 1.0: Component; type, source). Each list is in the order of the whole.
+-- Two documents put together, one of which stands in place of a Component of the other (SSP 1.0: Component; type, source). Each list is in the order of the whole.
 use Rattle.std.specs.Prelude.{ℕ, ◌+◌, ◌==◌, ◌&&◌, nat_lt, Bool, true, false, List, ◌++◌, length, map, take, drop, count_by, position, unwrap_or, bytes_eq, Option}
 use Rattle.ssd_tree.specs.declared.tree.ConnectorKind.{ConnectorKind}
 use Rattle.ssd_tree.specs.declared.tree.ConnectorKind.TheVariants as kind
@@ -68,7 +68,7 @@ is_inner wanted x =
 abbrev pub inner_place : List Connector → Connector → Option ℕ
 inner_place inner wanted = position (is_inner wanted) inner
 
--- they stand right behind the connectors before the Component
+-- they stand right after the connectors before the Component
 abbrev pub own_count : ℕ → List Connector → ℕ
 own_count component connectors = count_by (λ (x : Connector). is_of component x.owner) connectors
 
@@ -85,7 +85,7 @@ inner_ends s outer inner = map (inner_end s inner) (own_connectors s outer)
 
 -- ---- the whole
 
--- the inner parts in the place of so many of the outer ones
+-- the inner parts in place of so many of the outer ones
 abbrev pub put : {A : Type 0} → ℕ → ℕ → List A → List A → List A
 put at gone inner outer = take at outer ++ (inner ++ drop (at + gone) outer)
 
@@ -106,7 +106,7 @@ put_together s f ends outer inner = record {
       (map (moved_binding s f Outer) outer.bindings);
 }
 
--- the inner document, with so many elements, stands in the place of a Component of the outer one
+-- the inner document, with so many elements, stands in place of a Component of the outer one
 abbrev pub inlined : SystemTree → ℕ → ComponentPart → Frame → SystemTree → ℕ → SystemTree
 inlined outer place c f inner elements =
     let s = seam_of outer place c inner elements in

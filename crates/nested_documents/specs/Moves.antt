@@ -1,5 +1,5 @@
--- Where the parts of two documents go, one of which stands in the place of a Component of the other (SSP 1.0: Component; source, type).
--- The elements of the inner document stand before the Component's element, and its parts in the place of the Component.
+-- Where the parts of two documents go, one of which stands in place of a Component of the other (SSP 1.0: Component; source, type).
+-- The elements of the inner document stand before the Component's element, and its parts in place of the Component.
 use Rattle.std.specs.Prelude.{ℕ, ◌+◌, ◌-◌, ◌==◌, nat_lt, nat_le, List, ◌∷◌, ◌++◌, length, Option, Some, None, option_map, slice_get, if◌then◌else◌}
 use Rattle.std.specs.Option.{option_map_or}
 use Rattle.ssd_tree.specs.declared.tree.Owner.{Owner}
@@ -20,7 +20,7 @@ use Rattle.nested_documents.specs.declared.seam.Frame.{Frame}
 
 -- ---- places
 
--- the place of what stood at a place, where so many more were put behind the first so many
+-- the place of what stood at a place, where so many more were put after the first so many
 abbrev pub behind : ℕ → ℕ → ℕ → ℕ
 behind before more place = if nat_lt place before then place else place + more
 
@@ -32,7 +32,7 @@ abbrev pub moved_system : Seam → Side → ℕ → ℕ
 moved_system s Outer place = behind s.systems_before s.systems place
 moved_system s Inner place = place + s.systems_before
 
--- one Component goes: those behind it move up by one
+-- one Component goes: those after it move up by one
 abbrev pub moved_component : Seam → Side → ℕ → ℕ
 moved_component s Outer place =
     if nat_le place s.component then place else (place - 1) + s.components

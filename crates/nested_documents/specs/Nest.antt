@@ -34,7 +34,7 @@ pub record WaitsFirst (n : Gathered) (w : Waiting) (rest : List Waiting)
 abbrev pub fmus_in : Gathered → ℕ
 fmus_in n = length n.tree.components - length n.waiting
 
--- what counts for the document that goes in the place of a Component: the FMUs before it, and its name with a dot
+-- what counts for the document that goes in place of a Component: the FMUs before it, and its name with a dot
 abbrev pub setting_in : Gathered → ComponentPart → Setting
 setting_in n c = record { nests = true; fmus = fmus_in n; name_above = length c.name + 1 }
 
@@ -71,7 +71,7 @@ first_lacking own inner =
     option_map (λ (x : Connector). x.node)
     (find (λ (x : Connector). not (is_some (inner_place inner x))) own)
 
--- where a Component of the document with a number waits, whose Components stand in the whole behind so many, at this level
+-- where a Component of the document with a number waits, whose Components stand in the whole after so many, at this level
 abbrev pub waiting_from : ℕ → ℕ → ℕ → NestedComponent → Waiting
 waiting_from before document level x = record {
   component = x.component + before;
@@ -107,7 +107,7 @@ CanAdd n =
     (w : Waiting) × (rest : List Waiting) × (n.waiting ≡ w ∷ rest) ×
     (is_refused w n.documents ≡ false)
 
--- the document stands in the place of the first that waited, and its own wait before the others
+-- the document stands in place of the first that waited, and its own wait before the others
 pub record IsAdded (old : Gathered) (d : Document) (new : Gathered) : Type 0 where
   pub next : Waiting
   pub rest : List Waiting

@@ -9,7 +9,7 @@ run document node zero = []
 run document node (suc count) =
     record { document = document; node = node } ∷ run document (suc node) count
 
--- the elements of these runs, one behind the other
+-- the elements of these runs, one after the other
 abbrev pub elements_in : List Run → List Place
 elements_in [] = []
 elements_in (r ∷ rs) = run r.document r.node r.count ++ elements_in rs

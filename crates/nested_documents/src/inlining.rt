@@ -1,4 +1,4 @@
-//! A document in the place of a Component of another.
+//! A document in place of a Component of another.
 ghost use Rattle.std.specs.Prelude.{◌≡◌, ◌+◌, ◌<◌, ◌≤◌, ◌==◌, nat_lt, IfOk, count_by, drop, length, map, slice_get, vec_len};
 ghost use Rattle.ssd_tree.specs.declared.tree.ComponentPart.{ComponentPart};
 ghost use Rattle.nested_documents.specs.Moves.{moved_binding, moved_component_part, moved_connection, moved_connector_part, moved_system_part};
@@ -12,8 +12,8 @@ use doc_tables::ScopedPlaces;
 use ssd_tree::{Binding, ComponentPart, Connection, Connector, Owner, Parts, SystemPart};
 use std::alloc::{AllocError, Global};
 
-/// The parts of two documents where the inner one, which has so many elements, stands in the place of a Component of the
-/// outer one. Its outermost System has the connectors of the Component, and the Component's bindings stand behind all of
+/// The parts of two documents where the inner one, which has so many elements, stands in place of a Component of the
+/// outer one. Its outermost System has the connectors of the Component, and the Component's bindings come after all of
 /// its own.
 pub fn inlined(
     alloc: Global,
@@ -102,7 +102,7 @@ fn own_count(connectors: &[Connector], component: usize) -> usize
         .count()
 }
 
-// The inner parts in the place of some of the outer ones.
+// The inner parts in place of some of the outer ones.
 fn put<T: Drop>(outer: Vec<T>, at: usize, gone: usize, inner: Vec<T>) -> Result<Vec<T>, AllocError>
     requires { at + gone ≤ vec_len outer }
     ensures { IfOk result (λ whole. whole.items ≡ put at gone inner.items outer.items) }

@@ -172,7 +172,7 @@ impl Nest {
             .saturating_sub(self.waiting.len())
     }
 
-    // What counts for the document that goes in the place of a Component.
+    // What counts for the document that goes in place of a Component.
     fn setting(&self, component: &ComponentPart) -> Result<Setting, AllocError>
         ensures { IfOk result (λ setting. setting ≡ setting_in (gathered self.now) component.now) }
     {
@@ -222,7 +222,7 @@ impl Nest {
         })
     }
 
-    /// The next document, in the place of the first Component that waits.
+    /// The next document, in place of the first Component that waits.
     pub fn add(self, alloc: Global, document: DocumentParts) -> Result<Nest, AllocError>
         requires { CanAdd (gathered self) }
         ensures { IfOk result (λ nest. IsAdded (gathered self) (document_of document) (gathered nest)) }

@@ -30,7 +30,7 @@ impl Model for Numbers {
     ghost view = { λ a. elements_in a.runs.items };
 }
 
-// The first elements of a run behind others, at most so many.
+// The first elements of a run after others, at most so many.
 fn push_first(runs: &mut Vec<Run>, one: &Run, most: usize) -> Result<(), AllocError>
     ensures { OnOk result (elements_in runs.new.items ≡ elements_in runs.old.items
         ++ run one.now.document one.now.node (min one.now.count most)) }
@@ -46,7 +46,7 @@ fn push_first(runs: &mut Vec<Run>, one: &Run, most: usize) -> Result<(), AllocEr
     Ok(())
 }
 
-// The elements of a run but the first, so many, behind others.
+// The elements of a run but the first, so many, after others.
 fn push_behind(runs: &mut Vec<Run>, one: &Run, less: usize) -> Result<(), AllocError>
     ensures { OnOk result (elements_in runs.new.items ≡ elements_in runs.old.items
         ++ run one.now.document (one.now.node + less) (one.now.count - less)) }
@@ -79,7 +79,7 @@ fn place_among(runs: &[Run], number: usize) -> Option<Place>
     None
 }
 
-// The first elements of these runs, so many, and those behind them.
+// The first elements of these runs, so many, and those after them.
 fn split(alloc: Global, runs: &[Run], at: usize) -> Result<(Vec<Run>, Vec<Run>), AllocError>
     ensures front { IfOk result
         (λ both. elements_in both.0.items ≡ take at (elements_in runs.now)) }

@@ -1,7 +1,7 @@
-//! Elements of a document that stand one behind the other in the whole.
+//! Elements of a document that stand one after the other in the whole.
 ghost use Rattle.std.specs.Prelude.{◌+◌, ◌<◌, ◌^◌};
 
-/// So many elements of a document, one behind the other.
+/// So many elements of a document, one after the other.
 #[derive(Clone, Copy, Drop)]
 pub(crate) struct Run {
     pub(crate) document: usize,

@@ -1,4 +1,4 @@
-//! Where a document goes that stands in the place of a Component.
+//! Where a document goes that stands in place of a Component.
 ghost use Rattle.std.specs.Prelude.{◌≡◌, ◌+◌, IfOk, option_map};
 ghost use Rattle.nested_documents.specs.Moves.{behind, moved_component, moved_connector, moved_node, moved_owner, moved_system};
 
@@ -52,7 +52,7 @@ pub(crate) fn sum(a: usize, b: usize) -> Result<usize, AllocError>
     a.checked_add(b).ok_or(AllocError)
 }
 
-// The place of what stood at `place`, where `more` were put behind the first `before`.
+// The place of what stood at `place`, where `more` were put after the first `before`.
 fn behind(place: usize, before: usize, more: usize) -> Result<usize, AllocError>
     ensures { IfOk result (λ moved. moved ≡ behind before more place) }
 {
@@ -84,7 +84,7 @@ impl Seam {
         }
     }
 
-    /// The place of a Component in the whole; one behind that which goes is one place less far behind.
+    /// The place of a Component in the whole; one after the Component that goes moves up by a place.
     pub(crate) fn component(&self, side: Side, place: usize) -> Result<usize, AllocError>
         ensures { IfOk result (λ moved. moved ≡ moved_component self.now side place) }
     {

@@ -44,7 +44,7 @@ at_all P [] i x all at = absurd (none-some x at)
 at_all P (y ∷ ys) zero x all at = subst P (same_Some y x at) (All-head P y ys all)
 at_all P (y ∷ ys) (suc i) x all at = at_all P ys i x (All-tail P y ys all) at
 
--- behind a list nothing stands
+-- after a list nothing stands
 past : {A : Type 0} (xs : List A) (i : ℕ) → slice_get xs i ≡ None → length xs ≤ i
 past [] i e = omega arith
 past (x ∷ xs) zero e = absurd (none-some x (sym e))

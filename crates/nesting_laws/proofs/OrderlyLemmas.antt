@@ -156,7 +156,7 @@ module _ (outer inner : SystemTree) (k : ℕ) (c : ComponentPart) (f : Frame) (e
   ]
 
   module _ (out : IsOrderly count outer) (within : IsOrderly elements inner) where
-    -- a System before the Component's element stands before its place, and one behind it behind
+    -- a System before the Component's element stands before its place, and one after it after
     place_before : (i : ℕ) (x : SystemPart) → slice_get outer.systems i ≡ Some x → i < p → x.node < c.node
     place_before i x at less = elim (either x.node c.node) [
       | inl a ↦ a

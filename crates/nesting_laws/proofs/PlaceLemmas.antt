@@ -64,7 +64,7 @@ put_back at gone ys xs i x le past there =
     let g : (at + gone) + j ≡ i = omega arith in
     ap (slice_get (put at gone ys xs)) e ∙ (append_back (take at xs) (ys ++ drop (at + gone) xs) (length ys + j) ∙ (append_back ys (drop (at + gone) xs) j ∙ (drop_get (at + gone) j xs ∙ (ap (slice_get xs) g ∙ there))))
 
--- a part of the whole is one before, an inner one, or one behind
+-- a part of the whole is one before, an inner one, or one after
 pub data IsAt {A : Type 0} (at gone : ℕ) (ys xs : List A) (j : ℕ) (z : A) : Type 0 where
   Front : j < at → slice_get xs j ≡ Some z → IsAt at gone ys xs j z
   Inside : (i : ℕ) → j ≡ i + at → slice_get ys i ≡ Some z → IsAt at gone ys xs j z

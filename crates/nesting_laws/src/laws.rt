@@ -20,7 +20,7 @@ use flatten::whole_documents;
 use ssd_tree::{one_nested, one_tree, plain_paths};
 use structure_laws::{named_trees, orderly_trees};
 
-/// Laws: where a document stands in the place of a Component, Systems and Components of the whole stand behind what they stand
+/// Laws: where a document stands in place of a Component, Systems and Components of the whole come after what they stand
 /// in, as they do in both documents; and full names of the whole are those of its Systems, as they are in both documents.
 pub fn inlined_laws()
     ensures orderly { (outer inner : SystemTree) (place : ℕ) (c : ComponentPart) (f : Frame)

@@ -46,7 +46,7 @@ ends_free shape reply h = refl
 
 -- ---- the state that is saved
 
--- whether one is held behind a call with a good answer, and behind one with another
+-- whether one is held after a call with a good answer, and after one with another
 abbrev pub saved_good : Bool → Call → Bool
 saved_good saved C.Save = true
 saved_good saved C.Free = false

@@ -24,7 +24,7 @@ use Rattle.parallel_step.specs.Lifted.{AllSent, IsOwn, Lifted, ask_of, bad_from,
 use Rattle.parallel_step.specs.Round.{EachPair, WasSent, Works, call_in}
 use Rattle.parallel_step.proofs.Pairs.{pairs_head, pairs_tail}
 
--- the last of these answers isn't good, and those in front of it are
+-- the last of these answers isn't good, and those before it are
 record FirstBad (ss : List Shape) (log : List Sent) (p : BadAnswer) : Type 0 where
   front : List Sent
   last : Sent
@@ -34,7 +34,7 @@ record FirstBad (ss : List Shape) (log : List Sent) (p : BadAnswer) : Type 0 whe
   component : last.component ≡ p.component.0
   why : (d : Shape) → IsWhy (get_or ss last.component d) p.why last.exchange
 
--- ---- one slot behind another
+-- ---- one slot after another
 
 module _ {L : Type 0} {g : Ghosts L} (view : L → View) where
   abbrev inst : Slot L g → Instance

@@ -52,7 +52,7 @@ pairs_start R xs = record { len = refl; below = λ k d h. absurd (omega arith); 
 pub pairs_whole : {A : Type 0} (R : A → A → Type 0) (xs ys : List A) (i : ℕ) → PairsBelow R xs i ys → length xs ≤ i → EachPair R xs ys
 pairs_whole R xs ys i p h = record { len = p.len; each = λ k d b. p.below k d (omega arith) }
 
--- the lists behind their first elements
+-- the lists after their first elements
 pub pairs_tail : {A : Type 0} (R : A → A → Type 0) (x y : A) (xs ys : List A) → EachPair R (x ∷ xs) (y ∷ ys) → EachPair R xs ys
 pairs_tail R x y xs ys p = record {
   len = omega (arith, p.len);

@@ -11,7 +11,7 @@ parts size left front rest more slots is least most =
     let one_more = add-mul size 1 rest in
     (omega (arith, is, split, at_front, at_rest, least), omega (arith, is, split, at_front, at_rest, one_more, most))
 
--- what is left behind the front groups, of which `more` have one slot more
+-- what is left after the first groups, of which `more` have one slot more
 pub back_share : (slots groups front more : ℕ) → front < groups → more ≤ slots % groups → slots % groups ≤ more + (groups - front)
     → IsEvenShare (slots / groups) (groups - front) (slots - (slots / groups * front + more))
 back_share slots groups front more h least most =

@@ -43,7 +43,7 @@ fn work_in_groups<R: Threads + Sync, L: Peer>(rt: &R, slots: &mut [Slot<L>], gro
     );
 }
 
-// How many of the slots go to the front groups, where all groups share them evenly.
+// How many of the slots go to the first groups, where all groups share them evenly.
 fn front_share(slots: usize, front: usize, groups: usize) -> usize
     requires { front < groups }
     ensures within { result ≤ slots }

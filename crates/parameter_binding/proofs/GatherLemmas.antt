@@ -70,7 +70,7 @@ counted_zero t shapes sets Done none = record {
   number = refl;
 }
 
--- the next reaches nothing
+-- the next is unresolved
 pub counted_more : (t : SystemTree) (shapes : List Shape) (sets : List BindingSets) (q : Triple) (n : ℕ) → IsUnreached t shapes sets q → AreCounted t shapes sets (IsLater q) n → AreCounted t shapes sets (IsUpToTriple q) (n + 1)
 counted_more t shapes sets q n none was = record {
   all = was.all ++ q ∷ [];
@@ -115,7 +115,7 @@ counted_next t shapes sets q (Some n) new none (inr more) was = subst (IsCounted
 
 module _ (t : SystemTree) (shapes : List Shape) (sets : List BindingSets) (binding : Binding) (name : List ℕ) (change : Option Change) (v : Visit) (visit : IsVisit t sets v binding name change) (targets : List Target) (seen : AreSeen t shapes binding name targets)
   where
-    -- it reaches nothing where it has no targets
+    -- it is unresolved where it has no targets
     unreached_own : targets ≡ [] → IsUnreached t shapes sets (triple_of v)
     unreached_own e = record {
       binding = binding;

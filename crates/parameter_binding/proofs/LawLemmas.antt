@@ -1,4 +1,4 @@
--- One list of values, and one number of names that reach nothing.
+-- One list of values, and one number of unresolved names.
 use Rattle.std.proofs.Common.{◌≡◌, ◌+◌, ◌⊎◌, ◌<◌, ◌≤◌, ℕ, ℤ, suc, List, [], ◌∷◌, length, Option, Some, refl, sym, ap, ◌∙◌, subst, inl, inr, arith}
 use Rattle.std.specs.List.{slice_get, AllZip}
 use Rattle.std.proofs.lemmas.Option.{same_Some}
@@ -123,7 +123,7 @@ one_of t shapes sets i xs ys a b =
     let same : a.places ≡ b.places = one_listing (IsReached t shapes sets i) a.places b.places a.listed b.listed in
     one_each t shapes sets i b.places xs ys (subst (λ places. AllZip (IsBoundAt t shapes sets i) places xs) same a.each) b.each
 
--- ---- one number of names that reach nothing
+-- ---- one number of unresolved names
 
 one_count : (t : SystemTree) (shapes : List Shape) (sets : List BindingSets) (xs ys : List Triple) → ListsUnreached t shapes sets xs → ListsUnreached t shapes sets ys → length xs ≤ length ys
 one_count t shapes sets xs ys a b =

@@ -132,13 +132,13 @@ pub record AreBoundOf (t : SystemTree) (shapes : List Shape) (sets : List Bindin
   pub listed : IsListing (IsReached t shapes sets i) places
   pub each : AllZip (IsBoundAt t shapes sets i) places values
 
--- a list of all triples that reach nothing, each once
+-- a list of all unresolved triples, each once
 pub record ListsUnreached (t : SystemTree) (shapes : List Shape) (sets : List BindingSets)
     (all : List Triple) : Type 0 where
   pub each : (c : Triple) → Contains all c ↔ IsUnreached t shapes sets c
   pub once : (j k : ℕ) (c : Triple) → slice_get all j ≡ Some c → slice_get all k ≡ Some c → j ≡ k
 
--- what the bindings give: the values of each component, and the number of triples that reach nothing
+-- what the bindings give: the values of each component, and the number of unresolved triples
 pub record AreBound (t : SystemTree) (shapes : List Shape) (sets : List BindingSets)
     (bound : Bound) : Type 0 where
   pub len : length bound.components ≡ length shapes

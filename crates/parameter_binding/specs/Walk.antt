@@ -48,7 +48,7 @@ abbrev pub part_number : Bool → ℕ
 part_number false = 0
 part_number true = 1
 
--- a fault isn't behind a rule at a place, in the order of refusals
+-- a fault isn't after a rule at a place, in the order of refusals
 abbrev pub IsUpTo : Place → ParameterRule → Place → ParameterRule → Type 0
 IsUpTo p r q s =
     (p.binding < q.binding) ⊎ ((p.binding ≡ q.binding) ×
@@ -108,9 +108,9 @@ abbrev pub AreWinners : SystemTree → List Shape → List BindingSets →
 AreWinners t shapes sets Done winners =
     (target : Target) → IsWinner t shapes sets Done target (best_of winners target)
 
--- ---- names that reach nothing
+-- ---- unresolved names
 
--- a list of those of these triples that reach nothing, each once
+-- a list of those of these triples that are unresolved, each once
 pub record AreCounted (t : SystemTree) (shapes : List Shape) (sets : List BindingSets)
     (Done : Triple → Type 0) (n : ℕ) : Type 0 where
   pub all : List Triple
@@ -183,7 +183,7 @@ IsUpToTriple c d = IsLater c d ⊎ (d ≡ c)
 
 -- ---- parts of one triple's work
 
--- a fault isn't behind the rule at the place
+-- a fault isn't after the rule at the place
 abbrev pub CoveredBy : Option Fault → Place → ParameterRule → Type 0
 CoveredBy None p rule = ⊥
 CoveredBy (Some f) p rule = IsUpTo (place_of f) f.rule p rule
@@ -266,7 +266,7 @@ pub record IsNothing (g : Gathered) : Type 0 where
   pub winners_none : (target : Target) → best_of g.winners target ≡ None
   pub count_zero : g.unreached ≡ Some 0
 
--- one more of an unreached name; none where the counter is full
+-- one more of an unresolved name; none where the counter is full
 abbrev pub IsOneMore : Option ℕ → Option ℕ → Type 0
 IsOneMore None new = new ≡ None
 IsOneMore (Some n) new = (new ≡ None) ⊎ (new ≡ Some (n + 1))

@@ -16,7 +16,7 @@ pub(crate) struct Fault {
 }
 
 impl Fault {
-    /// Whether it isn't behind the other in the order of refusals: sets before mappings, then by element and rule.
+    /// Whether it isn't after the other in the order of refusals: sets before mappings, then by element and rule.
     pub(crate) fn is_up_to(self, other: Fault) -> bool
         ensures first { IsTrue result → IsUpTo (place_of self) self.rule
             (place_of other) other.rule }

@@ -21,7 +21,7 @@ use value_types::Shape;
 #[derive(Drop)]
 pub(crate) struct Gathered {
     pub(crate) winners: Winners,
-    /// how many names reach nothing, unless they are too many to count
+    /// how many names are unresolved, unless they are too many to count
     pub(crate) unreached: Option<u64>,
     /// the first rule that is broken; the rest says nothing then
     pub(crate) fault: Option<Fault>,

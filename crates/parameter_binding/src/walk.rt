@@ -45,7 +45,7 @@ fn write_name(buffer: &mut String, prefix: &str, name: &str) -> Result<(), Alloc
     Ok(())
 }
 
-// What is left of a name behind a prefix.
+// What is left of a name after a prefix.
 fn without_prefix<'a>(name: &'a str, prefix: &str) -> Option<&'a str>
     ensures found { IfSome result (λ rest. name.now ≡ prefix.now ++ rest.now) }
     ensures none { IfNone result ((rest : List ℕ) → name.now ≡ prefix.now ++ rest → ⊥) }

@@ -64,7 +64,7 @@ MappingViolates t at r.Structure k = IsOtherStructure t (mappings t at) at k
 MappingViolates t at r.Incomplete k = IsBrokenAmong t part.Entry (entries t at) k
 MappingViolates t at r.OtherClass k = ⊥
 MappingViolates t at r.OutOfRange k = ⊥
--- 54: a transformation, of an entry's not the first alone, doesn't read or is left out of this profile
+-- 54: a transformation, of an entry's not the first alone, doesn't read or is unsupported
 MappingViolates t at r.Transformation k =
     IsBrokenAmong t part.Transformation (transformations t at) k
 MappingViolates t at r.NoMapEntry k = ⊥

@@ -17,7 +17,7 @@ use Rattle.parameter_sets.specs.Elements.{entries, first_value, parameters}
 
 -- ---- values
 
--- the element gives this value; of a type that is left out of this profile, or of none, it gives another
+-- the element gives this value; of a type that is unsupported, or of none, it gives another
 abbrev pub IsValue : List Node → Option ℕ → ParameterValue → Type 0
 IsValue t None (value.Integer x) = ⊥
 IsValue t None (value.Boolean x) = ⊥

@@ -9,7 +9,7 @@ use doc_tree::Tree;
 use std::alloc::{AllocError, Global};
 use transformations::{children_named, is_transformation};
 
-// Puts those with a name behind a list.
+// Appends those with a name to a list.
 fn put_named(
     found: &mut Vec<usize>,
     tree: &Tree,
@@ -87,7 +87,7 @@ fn is_value(name: &str) -> bool
         || name == "Binary"
 }
 
-// Puts the transformations of an entry behind a list.
+// Appends the transformations of an entry to a list.
 fn put_transformations(found: &mut Vec<usize>, tree: &Tree, node: usize) -> Result<(), AllocError>
     ensures { OnOk result (found.new.items ≡ found.old.items ++ transformations_of tree.now node) }
 {

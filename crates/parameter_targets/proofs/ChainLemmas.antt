@@ -1,4 +1,4 @@
--- One more place in front of the chains of names.
+-- One more place before the chains of names.
 use Rattle.std.proofs.Common.{◌≡◌, ◌⊎◌, ◌<◌, ◌≤◌, ◌+◌, ◌-◌, ℕ, Bool, true, false, cond, Bor, List, [], length, map, set, get_or, Option, Some, None, refl, sym, ap, ◌∙◌, subst, inl, inr, arith}
 use Rattle.std.specs.Map.{update}
 use Rattle.std.specs.BTreeMap.{UpdatesBy}

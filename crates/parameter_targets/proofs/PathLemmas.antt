@@ -1,4 +1,4 @@
--- Scopes of Systems, and what is left of names behind them.
+-- Scopes of Systems, and what is left of names after them.
 use Rattle.std.proofs.Common.{◌≡◌, ◌+◌, ℕ, List, [], ◌∷◌, ◌++◌, Option, Some, None, refl, sym, ap, ◌∙◌, subst, append_assoc}
 use Rattle.std.specs.List.{slice_get}
 use Rattle.std.proofs.lemmas.List.{append_cancel_left}
@@ -59,7 +59,7 @@ begins_within t outer s name (Deeper _ above part is parent within) b = begins_w
 pub path_at_top : (t : SystemTree) (s : ℕ) (part : SystemPart) (name : List ℕ) → slice_get t.systems s ≡ Some part → part.parent ≡ None → IsPathText t s name name
 path_at_top t s part name is top = record { scope = []; scope_is = Outermost s part [] is top refl; is = refl }
 
--- behind the name of the System stands what it leaves of the path from the one around it
+-- after the name of the System stands what it leaves of the path from the one around it
 pub left_behind : (t : SystemTree) (s above : ℕ) (part : SystemPart) (name text : List ℕ) → slice_get t.systems s ≡ Some part → part.parent ≡ Some above → BeginsWithScope t s name → IsPathText t above name text
     → (rest : List ℕ) × (text ≡ part.name ++ 46 ∷ rest)
 left_behind t s above part name text is parent b path = by b.scope b.scope_is b.is

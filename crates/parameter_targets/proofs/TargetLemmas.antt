@@ -274,7 +274,7 @@ fronts_more paths n old new front is pushed was = record {
     each s f (inl e) = was.each s f e
     each s f (inr h) = sym h.1 ∙ is ∙ ap (row_texts paths) (sym (h.0 ∙ was.fronts_len))
 
--- the places of the fronts lead to those of the row
+-- the places of the prefixes lead to those of the row
 pub near_of : (paths : Paths) (s : ℕ) (name : List ℕ) (places ats : List ℕ) → AreFronts (row_texts paths s) name places → ((at : ℕ) → Contains ats at ↔ ((k : ℕ) × (Contains places k × (slice_get (get_or paths.below s []) k ≡ Some at)))) → AreNear paths s name ats
 near_of paths s name places ats fronts led = record {
   only = λ at c. let h = (led at).0 c in contains_at (get_or paths.below s []) h.0 at h.1.1;
@@ -284,7 +284,7 @@ near_of paths s name places ats fronts led = record {
       (led at).1 (k.0, (fronts.each k.0 (record { path = path.text.now; at = there; front = (rest, begins) }), k.1));
 }
 
--- a place of a front is one of the row
+-- a place of a prefix is one of the row
 pub front_within : (paths : Paths) (s k : ℕ) (name : List ℕ) (places : List ℕ) → AreFronts (row_texts paths s) name places → Contains places k → k < length (get_or paths.below s [])
 front_within paths s k name places fronts c =
     let h = fronts.only k c in
@@ -292,7 +292,7 @@ front_within paths s k name places fronts c =
     let l = length-map (get_or paths.below s []) (λ at. path_text (slice_get paths.all.items at)) in
     omega (arith, w, l)
 
--- the places that the fronts of a System answer are those of its row
+-- the places that the prefixes of a System answer are those of its row
 pub fronts_in_row : {targets : Targets} (s : ℕ) {texts : List (List ℕ)} {bytes name places : List ℕ} → AreTargets targets → s < length targets.tree.now.systems → texts ≡ get_or targets.fronts.items s texts → bytes ≡ name → AreFronts texts bytes places → AreFronts (row_texts targets.paths s) name places
 fronts_in_row {targets} s {texts} {bytes} {name} {places} are within read same fronts =
     let rows_len = are.paths.rows.rows_len in

@@ -13,7 +13,7 @@ use Rattle.parameter_targets.specs.declared.target.Target.{Target}
 
 -- ---- targets
 
--- the variable is a parameter that isn't foreign (FMI 3.0, 2.4.7.4: causality)
+-- the variable is a parameter that isn't ignored (FMI 3.0, 2.4.7.4: causality)
 pub record IsTarget (shapes : List Shape) (target : Target) (variable : Variable) : Type 0 where
   pub shape : Shape
   pub of : slice_get shapes target.component ≡ Some shape
@@ -49,7 +49,7 @@ IsLevel t (Component i) n =
 
 -- ---- names
 
--- the System sees the component's parameter under a name: what is left of its full name behind the System's own
+-- the System sees the component's parameter under a name: what is left of its full name after the System's own
 pub record SeesBelow (t : SystemTree) (s component : ℕ) (own name : List ℕ) : Type 0 where
   pub part : ComponentPart
   pub is : slice_get t.components component ≡ Some part

@@ -17,7 +17,7 @@ use Rattle.parameter_targets.specs.Scopes.{IsCalled, IsDepth, IsWithin}
 
 -- ---- the parameters of a component
 
--- the variable is a parameter that isn't foreign, and has the name
+-- the variable is a parameter that isn't ignored, and has the name
 pub record IsNamed (v : Variable) (name : List ℕ) : Type 0 where
   pub parameter : is_parameter v.causality ≡ true
   pub known : is_some v.kind ≡ true
@@ -78,7 +78,7 @@ pub record IsNamedIn (shapes : List Shape) (component : ℕ) (name : List ℕ)
 
 -- ---- paths
 
--- what is left of the name behind the scope of the System
+-- what is left of the name after the scope of the System
 pub record IsPathText (t : SystemTree) (s : ℕ) (name text : List ℕ) : Type 0 where
   pub scope : List ℕ
   pub scope_is : IsScope t s scope

@@ -24,7 +24,7 @@ impl<'a> NameChains<'a> {
         })
     }
 
-    // Puts a place in front.
+    // Puts a place first.
     fn put(&mut self, name: &'a str, place: usize) -> Result<(), AllocError>
         requires within { place < length self.old.next.items }
         ensures chained { OnOk result ((texts : List (List ℕ)) → name.now ≡ text_at texts place →

@@ -17,7 +17,7 @@ pub struct ParameterNames<'a> {
     chains: NameChains<'a>,
 }
 
-// The names of a variable, where it is a parameter that isn't foreign.
+// The names of a variable, where it is a parameter that isn't ignored.
 fn put_names<'a>(
     entries: &mut Vec<(&'a str, usize)>,
     place: usize,

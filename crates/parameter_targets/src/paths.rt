@@ -25,7 +25,7 @@ pub struct Paths<'a> {
     pub(crate) below: Lists,
 }
 
-// What is left behind an element's name and its dot.
+// What is left after an element's name and its dot.
 pub(crate) fn behind<'a>(text: &'a str, name: &str) -> Option<&'a str>
     ensures found { IfSome result (λ rest. text.now ≡ name.now ++ 46 ∷ rest.now) }
     ensures none { IfNone result ((rest : List ℕ) → text.now ≡ name.now ++ 46 ∷ rest → ⊥) }
@@ -33,7 +33,7 @@ pub(crate) fn behind<'a>(text: &'a str, name: &str) -> Option<&'a str>
     text.strip_prefix(name)?.strip_prefix('.')
 }
 
-// What is left of a full name behind the scope of a System.
+// What is left of a full name after the scope of a System.
 fn path_from<'a>(tree: &SystemTree, system: usize, name: &'a str) -> &'a str
     requires tree { IsNamedTree tree.now }
     requires within { system < length tree.now.systems }

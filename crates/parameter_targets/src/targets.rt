@@ -73,7 +73,7 @@ impl<'a> Targets<'a> {
         })
     }
 
-    // Puts the parameters of a component that have the name behind others.
+    // Appends the parameters of a component that have the name to others.
     fn put_named(
         &self,
         alloc: Global,

@@ -52,7 +52,7 @@ module _ (initializing : Bool) (components : List Component) (ports : List Port)
       let k = an.len in
       omega (arith, l, m, k)
 
-  -- of an order those that have part
+  -- of an order those that take part
   pub order_found : (nodes : List ℕ) → graph.IsOrder (λ p. p < length n.listed) (NeedsGrouped n) nodes → IsOrderIn initializing (unordered components ports) (filter (λ p. get_or (map (has_part initializing) ports) p false) nodes)
   order_found nodes o =
       let f = λ (p : ℕ). get_or (map (has_part initializing) ports) p false in

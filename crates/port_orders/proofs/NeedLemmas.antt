@@ -305,7 +305,7 @@ module _ (components : List Component) (ports : List Port) (placed : ArePlaced c
   placed_at : (p : ℕ) (port : Port) → slice_get ports p ≡ Some port → IsPlaced (length components) (length ports) port
   placed_at p port at = all_at (IsPlaced (length components) (length ports)) ports p port placed.each at
 
-  -- ports that have part
+  -- ports that take part
   pub among_of : (initializing : Bool) (p : ℕ) → IsMarked (map (has_part initializing) ports) p → IsAmong initializing (unordered components ports) p
   among_of false p marked = let l = marked_within (map (has_part false) ports) p marked in let n = length-map ports (has_part false) in omega (arith, l, n)
   among_of true p marked = by (slice_get ports p) refl (sym (mark_is (has_part true) ports p) ∙ marked)

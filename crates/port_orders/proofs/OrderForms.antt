@@ -1,4 +1,4 @@
--- Orders by fronts of a list, and by what stands before an element.
+-- Orders by prefixes of a list, and by what stands before an element.
 use Rattle.std.proofs.Common.{◌≡◌, ℕ, ◌+◌, ◌<◌, List, [], ◌∷◌, ◌++◌, length, take, drop, get_or, refl, sym, ap, ◌∙◌, subst, arith}
 use Rattle.std.specs.List.{Contains}
 use Rattle.std.proofs.lemmas.List.{length-append, take-append-drop, drop_more}

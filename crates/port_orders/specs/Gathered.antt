@@ -16,7 +16,7 @@ use Rattle.dependency_order.specs.Paths.{IsMarked}
 
 -- ---- one port
 
--- in instants all ports have part, in Initialization Mode those without Clocks
+-- in instants all ports take part, in Initialization Mode those without Clocks
 abbrev pub has_part : Bool → Port → Bool
 has_part initializing port = if initializing then is_unclocked port else true
 
@@ -26,7 +26,7 @@ place_in components port reference =
     option_and_then (λ (c : Component). place_of c.shape.variables reference)
     (slice_get components port.component.0)
 
--- its variable is an input that isn't foreign
+-- its variable is an input that isn't ignored
 abbrev pub is_input_in : List Component → Port → Bool
 is_input_in components port =
     option_map_or (λ (c : Component).
@@ -42,7 +42,7 @@ knowns_of shape initializing reference =
     then option_map (λ (d : Dependency). d.on) (dependency_at shape.dependencies reference)
     else None)
 
--- what the port depends on, where it is an output that has part
+-- what the port depends on, where it is an output that takes part
 abbrev pub knowns_in : List Component → Bool → Port → Option Knowns
 knowns_in components initializing port =
     if has_part initializing port && is_output_role port.role
@@ -61,7 +61,7 @@ group_in components initializing port =
 
 -- ---- all ports
 
--- a port of the component that has part, whose variable stands at this place of the description
+-- a port of the component that takes part, whose variable stands at this place of the description
 pub record IsPortAt (components : List Component) (ports : List Port) (taken : List Bool)
     (component place q : ℕ) : Type 0 where
   pub port : Port
@@ -70,7 +70,7 @@ pub record IsPortAt (components : List Component) (ports : List Port) (taken : L
   pub marked : IsMarked taken q
   pub stands : place_in components port port.reference ≡ Some place
 
--- an input of the component that has part
+-- an input of the component that takes part
 pub record IsInputOf (components : List Component) (ports : List Port) (taken : List Bool)
     (component q : ℕ) : Type 0 where
   pub port : Port
@@ -99,7 +99,7 @@ pub record IsGathering (count : ℕ) (stamps : List (Option ℕ)) (lists : List 
   pub len : length lists ≡ count
   pub told : (p q : ℕ) → slice_index_or stamps q None ≡ Some p → Needs lists p q
 
--- to the list of one port come those of some that have part
+-- to the list of one port come those of some that take part
 pub record Adds (taken : List Bool) (port : ℕ) (IsAdded : ℕ → Type 0)
     (old new : List (List ℕ)) : Type 0 where
   pub cases : (p q : ℕ) → Needs new p q ↔
@@ -143,7 +143,7 @@ pub record IsNamed (components : List Component) (ports : List Port) (taken : Li
   pub stands : place_in components port reference ≡ Some place
   pub there : IsPortAt components ports taken port.component.0 place q
 
--- p needs q by its list: both have part, and q feeds p, is one of its Clocks, or a known that its list names
+-- p needs q by its list: both take part, and q feeds p, is one of its Clocks, or a known that its list names
 pub record IsTold (components : List Component) (ports : List Port) (taken : List Bool)
     (initializing : Bool) (p q : ℕ) : Type 0 where
   pub port : Port

@@ -33,7 +33,7 @@ impl Gathering {
         })
     }
 
-    // Puts a port that has part into the list of another.
+    // Puts a port that takes part into the list of another.
     fn add(&mut self, taken: &[bool], port: usize, need: usize) -> Result<(), AllocError>
         requires held { IsGathering (length taken.now) self.old.stamps.items self.old.lists }
         requires port { port < length taken.now }

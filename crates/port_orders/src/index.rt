@@ -20,7 +20,7 @@ fn empty_tables(alloc: Global, components: &[Component]) -> Result<Vec<Lists>, A
     Ok(tables)
 }
 
-// Puts empty lists behind those of a table, until there is one at the place.
+// Appends empty lists to those of a table, until there is one at the place.
 fn reach(alloc: Global, tables: &mut Vec<Lists>, at: usize, place: usize) -> Result<(), AllocError>
     requires { at < length tables.old.items }
     ensures grown { OnOk result ((more : ℕ) × (tables.new.items ≡ slice_set tables.old.items at
@@ -37,7 +37,7 @@ fn reach(alloc: Global, tables: &mut Vec<Lists>, at: usize, place: usize) -> Res
     Ok(())
 }
 
-// The place of the variable of a port that has part.
+// The place of the variable of a port that takes part.
 fn place_if(part: bool, components: &[Component], port: &Port) -> Option<usize>
     ensures { result ≡ (if part then place_in components.now port.now port.now.reference else
         None) }
@@ -49,7 +49,7 @@ fn place_if(part: bool, components: &[Component], port: &Port) -> Option<usize>
     }
 }
 
-// Whether the port has part and is an input.
+// Whether the port takes part and is an input.
 fn is_input_if(part: bool, components: &[Component], port: &Port) -> bool
     ensures { result ≡ (part && is_input_in components.now port.now) }
 {
@@ -66,7 +66,7 @@ fn note(tables: &mut Vec<Lists>, at: usize, place: usize, number: usize) -> Resu
     tables[at].push(place, number)
 }
 
-/// For each component and each place of its description the ports there that have part, as far as there are ports.
+/// For each component and each place of its description the ports there that take part, as far as there are ports.
 pub(crate) fn tables_of(
     alloc: Global,
     components: &[Component],
@@ -89,7 +89,7 @@ pub(crate) fn tables_of(
     Ok(tables)
 }
 
-/// For each component its inputs that have part.
+/// For each component its inputs that take part.
 pub(crate) fn inputs_of(
     alloc: Global,
     components: &[Component],

@@ -1,4 +1,4 @@
-//! The two stored orders of a system: each port behind all that it needs, in instants and in Initialization Mode; or a loop.
+//! The two stored orders of a system: each port after all that it needs, in instants and in Initialization Mode; or a loop.
 #![tactic(auto)]
 
 mod gathering;

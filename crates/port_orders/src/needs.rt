@@ -18,7 +18,7 @@ pub(crate) fn place_in(components: &[Component], port: &Port, reference: u32) ->
     }
 }
 
-/// Whether its variable is an input that isn't foreign.
+/// Whether its variable is an input that isn't ignored.
 pub(crate) fn is_input_in(components: &[Component], port: &Port) -> bool
     ensures { result ≡ is_input_in components.now port.now }
 {
@@ -53,7 +53,7 @@ fn knowns_of(shape: &Shape, initializing: bool, reference: u32) -> Option<&Known
     }
 }
 
-/// What the port depends on, where it is an output that has part.
+/// What the port depends on, where it is an output that takes part.
 pub(crate) fn knowns_in<'a>(
     components: &'a [Component],
     initializing: bool,

@@ -13,7 +13,7 @@ use std::alloc::{AllocError, Global};
 use system_model::{Component, Port};
 use thiserror::Error;
 
-/// Orders in which each port stands once, behind all that it needs.
+/// Orders in which each port stands once, after all that it needs.
 #[derive(Debug, Drop)]
 pub struct Orders {
     /// all ports, for instants

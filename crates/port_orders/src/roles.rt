@@ -45,7 +45,7 @@ fn is_clock(role: &Role) -> bool
     }
 }
 
-/// Whether a port has part: in Initialization Mode those without Clocks have, in instants all.
+/// Whether a port takes part: in Initialization Mode those without Clocks do, in instants all.
 pub(crate) fn has_part(port: &Port, initializing: bool) -> bool
     ensures { result ≡ has_part initializing port.now }
 {

@@ -1,4 +1,4 @@
-//! What the program's call promises, over a body that is that call: the must-fail edits turn this body.
+//! What the program's call promises, over a body that is that call: the wrong bodies of `must-fail/` stand in its place.
 ghost use Rattle.command_line.specs.Line.{texts};
 ghost use Rattle.run_model.specs.Laws.{OneTrace};
 ghost use Rattle.run_program.specs.Happened.{happened, stage};
@@ -10,7 +10,7 @@ use sim_base::{Folder, Sink};
 use std::alloc::Global;
 use std::thread::Threads;
 
-/// Does what the words of a command line say, as `run_words` of `run_program`, and answers the program's status.
+/// Does what the arguments of a command line say, as `run_words` of `run_program`, and answers the program's status.
 pub fn answer_words<R: Threads + Sync, F: Folder, S: Spawner, O: Sink, E: Sink>(
     rt: &R,
     alloc: Global,

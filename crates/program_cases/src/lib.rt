@@ -1,4 +1,4 @@
-//! The contract of the program's call over a body of its own, which wrong bodies turn.
+//! The contract of the program's call over a body of its own, in whose place wrong bodies are tried.
 #![tactic(auto)]
 
 mod answering;

@@ -58,7 +58,7 @@ pub(crate) struct Line {
 pub(crate) struct Case {
     /// The words of its line, between bars.
     pub(crate) words: String,
-    /// Its files, and what is wanted.
+    /// Its files, and what is expected.
     pub(crate) texts: Texts,
     /// Whether it has no file but its own.
     pub(crate) is_bare: bool,
@@ -173,7 +173,7 @@ fn add_files(alloc: Global, texts: &Texts, files: &mut Vec<MemFile>) -> Result<(
     Ok(())
 }
 
-// What is wanted has a name of these.
+// What is expected has a name of these.
 fn is_path(name: &str) -> bool {
     !matches!(name, "out" | "err" | "or" | "asked" | "hosts")
 }

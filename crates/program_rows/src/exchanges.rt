@@ -4,8 +4,8 @@ use bench_fmus::Scripts;
 use sim_base::Items;
 use std::alloc::{AllocError, Global};
 
-/// A call that a component's script is to get, as it is printed, and what it answers: nothing past the end of its list. With `-` in
-/// the place of the call it is an answer that nothing asks for.
+/// A call that a component's script is to get, as it is printed, and what it answers: nothing past the end of its list. With
+/// `-` in place of the call it is an answer that nothing asks for.
 #[derive(Drop)]
 pub(crate) struct Exchanged {
     pub(crate) component: usize,

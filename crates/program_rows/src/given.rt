@@ -1,4 +1,4 @@
-//! What a command gave, beside what is wanted.
+//! What a command gave, beside what is expected.
 use crate::texts::Texts;
 use std::alloc::{AllocError, Global};
 
@@ -15,7 +15,7 @@ pub(crate) struct Given {
 }
 
 impl Given {
-    /// Whether all is as wanted; the calls of scripts are these.
+    /// Whether all is as expected; the calls of scripts are these.
     pub(crate) fn is_wanted(&self, status: u8, wanted: &Texts, calls: &[u8]) -> bool {
         self.status == status
             && self.out.as_slice() == wanted.find("out").unwrap_or(b"")
@@ -25,7 +25,7 @@ impl Given {
             && self.calls.as_slice() == calls
     }
 
-    // Its line is the one that is wanted, or the other one.
+    // Its line is the one that is expected, or the other one.
     fn is_told(&self, wanted: &Texts) -> bool {
         let err = self.err.as_slice();
         err == wanted.find("err").unwrap_or(b"") || wanted.find("or") == Some(err)
@@ -44,7 +44,7 @@ impl Given {
     }
 }
 
-// A text is what is wanted by a name, where anything is.
+// A text is what is expected by a name, where anything is.
 fn is_any(wanted: &Texts, name: &str, text: &[u8]) -> bool {
     match wanted.find(name) {
         Some(wanted) => wanted == text,

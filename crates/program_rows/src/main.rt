@@ -1,4 +1,4 @@
-//! Runs commands over files, machines and scripts in memory, and tells which of them gives anything but what is wanted.
+//! Runs commands over files, machines and scripts in memory, and tells which of them gives anything but what is expected.
 #![tactic(auto)]
 
 mod answers;

@@ -6,7 +6,7 @@ use crate::texts::Texts;
 use std::alloc::{AllocError, Global};
 use std::thread::Threads;
 
-/// The case so far, what it shares with others of its section, and how many commands were run and gave what isn't wanted.
+/// The case so far, what it shares with others of its section, and how many commands were run and gave what isn't expected.
 #[derive(Drop)]
 pub(crate) struct Rows {
     shared: Texts,
@@ -27,7 +27,7 @@ impl Rows {
         }
     }
 
-    /// Takes a line. It tells what a command gave that isn't wanted, and a line that says nothing.
+    /// Takes a line. It tells what a command gave that isn't expected, and a line that says nothing.
     pub(crate) fn take<R: Threads + Sync>(
         &mut self,
         rt: &R,
@@ -149,7 +149,7 @@ impl Rows {
         }
     }
 
-    // A line, or none, or further lines behind it, on an output.
+    // A line, or none, or further lines after it, on an output.
     fn want(&mut self, alloc: Global, name: &str, line: &str) -> Result<bool, AllocError> {
         self.case.texts.begin(alloc, name, line)?;
         if line.is_empty() {
@@ -255,7 +255,7 @@ impl Rows {
         }
     }
 
-    /// How many commands were run, and how many lines gave what isn't wanted.
+    /// How many commands were run, and how many lines gave what isn't expected.
     pub(crate) fn count(&self, alloc: Global) -> Result<Vec<u8>, AllocError> {
         let (commands, wrong) = (self.commands, self.wrong);
         Ok(format!(in alloc; "commands {commands} wrong {wrong}\n")?.into_bytes())

@@ -1,7 +1,7 @@
 //! Texts by their names, which are written piece by piece.
 use std::alloc::{AllocError, Global};
 
-/// A file by its path, or what is wanted of an output by its name.
+/// A file by its path, or what is expected of an output by its name.
 #[derive(Drop)]
 pub(crate) struct Text {
     pub(crate) name: String,

@@ -1,4 +1,4 @@
--- Turns of an agreement, one behind the other.
+-- Turns of an agreement, one after the other.
 use Rattle.std.proofs.Common.{◌≡◌, ◌≢◌, ℕ, suc, ◌<◌, ◌≤◌, Bool, true, List, [], ◌∷◌, ◌++◌, Some, Ok, Err, refl, sym, ap, ap₂, ◌∙◌, subst, arith, append_assoc, is_some, length, get_or}
 use Rattle.std.specs.Prelude.{All}
 use Rattle.fmu_peer.specs.declared.peer.Exchange.{Exchange}

@@ -49,7 +49,7 @@ first_false : (a b : Bool) → a ≡ false → (a && b) ≡ false
 first_false true b h = absurd (cc)
 first_false false b h = refl
 
--- one that is meant is meant still once it stands at t again
+-- one that is selected is selected still once it stands at t again
 pub passes_stay : (t : ℕ) (asked : Who) → StaysMeant t asked → (s z : Stand) → s.shape ≡ z.shape → z.point ≡ t → passes asked s ≡ true → passes asked z ≡ true
 passes_stay t W.Everyone stays s z shape at h = refl
 passes_stay t (W.Saved early) stays s z shape at h = h
@@ -57,7 +57,7 @@ passes_stay t W.Early stays s z shape at h = ap (λ (x : Shape). x.might_return_
 passes_stay t (W.Elsewhere m) stays s z shape at h = ap not (other_number z.point m (λ e. absurd (omega (arith, e, at, stays))))
 passes_stay t (W.EndElsewhere from bound m) stays s z shape at h = absurd stays
 
--- who is meant is told by the shape and the point
+-- which are selected is told by the shape and the point
 passes_by : (asked : Who) (s z : Stand) → s.shape ≡ z.shape → s.point ≡ z.point → passes asked s ≡ passes asked z
 passes_by W.Everyone s z shape point = refl
 passes_by (W.Saved early) s z shape point = refl
@@ -111,7 +111,7 @@ module _ {L : Type 0} {g : Ghosts L} (view : L → View) where
   can_be_freed t b step who s p held =
       can_do who T.Free s (λ h. may_send t b step who T.Free s p (may_be_freed t b step (is_some s.saved) (seen s) p.stands (held h)))
 
-  -- ---- what is saved behind a good answer
+  -- ---- what is saved after a good answer
 
   pub token_of : (call : Call) (o n : Slot L g) (es : List Exchange) (s : GoodSent view call o es n) → is_some n.saved ≡ saved_by (seen o).fixed.shape call s.exchange.result (is_some o.saved)
   token_of call o n es s = s.has.saved ∙ ap (λ (c : Call). saved_by (seen o).fixed.shape c s.exchange.result (is_some o.saved)) s.call_is
@@ -235,7 +235,7 @@ module _ {L : Type 0} {g : Ghosts L} (view : L → View) where
       tells = tells_now;
     }
 
-  -- one asking behind another, of which the first asked it
+  -- one asking after another, of which the first asked it
   pub moved_on : (t b e step : ℕ) (x : Bool) (o p n : Slot L g) (es fs : List Exchange) → Moved view t b step true o es p → Moved view t e step x p fs n → Moved view t e step true o (es ++ fs) n
   moved_on t b e step x o p n es fs m k = record {
     placed = k.placed;
@@ -245,7 +245,7 @@ module _ {L : Type 0} {g : Ghosts L} (view : L → View) where
     tells = λ h a. k.keeps (asks_last a es) (m.tells refl a) ∙ ap (λ (y : Bool). Some (Ok y)) (sym (asks_on a es fs));
   }
 
-  -- one asking behind another, of which one asked it
+  -- one asking after another, of which one asked it
   pub moved_both : (t b e step : ℕ) (x y : Bool) → (x ≡ true) ⊎ (y ≡ true) → (o p n : Slot L g) (es fs : List Exchange) → Moved view t b step x o es p → Moved view t e step y p fs n → Moved view t e step true o (es ++ fs) n
   moved_both t b e step true y either o p n es fs m k = moved_on t b e step y o p n es fs m k
   moved_both t b e step false y either o p n es fs m k = record {

@@ -30,7 +30,7 @@ use Rattle.rollback.proofs.Moving.{WentBack, can_go_back, can_step, did_step, mo
 use Rattle.rollback.proofs.Sending.{sends_none}
 use Rattle.rollback.proofs.Resting.{away_so, none_passes, passes_so, shapes_so, some_map, some_same, unfit_so}
 
--- one that is meant and stands at t isn't sent back
+-- one that is selected and stands at t isn't sent back
 not_away : (t : ℕ) (asked : Who) (s : Stand) → (passes asked s ≡ true → s.point ≡ t) → is_sent asked (T.Back t) s ≡ false
 not_away t asked s home = by (passes asked s) refl where
   by : (x : Bool) → passes asked s ≡ x → (x && not (s.point == t)) ≡ false

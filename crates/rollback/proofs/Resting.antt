@@ -119,7 +119,7 @@ module _ {L : Type 0} {g : Ghosts L} (view : L → View) where
   stand_at (y ∷ ss) (s ∷ slots) so zero d w = (y, refl, first_same (at_rest y) (stand_in view s) (map at_rest ss) (stands view slots) so)
   stand_at (y ∷ ss) (s ∷ slots) so (suc k) d w = stand_at ss slots (rest_same (at_rest y) (stand_in view s) (map at_rest ss) (stands view slots) so) k d (omega (arith, w))
 
-  -- behind a log
+  -- after a log
   module _ (t : ℕ) (log : List Sent) where
     so_from : (k : ℕ) (ss : List Stand) (olds news : List (Slot L g)) → StandSo view ss olds → length news ≡ length olds →
         ((i : ℕ) (d : Slot L g) → i < length olds → stand_in view (get_or news i d) ≡ at_rest (stand_by t (stand_in view (get_or olds i d)) (part (k + i) log))) → StandSo view (stands_from t k ss log) news

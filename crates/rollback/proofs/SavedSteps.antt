@@ -46,7 +46,7 @@ module _ {L : Type 0} {g : Ghosts L} (view : L → View) where
   abbrev early_in : List (Slot L g) → ℕ
   early_in slots = early_count (shapes (instances view slots))
 
-  -- ---- who is meant
+  -- ---- which are selected
 
   -- as the code counts them
   pub early_counted : (slots : List (Slot L g)) → count_by (λ (s : Slot L g). (stand_in view s).shape.might_return_early) slots ≡ early_in slots

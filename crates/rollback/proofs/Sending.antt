@@ -58,7 +58,7 @@ ask_if false k call rest = refl
 one_job : (who : Who) (turn : Turn) (k : ℕ) (s : Stand) (rest : List Asking) → ask_of k (call_in (job_of who turn s)) rest ≡ (if is_sent who turn s then record { component = k; call = call_of turn } ∷ rest else rest)
 one_job who turn k s rest = ap (λ (o : Option Call). ask_of k o rest) (job_call who turn s) ∙ ask_if (is_sent who turn s) k (call_of turn) rest
 
--- where no two might return early, nobody is meant
+-- where no two might return early, nobody is selected
 nobody : (early : ℕ) → nat_lt 1 early ≡ false → (turn : Turn) (s : Stand) → is_sent (W.Saved early) turn s ≡ false
 nobody early few T.Save s = few
 nobody early few (T.Back t) s = ap (λ (b : Bool). b && not (s.point == t)) few

@@ -72,7 +72,7 @@ module _ (t b step : ℕ) (saves : Bool) (v : View) (h : InStep t b step saves v
     phase_by : (call : Call) → x.call ≡ call → w.phase ≡ entered v.fixed.shape (counted v.phase x.call) call l.reply
     phase_by call is = l.phase ∙ ap (λ (c : Call). entered v.fixed.shape (counted v.phase x.call) c l.reply) is
 
-    -- behind a step
+    -- after a step
     pub stepped : (e : ℕ) → x.call ≡ C.DoStep t (e - t) → TakesSize step (e - t) v.fixed.shape → v.phase.point ≡ t → InStep t b step saves w × (w.phase.point ≡ end_by t x.result)
     stepped e is takes at =
         let p = phase_by (C.DoStep t (e - t)) is in (
@@ -89,7 +89,7 @@ module _ (t b step : ℕ) (saves : Bool) (v : View) (h : InStep t b step saves v
           ap (λ (q : Phase). q.point) p ∙ ap (end_of l.reply) at ∙ sym (ap (end_by t) l.is),
         )
 
-    -- behind a Restore
+    -- after a Restore
     pub restored : x.call ≡ C.Restore → saves ≡ true → InStep t b step saves w × (w.phase.point ≡ t)
     restored is held =
         let p = phase_by C.Restore is in (
@@ -106,7 +106,7 @@ module _ (t b step : ℕ) (saves : Bool) (v : View) (h : InStep t b step saves v
           ap (λ (q : Phase). q.point) p ∙ h.saved held,
         )
 
-    -- behind a Save at t
+    -- after a Save at t
     pub now_saved : x.call ≡ C.Save → v.phase.point ≡ t → v.fixed.shape.can_save_state ≡ true → InStep t b step true w × (w.phase.point ≡ t)
     now_saved is at can =
         let p = phase_by C.Save is in (
@@ -123,7 +123,7 @@ module _ (t b step : ℕ) (saves : Bool) (v : View) (h : InStep t b step saves v
           ap (λ (q : Phase). q.point) p ∙ at,
         )
 
-    -- behind a Free
+    -- after a Free
     pub now_freed : x.call ≡ C.Free → InStep t b step false w × (w.phase.point ≡ v.phase.point)
     now_freed is =
         let p = phase_by C.Free is in (

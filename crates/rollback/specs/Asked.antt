@@ -36,7 +36,7 @@ IsFrom t (Bad bad) = Unit {0}
 
 -- ---- what holds of a slot before an asking
 
--- one that is meant is meant still once it stands at t again
+-- one that is selected is selected still once it stands at t again
 abbrev pub StaysMeant : ℕ → Who → Type 0
 StaysMeant t W.Everyone = Unit {0}
 StaysMeant t (W.Saved early) = Unit {0}
@@ -44,14 +44,14 @@ StaysMeant t W.Early = Unit {0}
 StaysMeant t (W.Elsewhere m) = t < m
 StaysMeant t (W.EndElsewhere from bound m) = ⊥
 
--- one that is meant is tested for the size, or takes it
+-- one that is selected is tested for the size, or takes it
 abbrev pub IsTested : {L : Type 0} {g : _} → (L → View) → (sized asked : Who) →
     (step size : ℕ) → Slot L g → Type 0
 IsTested view sized asked step size slot =
     passes asked (stand_in view slot) ≡ true →
     (passes sized (stand_in view slot) ≡ true) ⊎ TakesSize step size (stand_in view slot).shape
 
--- all that are meant take a step from t to e, or the end names the least that doesn't
+-- all that are selected take a step from t to e, or the end names the least that doesn't
 abbrev pub SizesSay : {L T : Type 0} {g : _} → (L → View) → (t step : ℕ) → Who → ℕ →
     List (Slot L g) → Result T StepEnd → Type 0
 SizesSay view t step who e slots (Ok x) =
@@ -60,12 +60,12 @@ SizesSay view t step who e slots (Err end) =
     (place : ℕ) × unfit step (e - t) (passes who) (stands view slots) ≡ Some place
     × end ≡ FixedStep (record { 0 = place }) t e
 
--- one that is meant stands at t
+-- one that is selected stands at t
 abbrev pub IsHome : {L : Type 0} {g : _} → (L → View) → ℕ → Who → Slot L g → Type 0
 IsHome view t asked slot =
     passes asked (stand_in view slot) ≡ true → (stand_in view slot).point ≡ t
 
--- one that is meant takes a step of the size
+-- one that is selected takes a step of the size
 abbrev pub IsFitting : {L : Type 0} {g : _} → (L → View) → Who → (step size : ℕ) → Slot L g → Type 0
 IsFitting view asked step size slot =
     passes asked (stand_in view slot) ≡ true → TakesSize step size (stand_in view slot).shape
@@ -102,7 +102,7 @@ pub record Moved {L : Type 0} {g : _} (view : L → View) (t e step : ℕ) (aske
   pub keeps : (a : Bool) → old.answer ≡ Some (Ok a) → new.answer ≡ Some (Ok (asks_last a es))
   pub tells : asked ≡ true → (a : Bool) → new.answer ≡ Some (Ok (asks_last a es))
 
--- each of the FMUs of slots did, of which those were asked that are meant
+-- each of the FMUs of slots did, of which those were asked that are selected
 abbrev pub AllMoved : {L : Type 0} {g : _} → (L → View) → (t e step : ℕ) → Who →
     List (Slot L g) → List Sent → List (Slot L g) → Type 0
 AllMoved {L = L} {g = g} view t e step asked olds log news =
@@ -153,7 +153,7 @@ AskedSays view t step sized asked e olds news log (Err end) =
     IsFrom t end × ((ss : List Stand) → StandSo view ss olds →
     Stops t step (passes sized) (passes asked) e ss log (outcome_of end))
 
--- those that are meant were asked to step from t to e, or not all could be
+-- those that are selected were asked to step from t to e, or not all could be
 pub record AskedOver {L T : Type 0} {g : _} (view : L → View) (t step : ℕ)
     (sized asked : Who) (e : ℕ) (olds news : List (Slot L g))
     (result : Result T StepEnd) : Type 0 where

@@ -1,4 +1,4 @@
--- Where the FMUs of slots stand, which of them are meant, and what a turn sends to them.
+-- Where the FMUs of slots stand, which of them are selected, and what a turn sends to them.
 use Rattle.std.specs.Prelude.{◌≡◌, ℕ, ◌-◌, ◌<◌, ◌==◌, ◌&&◌, Bool, true, false, not, if◌then◌else◌, List, [], ◌∷◌, length, map, slice_index_or, Option, Some, None, Result, Ok, Err}
 use Rattle.fmi_calls.specs.declared.call.Call.{Call}
 use Rattle.fmi_calls.specs.declared.call.Call.TheVariants as C
@@ -41,7 +41,7 @@ at_rest s = record s { ask = 0 }
 abbrev pub StandSo : {L : Type 0} {g : _} → (L → View) → List Stand → List (Slot L g) → Type 0
 StandSo view ss slots = map at_rest ss ≡ stands view slots
 
--- ---- who is meant
+-- ---- which are selected
 
 abbrev pub passes : Who → Stand → Bool
 passes W.Everyone s = true
@@ -52,7 +52,7 @@ passes (W.EndElsewhere t bound m) s = ends_elsewhere t bound m s
 
 -- ---- a turn
 
--- a step ends behind its beginning
+-- a step ends after its beginning
 abbrev pub CanAsk : Turn → Type 0
 CanAsk (T.Step t end) = t < end
 CanAsk turn = Unit {0}
@@ -83,7 +83,7 @@ call_of (T.Back t) = C.Restore
 call_of (T.Step t end) = C.DoStep t (end - t)
 call_of T.Free = C.Free
 
--- who is sent it: of those that are meant to go back, the ones that stand elsewhere
+-- who is sent it: of those that are selected to go back, the ones that stand elsewhere
 abbrev pub is_sent : Who → Turn → Stand → Bool
 is_sent who (T.Back t) s = passes who s && not (s.point == t)
 is_sent who turn s = passes who s
@@ -115,7 +115,7 @@ abbrev pub bad_in : {T : Type 0} → Result T BadAnswer → Option BadAnswer
 bad_in (Ok x) = None
 bad_in (Err bad) = Some bad
 
--- each FMU that is meant was sent the call and answered well
+-- each FMU that is selected was sent the call and answered well
 abbrev pub SentWell : {L T : Type 0} {g : _} → (L → View) → Who → Turn → List (Slot L g) →
     List Sent → List (Slot L g) → Result T BadAnswer → Type 0
 SentWell {L = L} {g = g} view who turn olds log news (Ok x) =
@@ -124,7 +124,7 @@ SentWell {L = L} {g = g} view who turn olds log news (Ok x) =
     (slice_index_or olds i d) (part i log) (slice_index_or news i d)
 SentWell view who turn olds log news (Err bad) = Unit {0}
 
--- the turn's call was sent to those that are meant, whatever they answered
+-- the turn's call was sent to those that are selected, whatever they answered
 pub record Sends {L T : Type 0} {g : _} (view : L → View) (who : Who) (turn : Turn)
     (olds news : List (Slot L g)) (result : Result T BadAnswer) : Type 0 where
   pub log : List Sent

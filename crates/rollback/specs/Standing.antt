@@ -12,7 +12,7 @@ use Rattle.slot_calls.specs.Slots.{IsLive}
 abbrev pub TakesSize : ℕ → ℕ → Shape → Type 0
 TakesSize step size shape = IsTrue (shape.has_variable_steps || size == step)
 
--- in Step Mode, behind steps of sizes that the plan's step allows, with its state saved at t or not; elsewhere than at t no input is set
+-- in Step Mode, after steps of sizes that the plan's step allows, with its state saved at t or not; elsewhere than at t no input is set
 pub record InStep (t b step : ℕ) (saves : Bool) (v : View) : Type 0 where
   pub state : v.phase.state ≡ P.Step
   pub stop : b ≤ v.phase.stop

@@ -223,7 +223,7 @@ fn take_turn<R: Threads + Sync, L: Peer>(
     })
 }
 
-// Asks those that are meant for a step, once each that is tested takes one of that size; those of them that stand behind
+// Asks those that are selected for a step, once each that is tested takes one of that size; those of them that are past
 // t go back first.
 fn ask<R: Threads + Sync, L: Peer>(
     rt: &R,
@@ -253,7 +253,7 @@ fn ask<R: Threads + Sync, L: Peer>(
     }
 }
 
-// Likewise, where those that are meant stand at t, so that none goes back.
+// Likewise, where those that are selected stand at t, so that none goes back.
 #[inline(always)]
 fn ask_home<R: Threads + Sync, L: Peer>(
     rt: &R,
@@ -283,7 +283,7 @@ fn ask_home<R: Threads + Sync, L: Peer>(
     }
 }
 
-/// Whether each of those that are meant takes a step from t to an end; where one doesn't, the least of them is named.
+/// Whether each of those that are selected takes a step from t to an end; where one doesn't, the least of them is named.
 #[inline(always)]
 pub(crate) fn test_sizes<L: Peer>(
     slots: &[Slot<L>],
@@ -306,7 +306,7 @@ pub(crate) fn test_sizes<L: Peer>(
     }
 }
 
-/// Of those that are meant, the least that takes no step of this size.
+/// Of those that are selected, the least that takes no step of this size.
 #[inline(always)]
 fn first_unfit<L: Peer>(slots: &[Slot<L>], who: Who, step: u64, size: u64) -> Option<usize>
     ensures first { result ≡ unfit step size (passes who) (stands L.view slots.now) }
@@ -319,7 +319,7 @@ fn first_unfit<L: Peer>(slots: &[Slot<L>], who: Who, step: u64, size: u64) -> Op
     }
 }
 
-// Puts those back that are meant and stand behind t, and then asks all that are meant for a step.
+// Puts those back that are selected and are past t, and then asks all that are selected for a step.
 fn ask_all<R: Threads + Sync, L: Peer>(
     rt: &R,
     slots: &mut [Slot<L>],

@@ -9,11 +9,11 @@ use parallel_step::{first_bad, round};
 use slot_calls::BadAnswer;
 use std::thread::Threads;
 
-/// What those that are meant are to do in a round.
+/// What the selected FMUs are to do in a round.
 #[derive(Clone, Copy, Debug, PartialEq, Eq)]
 pub(crate) enum Turn {
     Save,
-    /// to go back to the state that was saved at t, where they stand behind it
+    /// to go back to the state that was saved at t, where they stand after it
     Back { t: u64 },
     /// to make a step
     Step { t: u64, end: u64 },
@@ -81,8 +81,8 @@ fn is_sent<L: Peer>(slot: &Slot<L>, who: Who, turn: Turn) -> bool
     }
 }
 
-/// Sends the call of a turn to those that are meant, whatever they answer, and tells the first answer that isn't good. Where
-/// it is for none, no thread is begun.
+/// Sends the call of a turn to those that are selected, whatever they answer, and tells the first answer that isn't good.
+/// Where it is for none, no thread is begun.
 #[inline(always)]
 pub(crate) fn send<R: Threads + Sync, L: Peer>(
     rt: &R,

@@ -6,7 +6,7 @@ ghost use Rattle.rollback.specs.Places.{passes, stand_in};
 
 use fmu_peer::{Peer, Slot};
 
-/// Which FMUs are meant, by their shapes and the points where they stand.
+/// Which FMUs are selected, by their shapes and the points where they stand.
 #[derive(Clone, Copy, Debug, PartialEq, Eq)]
 pub(crate) enum Who {
     Everyone,
@@ -88,7 +88,7 @@ pub(crate) fn are_at<L: Peer>(slots: &[Slot<L>], m: u64) -> bool
     slots.iter().all(|slot| point_of(slot) == m)
 }
 
-/// Of those that are meant, the first that takes steps of one size alone.
+/// Of those that are selected, the first that takes steps of one size alone.
 #[inline(never)]
 pub(crate) fn first_unvaried<L: Peer>(slots: &[Slot<L>], who: Who) -> Option<usize>
     ensures first { result ≡ position (λ slot. passes who (stand_in L.view slot) &&

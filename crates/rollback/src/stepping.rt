@@ -18,7 +18,7 @@ use std::thread::Threads;
 /// returns early, those that pass the point that it reached go back and are asked for that, until all meet. Where one alone
 /// might return early it is asked first, and the others then for a step to where it ended, so none goes back. Where two or
 /// more might, the state of each is saved first, and freed at the end. Points and sizes are counts; `step` is the size of the
-/// plan's steps. It takes no memory.
+/// plan's steps. It allocates no memory.
 pub fn agreed_step<R: Threads + Sync, L: Peer>(
     rt: &R,
     slots: &mut [Slot<L>],

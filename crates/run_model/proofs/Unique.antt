@@ -49,7 +49,7 @@ IsClosed NeedsOf taken = (p q : ℕ) → Contains taken p → NeedsOf p q → Co
 abbrev pub AgreeOn : List ℕ → List (Option ℤ) → List (Option ℤ) → Type 0
 AgreeOn taken V W = (q : ℕ) → Contains taken q → value V q ≡ value W q
 
--- an element is among those taken, or the one behind them
+-- an element is among those taken, or the one after them
 pub push_cases : (taken : List ℕ) (p q : ℕ) {P : Type 0} → Contains (taken ++ p ∷ []) q → (Contains taken q → P) → (p ≡ q → P) → P
 push_cases taken p q {P} m before here = (elim (Contains-push_cases taken p q m) as (λ c. P) [
   | inl old ↦ before old

@@ -74,7 +74,7 @@ is_set_from ports (TimeClock timing) port q = false
 abbrev pub is_read : List Port → ℕ → Bool
 is_read ports q = list_any (λ (port : Port). is_set_from ports port.role port q) ports
 
--- the value of a port in Initialization Mode: an input without Clocks has its source's value, where that has no Clocks, and the source has what its FMU shows with the values written
+-- the value of a port in Initialization Mode: an input without Clocks has what its path makes of its source's value, where the source has no Clocks, and the source has what its FMU shows with the values written
 abbrev pub initial_value : Role → Run → List (Option ℤ) → ℕ → Port → Option ℤ
 initial_value (Input None) r values p port = None
 initial_value (Input (Some feed)) r values p port =

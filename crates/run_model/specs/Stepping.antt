@@ -98,7 +98,7 @@ pub record LacksStep (r : Run) (s : Situation) (i e : ℕ) : Type 0 where
   pub is_bound : IsBound r.plan s.timers s.events s.t bound
   pub stops : StopsShort (steppers r s) s.t r.plan.step bound i e
 
--- what follows: the run ends, in this way and at this point, behind the instant or before it, or goes on from a situation
+-- what follows: the run ends, in this way and at this point, after the instant or before it, or goes on from a situation
 pub data Next : Type 0 where
   Ends : (kind : EndKind) (point : ℕ) → Next
   EndsBefore : (kind : EndKind) (point : ℕ) → Next

@@ -36,7 +36,7 @@ use Rattle.run_program.proofs.PeerLemmas.{all_got, compare, mapped_at, slice_get
 use Rattle.run_program.proofs.Runs.{HasRunOne, ran_put}
 use Rattle.run_program.proofs.When.{HasPut}
 
--- the lives of a run's peers, and how its end is told by them
+-- the histories of a run's peers, and how its end is told by them
 pub record Lives (task : Task) (system : System) (end : RunEnd) (old new : Scene) : Type 0 where
   pub olds : List View
   pub news : List View
@@ -81,7 +81,7 @@ talk_there peers talks k v same here =
 
 -- ---- a peer
 
--- the life of a peer that tells its talk
+-- the history of a peer that tells its talk
 record Found (talks : List Talk) (lives : List Life) (olds : List View) (k : ℕ) (v : View) (talk : List Exchange) : Type 0 where
   life : Life
   here : slice_get lives k ≡ Some life
@@ -102,7 +102,7 @@ talk_at peers talks k v talk same here there =
     (sym (ap (option_map (λ (x : View). x.talk)) here) ∙ sym (slice_get-map (λ (x : View). x.talk) peers k) ∙ ap (λ xs. slice_get xs k) same
     ∙ slice_get-map (λ (es : List Exchange). Some es) talks k ∙ ap (option_map (λ (es : List Exchange). Some es)) there)
 
--- the talks that peers tell are those of their lives
+-- the talks that peers tell are those of their histories
 whole_talk : (life : Life) (talk : List Exchange) → IsLife life → life.new.talk ≡ Some talk → unwrap_or life.new.talk [] ≡ talk_in life
 whole_talk life talk is told = ap (λ (o : Option (List Exchange)). unwrap_or o []) told ∙ told_talk life life.new talk refl told is.talk
 

@@ -36,7 +36,7 @@ use Rattle.run_program.specs.Rows.{Answers, AnswersOr11, Failing, IsToFind, Read
 use Rattle.run_program.proofs.PeerLemmas.{all_got, compare, slice_get-take_front}
 use Rattle.run_program.proofs.When.{HasFacts, HasPut, by_run, start_rose}
 
--- ---- the line that the words are
+-- ---- the line that the arguments are
 
 reads_none : (line : Line) (old new : FolderView) → new ≡ old → ReadsSome (search_for line) old new
 reads_none line old new same = record { reads = []; asked = []; some = Nothing [] refl; asks = none_here old new same }

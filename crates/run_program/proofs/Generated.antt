@@ -48,7 +48,7 @@ has_none line folders system none is =
 
 -- ---- what is run
 
--- by the machines that are part of the program
+-- by the built-in machines
 abbrev pub task_by : Plan → Bound → List (List ℕ) → Task
 task_by plan bound folders = record { plan = plan; host = built_in_host; bound = bound; folders = folders }
 

@@ -50,7 +50,7 @@ has_folders s reads asked loaded comes = by (Found loaded) refl comes
         ap (λ (x : Loaded). length x.folders) (sym same) ∙ ap (λ (x : List (List ℕ)). length x) folders ∙ length-map o.systems.components (folder_of s.directory)
         ∙ sym makes.flattens.flat.components.len ∙ ap (λ (x : Loaded). length x.system.components) same
 
--- ---- where memory is wanting behind the files
+-- ---- where memory runs out after the files
 
 module _ (s : Search) (reads : List ReadNote) (o : Outline) (shapes : List Shape) (taken : List Binding) (given : List GivenBinding) (b : Binding) (rest : List Binding)
     (reaches : ReachesBindings s reads o shapes taken given (b ∷ rest)) where

@@ -1,4 +1,4 @@
--- Names that are written behind what stands in a text.
+-- Names that are written after what stands in a text.
 use Rattle.std.proofs.Common.{◌≡◌, ℕ, ◌+◌, ◌-◌, ◌*◌, ◌≤◌, List, [], ◌∷◌, ◌++◌, length, take, length-append, length-take, refl, sym, ap, ◌∙◌, arith}
 use Rattle.std.proofs.lemmas.Bool.Decides.{nat_tests}
 use Rattle.std.proofs.Math.Seq.{take-append-add}
@@ -18,7 +18,7 @@ escaped_short (byte ∷ name) =
     let rest = escaped_short name in
     omega (arith, length-append (escaped_byte byte) (escaped name))
 
--- what stands up to the end, once all behind a place is written
+-- what stands up to the end, once all after a place is written
 over_all : (at : ℕ) (xs ys : List ℕ) → at ≤ length xs → length ys ≡ length xs - at → take (at + length ys) (put_mid at (length xs - at) xs ys) ≡ take at xs ++ ys
 over_all at xs ys within same = take-put_mid at (length xs - at) xs ys (at + length ys) refl within
 
@@ -28,7 +28,7 @@ front_of at k xs ys text within short whole =
     let n : at + k ≤ at + length ys = omega arith in
     sym (take-take (at + k) (at + length ys) text n) ∙ ap (take (at + k)) whole ∙ ap (λ (m : ℕ). take (m + k) (take at xs ++ ys)) (sym count) ∙ take-append-add (take at xs) ys k
 
--- a name that is written to the front of what stands behind a place
+-- a name that is written to the start of what comes after a place
 pub name_behind : (at k : ℕ) (xs ys name : List ℕ) → at ≤ length xs → length ys ≡ length xs - at → k ≤ length ys → take k ys ≡ escaped name →
     take (at + k) (put_mid at (length xs - at) xs ys) ≡ take at xs ++ escaped name
 name_behind at k xs ys name within same short front =

@@ -162,7 +162,7 @@ unmade_names system link olds news bad u =
 
 -- ---- from what the master says
 
--- the account of a run, by what its master is behind it
+-- the account of a run, by what its master is after it
 abbrev pub account_of : System → Bound → Plan → List View → List View → SinkView → SinkView → Standing → RunEnd → Account
 account_of system bound plan olds news before after done end =
     record { system = system; bound = bound; plan = plan; olds = olds; news = news; before = before; after = after; instants = done.instants; end = end }

@@ -42,7 +42,7 @@ one_bench_line one other e = cc
 one_trace_line : (one other : TraceLine) → OfTrace one ≡ OfTrace other → one ≡ other
 one_trace_line one other e = cc
 
--- words that are a line of a system and of no other command
+-- arguments that are a command line of a system and of no other command
 pub of_system : (h : Happened) (line : Line) → ((asked : Asked) → IsAsked h.words asked → OfSystem line ≡ asked) → KeepsSystemRows h → KeepsRows h
 of_system h line only rows = record {
   system = λ none no_bench. rows;
@@ -50,7 +50,7 @@ of_system h line only rows = record {
   bench = λ bench is. absurd (apart_bench line bench (only (OfBench bench) is));
 }
 
--- words that are the line of a trace
+-- arguments that are the line of a trace
 pub of_trace : (h : Happened) (line : TraceLine) → IsTraceLine h.words line → ((asked : Asked) → IsAsked h.words asked → OfTrace line ≡ asked) → ChecksTrace h line → KeepsRows h
 of_trace h line is only checks = record {
   system = λ none no_bench. absurd (none line is);
@@ -58,7 +58,7 @@ of_trace h line is only checks = record {
   bench = λ bench other. absurd (apart_two line bench (only (OfBench bench) other));
 }
 
--- words that are the line of a run of a generated system
+-- arguments that are the line of a run of a generated system
 pub of_bench : (h : Happened) (line : BenchLine) → IsBenchLine h.words line → ((asked : Asked) → IsAsked h.words asked → OfBench line ≡ asked) → RunsBench h line → KeepsRows h
 of_bench h line is only runs = record {
   system = λ none no_bench. absurd (no_bench line is);
@@ -66,7 +66,7 @@ of_bench h line is only runs = record {
   bench = λ bench other. subst (RunsBench h) (one_bench_line line bench (only (OfBench bench) other)) runs;
 }
 
--- words that are no line
+-- arguments that are no command line
 pub of_none : (h : Happened) → ((asked : Asked) → IsAsked h.words asked → ⊥) → KeepsSystemRows h → KeepsRows h
 of_none h none rows = record {
   system = λ no_trace no_bench. rows;
@@ -103,7 +103,7 @@ refused h line (end.File file (Broken rule place ports)) o f (inl tells) bare p 
 refused h line (end.File file (Broken rule place ports)) o f (inr tells) bare p = Judges (Lacks file.path (Faulty rule place ports)) f (bare, inl (wants h o tells p))
 refused h line end.Memory o f tells bare p = Wanting f bare (wants h o tells p)
 
--- memory was wanting to read the words
+-- memory ran out when the arguments were read
 pub unread_rows : BuiltInsBehaveWell → (o : Outcome) (h : Happened) → o ≡ Memory → h.new ≡ h.old → HasPut o h → KeepsRows h
 unread_rows behave o h e same p = record {
   system = λ none no_bench. keeps_rows behave o h (WithoutLine (record { why = subst (λ (x : Outcome). LacksLine x h.words) (sym e) tt; same = same })) p;

@@ -141,7 +141,7 @@ unstarted_idle task system name cause h how f =
 unread : (h : Happened) → h.new ≡ h.old → IsUnfailed h
 unread h same = let none = none_here h.old.folder h.new.folder (ap (λ (s : Stage). s.folder) same) in ([], none.told, none.unfailed)
 
--- for want of memory nothing was called, and no read failed
+-- where memory runs out nothing was called, and no read failed
 abbrev pub IsWanting : Happened → Type 0
 IsWanting h = IsIdle h × (h.new.run.spawner.faults ≡ h.old.run.spawner.faults) × IsUnfailed h
 

@@ -22,7 +22,7 @@ use Rattle.run_program.specs.Runs.{Broke, FailsToStart, Goes, HasRun, IsEndOf, T
 
 -- ---- the numbers of a run
 
--- how many exchanges there were in these lives, closing ones too, and how many of them were Restore; each instance's counts are of 64 bits, and stay at their last value
+-- how many exchanges there were in these histories, closing ones too, and how many of them were Restore; each instance's counts are of 64 bits, and stay at their last value
 abbrev pub counted : ℕ → ℕ
 counted n = min n (2 ^ 64 - 1)
 
@@ -33,7 +33,7 @@ abbrev pub restores_in : List Life → ℕ
 restores_in lives =
     sum_by (λ (l : Life). counted (count_by (λ (e : Exchange). is_restore e.call) (talk_in l))) lives
 
--- the numbers are those of these instants and of these lives
+-- the numbers are those of these instants and of these histories
 pub record AreNumbersOf (numbers : Numbers) (is : List Instant) (lives : List Life) : Type 0 where
   pub instants : numbers.instants ≡ length is
   pub calls : numbers.calls ≡ exchanges_in lives
@@ -86,7 +86,7 @@ has_finished Untold = false
 
 -- ---- what is run for a line
 
--- the generated system, on the machines that are part of the program, which have no folders
+-- the generated system, on the built-in machines, which have no folders
 abbrev pub system_for : BenchLine → System
 system_for line = generated_system line.seed line.components
 

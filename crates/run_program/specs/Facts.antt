@@ -108,16 +108,16 @@ pub data LineFacts (outcome : Outcome) (line : Line) (old new : Stage) : Type 0 
   OfSystem : (loaded : Loaded) → LoadsLine line loaded old.folder new.folder →
       SystemFacts line outcome loaded old.run new.run → LineFacts outcome line old new
 
--- ---- the words
+-- ---- the arguments
 
--- the command that the words are, and what holds of its outcome
+-- the command that the arguments are, and what holds of its outcome
 pub record RunsLine (outcome : Outcome) (words : List (List ℕ)) (old new : Stage) : Type 0 where
   pub line : Line
   pub is : IsLine words line
   pub only : (other : Line) → IsLine words other → line ≡ other
   pub facts : LineFacts outcome line old new
 
--- why no line is read: the words are none, or memory is wanting to read them
+-- why no line is read: the arguments are none, or memory runs out
 abbrev pub LacksLine : Outcome → List (List ℕ) → Type 0
 LacksLine Words words = (line : Line) → IsLine words line → ⊥
 LacksLine Memory words = Unit {0}

@@ -20,7 +20,7 @@ pub record Stage : Type 0 where
 abbrev pub stage : FolderView → SpawnerView → SinkView → Stage
 stage folder spawner out = record { folder = folder; run = scene spawner out }
 
--- the words, what is told before and after, what the error sink tells before and after, and the status
+-- the arguments, what is told before and after, what the error sink tells before and after, and the status
 pub record Happened : Type 0 where
   pub words : List (List ℕ)
   pub old : Stage

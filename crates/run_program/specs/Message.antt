@@ -124,7 +124,7 @@ message Untold = Some (codes "write\n")
 abbrev pub feeds_in : System → ℕ
 feeds_in system = count_by (λ (port : Port). is_some (source_of port.role)) system.ports
 
--- the line of a check: how many components, ports and feeds, and how many names of parameters that reach nothing
+-- the line of a check: how many components, ports and feeds, and how many unresolved names of parameters
 unfoldable pub size_text : System → ℕ → List ℕ
 size_text system unreached =
     codes "components " ++ decimal (length system.components) ++ codes " ports " ++
@@ -207,7 +207,7 @@ status_of Untold = 10
 
 -- ---- what is put
 
--- the put of a line failed, and a front of it is there
+-- the put of a line failed, and a prefix of it is there
 abbrev pub CutsShort : List ℕ → SinkView → SinkView → Type 0
 CutsShort text old new = (n : ℕ) × (new ≡ with_fault old (take n text))
 

@@ -7,7 +7,7 @@ use Rattle.system_files.specs.declared.named.FileFault.TheVariants.{Unread, Miss
 use Rattle.run_program.specs.declared.outcome.Outcome.{Outcome}
 use Rattle.run_program.specs.declared.outcome.Outcome.TheVariants.{Memory, File}
 
--- a file that isn't taken is told; for what it breaks memory may be wanting
+-- a file that isn't taken is told; for what it breaks memory may run out
 abbrev pub TellsFile : List ℕ → FileFault → Outcome → Type 0
 TellsFile path (Broken rule place ports) outcome =
     (outcome ≡ File path (Broken rule place ports)) ⊎ (outcome ≡ Memory)

@@ -64,21 +64,21 @@ IsMute h text = (h.status ≡ 10) × CutsShort text h.err h.err_after
 abbrev pub Answers : Happened → ℕ → List ℕ → Type 0
 Answers h status text = ((h.status ≡ status) × Says h text) ⊎ IsMute h text
 
--- the line of want of memory
+-- the line for out of memory
 abbrev pub memory_line : List ℕ
 memory_line = codes "memory\n"
 
--- want of memory, or this status with this line
+-- out of memory, or this status with this line
 abbrev pub AnswersOr11 : Happened → ℕ → List ℕ → Type 0
 AnswersOr11 h status text = Answers h 11 memory_line ⊎ Answers h status text
 
 -- ---- which files are read
 
--- the words are a line, and this holds of it
+-- the arguments are a command line, and this holds of it
 abbrev pub OnLine : Happened → (Line → Type 0) → Type 0
 OnLine h P = (line : Line) × IsLine h.words line × P line
 
--- the words are no line
+-- the arguments are no command line
 abbrev pub IsNoLine : Happened → Type 0
 IsNoLine h = (line : Line) → IsLine h.words line → ⊥
 
@@ -100,7 +100,7 @@ abbrev pub IsUnfailed : Happened → Type 0
 IsUnfailed h =
     (reads : List ReadNote) × (h.new.folder ≡ with_reads h.old.folder reads) × AreUnfailed reads
 
--- the files are asked for in their order, each once: to an end, or to one whose read fails, which is answered, or until memory is wanting
+-- the files are asked for in their order, each once: to an end, or to one whose read fails, which is answered, or until memory runs out
 pub data ReadsFiles (h : Happened) (line : Line) : Type 0 where
   Whole : (finding : Finding) → Loads (search_for line) finding h.old.folder h.new.folder →
       ReadsFiles h line
@@ -159,7 +159,7 @@ pub data HasEnded (h : Happened) (line : Line) : Type 0 where
 pub record EndRow (h : Happened) : Type 0 where
   pub when : h.status ≡ 0 → OnLine h (HasEnded h)
 
--- 2: exactly where the words are no line
+-- 2: exactly where the arguments are no command line
 pub record WordsRow (h : Happened) : Type 0 where
   pub when : h.status ≡ 2 → IsNoLine h × (h.new ≡ h.old) × Says h (codes "words\n")
   pub exact : IsNoLine h → AnswersOr11 h 2 (codes "words\n")
@@ -283,7 +283,7 @@ pub record RefusalRow (h : Happened) : Type 0 where
   pub when : h.status ≡ 6 → OnLine h (λ line. BreaksOffBy h line IsRefusedWhy)
   pub exact : DecidesBy h IsRefusedWhy
 
--- 7: exactly where the first answer that isn't good is a misreply
+-- 7: exactly where the first answer that isn't good is an invalid reply
 pub record MisreplyRow (h : Happened) : Type 0 where
   pub when : h.status ≡ 7 → OnLine h (λ line. BreaksOffBy h line IsMisreplyWhy)
   pub exact : DecidesBy h IsMisreplyWhy
@@ -339,7 +339,7 @@ pub record MemoryRow (h : Happened) : Type 0 where
 abbrev pub IsStatus : ℕ → Type 0
 IsStatus n = (n ≡ 0) ⊎ (((2 ≤ n) × (n ≤ 11)) ⊎ (n ≡ 13))
 
--- no other status comes, and err holds what it held or one line more, or a front of one
+-- no other status comes, and err holds what it held or one line more, or a prefix of one
 pub record StatusRow (h : Happened) : Type 0 where
   pub known : IsStatus h.status
   pub line : IsSilent h ⊎ ((text : List ℕ) × (Says h text ⊎ IsMute h text))
@@ -373,7 +373,7 @@ pub record RunsLoaded (h : Happened) (asked : RunLine) (loaded : Loaded) : Type 
       StartsBuiltIns built_in_host h.old.run.spawner → TellTimings loaded →
       HasBuiltIns (task_of asked made) made.system traces.account.olds
 
--- the trace: where the files say a system, the identifiers are known and no start failed, that of its run; or for want of memory nothing
+-- the trace: where the files say a system, the identifiers are known and no start failed, that of its run; or nothing where memory runs out
 pub record TraceRow (h : Happened) : Type 0 where
   pub when : (line : Line) (asked : RunLine) (loaded : Loaded) → IsLine h.words line →
       run_in line ≡ Some asked → IsToFind h line (Found loaded) →
@@ -383,12 +383,12 @@ pub record TraceRow (h : Happened) : Type 0 where
 
 -- ---- a check
 
--- the line of the size, or a front of it where its put failed and the status is 10
+-- the line of the size, or a prefix of it where its put failed and the status is 10
 pub data WritesSize (h : Happened) (loaded : Loaded) : Type 0 where
   Sized : (h.status ≡ 0) → TellsSize loaded h.old.run h.new.run → WritesSize h loaded
   Cut : (h.status ≡ 10) → FailsToTell loaded h.old.run h.new.run → WritesSize h loaded
 
--- the size: where the files say a system, or for want of memory nothing
+-- the size: where the files say a system, or nothing where memory runs out
 pub record CheckRow (h : Happened) : Type 0 where
   pub when : (line : Line) (loaded : Loaded) → IsLine h.words line → run_in line ≡ None →
       IsToFind h line (Found loaded) →
@@ -396,7 +396,7 @@ pub record CheckRow (h : Happened) : Type 0 where
 
 -- ---- the peers
 
--- each peer that was started was taken back once: uncalled, or behind a run in which its talk is legal, lean and closed, and puts and end are those of the run, and the status that of its end; a check starts none, and puts the size
+-- each peer that was started was taken back once: uncalled, or after a run in which its talk is legal, lean and closed, and puts and end are those of the run, and the status that of its end; a check starts none, and puts the size
 pub data PeerRow (h : Happened) : Type 0 where
   Idle : IsIdle h → PeerRow h
   Checked : (line : Line) → IsLine h.words line → OnCheck h line TellsSize ⊎
@@ -405,7 +405,7 @@ pub data PeerRow (h : Happened) : Type 0 where
 
 -- ---- all of it
 
--- what holds of each call of the program whose words don't ask for the check of a trace
+-- what holds of each call of the program whose arguments don't ask for the check of a trace
 pub record KeepsSystemRows (h : Happened) : Type 0 where
   pub ended : EndRow h
   pub words : WordsRow h

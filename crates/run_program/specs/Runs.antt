@@ -118,7 +118,7 @@ pub record HasOneTrace (r : Run) : Type 0 where
   pub one : (is js : List Instant) (k l : EndKind) (p q : ℕ) → IsTrace r is k p →
       IsTrace r js l q → (is ≡ js) × (k ≡ l) × (p ≡ q)
 
--- what was put of machines that behave well: all of their one trace, or a front of it where the put of a piece failed; else a call failed
+-- what was put of machines that behave well: all of their one trace, or a prefix of it where the put of a piece failed; else a call failed
 abbrev pub TracesOnce : Account → Run → RunEnd → Type 0
 TracesOnce a r (E.Bad bad) = TracesWell a r (E.Bad bad)
 TracesOnce a r end = HasOneTrace r × TracesWell a r end
@@ -138,7 +138,7 @@ pub record Traces (task : Task) (system : System) (end : RunEnd) (old new : Scen
   pub well : (r : Run) → IsRunOf system task.bound account.olds r → r.plan ≡ task.plan →
       WellBehaved r → TracesOnce account r end
 
--- all instances were made, and the run went on to its end. Each peer that isn't spared behind a Fatal of its source is over. What it put of told machines is their run, up to where it was broken off
+-- all instances were made, and the run went on to its end. Each peer that isn't spared after a Fatal of its source is over. What it put of told machines is their run, up to where it was broken off
 pub record Goes (task : Task) (system : System) (end : RunEnd) (old new : Scene) : Type 0 where
   pub traces : Traces task system end old new
   pub lived : Lived traces.account

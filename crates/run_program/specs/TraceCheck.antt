@@ -46,7 +46,7 @@ fault_of Absent = Missing
 fault_of Long = TooBig
 fault_of (Faulty rule place ports) = Broken rule place ports
 
--- a file that isn't taken is told: 3 where it is missing or too big, 4 where it breaks a rule; or memory is wanting
+-- a file that isn't taken is told: 3 where it is missing or too big, 4 where it breaks a rule; or memory runs out
 abbrev pub TellsFlaw : Happened → List ℕ → Flaw → Type 0
 TellsFlaw h path flaw =
     IsUntold h × AnswersOr11 h (file_status (fault_of flaw)) (file_message path (fault_of flaw))
@@ -57,7 +57,7 @@ abbrev pub Tells : Happened → Judgement → Type 0
 Tells h (Lacks path flaw) = TellsFlaw h path flaw
 Tells h (Gives verdict) = TellsVerdict h verdict
 
--- what it comes to is told; or the read of a file failed, or memory is wanting
+-- what it comes to is told; or the read of a file failed, or memory runs out
 pub data EndsCheck (h : Happened) (line : TraceLine) : Type 0 where
   Judges : (j : Judgement) → Judged (question_of line) j h.old.folder h.new.folder →
       Tells h j → EndsCheck h line
@@ -73,7 +73,7 @@ pub record ChecksTrace (h : Happened) (line : TraceLine) : Type 0 where
 
 -- ---- each call of the program
 
--- the rows of a system, and where the words ask for the check of a trace or for the run of a generated system, that
+-- the rows of a system, and where the arguments ask for the check of a trace or for the run of a generated system, that
 pub record KeepsRows (h : Happened) : Type 0 where
   pub system : ((line : TraceLine) → IsTraceLine h.words line → ⊥) →
       ((line : BenchLine) → IsBenchLine h.words line → ⊥) → KeepsSystemRows h

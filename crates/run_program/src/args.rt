@@ -17,8 +17,8 @@ use std::env::Args;
 use std::io::{self, ErrorKind};
 use std::thread::Threads;
 
-/// Does what the words say that the host gives, the program's name first, and answers the program's status. Words that
-/// it can't give, as one that isn't UTF-8, are no command line.
+/// Does what the arguments say that the host gives, the program's name first, and answers the program's status. Where the host
+/// can't give one, as where it isn't UTF-8, they are no command line.
 pub fn run_args<R: Threads + Sync, F: Folder, S: Spawner, O: Sink, E: Sink>(
     rt: &R,
     alloc: Global,
@@ -47,7 +47,7 @@ pub fn run_args<R: Threads + Sync, F: Folder, S: Spawner, O: Sink, E: Sink>(
     }
 }
 
-// The words behind the program's name.
+// The arguments after the program's name.
 fn words_behind(alloc: Global, given: Args) -> Result<Vec<String>, AllocError>
     ensures { IfOk result (λ words. words.items ≡ drop 1 (into_iter_items given)) }
 {

@@ -21,8 +21,8 @@ use std::alloc::{AllocError, Global};
 use std::thread::Threads;
 use system_files::Loaded;
 
-/// Runs the system that a seed gives on the machines that are part of the program, and keeps nothing of its trace. Where it
-/// comes to the stop, or an FMU asks for the end, its numbers are put on `out`.
+/// Runs the system that a seed gives on the built-in machines, and keeps nothing of its trace. Where it comes to the stop, or
+/// an FMU asks for the end, its numbers are put on `out`.
 pub(crate) fn run_bench<R: Threads + Sync, S: Spawner, O: Sink>(
     rt: &R,
     alloc: Global,

@@ -1,4 +1,5 @@
-//! The work of the program, from the words of its command line to its status: it reads the descriptions of a system of FMUs, runs it, and writes the trace.
+//! The work of the program, from the arguments of its command line to its status: it reads the descriptions of a system of
+//! FMUs, runs it, and writes the trace.
 #![tactic(auto)]
 
 mod args;

@@ -21,7 +21,7 @@ use system_files::FileFault;
 use system_model::{Port, Role, System};
 use trace_check::Verdict;
 
-/// Writes the line of a file that wasn't taken to the front of `text`, and answers its length.
+/// Writes at the start of `text` the line of a file that wasn't taken, and answers its length.
 #[tactic(auto, unfolding(crate::specs::Message::file_message))]
 pub(crate) fn write_file_message(path: &str, fault: &FileFault, text: &mut [u8]) -> usize
     requires { room_for (length path.now) + place_room fault.now ≤ length text.old }
@@ -56,7 +56,7 @@ fn write_broken(path: &str, rule: Rule, place: &Place, ports: &[PortId], text: &
     append(b"\n", text, at)
 }
 
-/// Writes the line of a component whose peer wasn't started to the front of `text`, and answers its length.
+/// Writes at the start of `text` the line of a component whose peer wasn't started, and answers its length.
 #[tactic(auto, unfolding(crate::specs::Message::start_message))]
 pub(crate) fn write_start_message(component: &str, fault: StartCause, text: &mut [u8]) -> usize
     requires { room_for (length component.now) ≤ length text.old }
@@ -69,7 +69,7 @@ pub(crate) fn write_start_message(component: &str, fault: StartCause, text: &mut
     }
 }
 
-/// Writes the line of a step that a component can't make to the front of `text`, and answers its length. Point and end
+/// Writes at the start of `text` the line of a step that a component can't make, and answers its length. Point and end
 /// are counts.
 #[tactic(auto, unfolding(crate::specs::Message::fixed_message))]
 pub(crate) fn write_fixed_message(component: &str, point: u64, end: u64, text: &mut [u8]) -> usize
@@ -86,7 +86,7 @@ pub(crate) fn write_fixed_message(component: &str, point: u64, end: u64, text: &
     append(b"\n", text, at)
 }
 
-/// Writes the line of a variable on the way to which a value is lost to the front of `text`, and answers its length.
+/// Writes at the start of `text` the line of a variable on the way to which a value is lost, and answers its length.
 #[tactic(auto, unfolding(crate::specs::Message::range_message))]
 pub(crate) fn write_range_message(
     component: &str,
@@ -107,7 +107,7 @@ pub(crate) fn write_range_message(
     append(b"\n", text, at)
 }
 
-/// Writes the line of a point whose instants reach their limit to the front of `text`, and answers its length. The point
+/// Writes at the start of `text` the line of a point whose instants reach their limit, and answers its length. The point
 /// is a count.
 #[tactic(auto, unfolding(crate::specs::Message::limit_message))]
 pub(crate) fn write_limit_message(point: u64, text: &mut [u8]) -> usize
@@ -120,7 +120,7 @@ pub(crate) fn write_limit_message(point: u64, text: &mut [u8]) -> usize
     append(b"\n", text, at)
 }
 
-/// Writes the line of a component's answer that isn't good to the front of `text`, and answers its length.
+/// Writes at the start of `text` the line of a component's answer that isn't good, and answers its length.
 #[tactic(auto, unfolding(crate::specs::Message::bad_message))]
 pub(crate) fn write_bad_message(component: &str, why: &Why, text: &mut [u8]) -> usize
     requires { room_for (length component.now) ≤ length text.old }
@@ -188,7 +188,7 @@ fn write_named(front: &[u8], name: &str, back: &[u8], text: &mut [u8]) -> usize
     append(back, text, at)
 }
 
-// Puts a piece behind what stands in the text up to `at`, and answers where it ends.
+// Puts a piece after what stands in the text up to `at`, and answers where it ends.
 fn append(piece: &[u8], text: &mut [u8], at: usize) -> usize
     requires { at + length piece.now ≤ length text.old }
     ensures end { result ≡ at + length piece.now }
@@ -199,7 +199,7 @@ fn append(piece: &[u8], text: &mut [u8], at: usize) -> usize
     end
 }
 
-// Puts a name, escaped, behind what stands in the text up to `at`, and answers where it ends.
+// Puts a name, escaped, after what stands in the text up to `at`, and answers where it ends.
 fn append_name(name: &str, text: &mut [u8], at: usize) -> usize
     requires { at + 3 * length name.now ≤ length text.old }
     ensures end { result ≤ at + 3 * length name.now }
@@ -209,7 +209,7 @@ fn append_name(name: &str, text: &mut [u8], at: usize) -> usize
     at + length
 }
 
-// Puts the digits of a number behind what stands in the text up to `at`, and answers where they end.
+// Puts the digits of a number after what stands in the text up to `at`, and answers where they end.
 #[tactic(auto, using(crate::proofs::Digits::decimal_short))]
 fn append_number(number: u64, text: &mut [u8], at: usize) -> usize
     requires { at + 20 ≤ length text.old }
@@ -239,7 +239,7 @@ fn append_value(value: i128, text: &mut [u8], at: usize) -> usize
     append(Buffer::new().format(value).as_bytes(), text, at)
 }
 
-// Puts a place behind what stands in the text up to `at`, and answers where it ends.
+// Puts a place after what stands in the text up to `at`, and answers where it ends.
 fn append_place(place: &Place, text: &mut [u8], at: usize) -> usize
     requires { at + 25 + path_room place.now ≤ length text.old }
     ensures end { result ≤ at + 25 + path_room place.now }
@@ -254,7 +254,7 @@ fn append_place(place: &Place, text: &mut [u8], at: usize) -> usize
     }
 }
 
-// Puts the ports of a loop behind what stands in the text up to `at`, and answers where they end.
+// Puts the ports of a loop after what stands in the text up to `at`, and answers where they end.
 fn append_loop(ports: &[PortId], text: &mut [u8], at: usize) -> usize
     requires { at + 6 + loop_room ports.now ≤ length text.old }
     ensures end { result ≤ at + 6 + loop_room ports.now }
@@ -267,7 +267,7 @@ fn append_loop(ports: &[PortId], text: &mut [u8], at: usize) -> usize
     append_ports(ports, text, at)
 }
 
-// Puts the numbers of ports, with a space before each, behind what stands in the text up to `at`.
+// Puts the numbers of ports, with a space before each, after what stands in the text up to `at`.
 fn append_ports(ports: &[PortId], text: &mut [u8], at: usize) -> usize
     requires { at + loop_room ports.now ≤ length text.old }
     ensures end { result ≤ at + loop_room ports.now }
@@ -281,8 +281,7 @@ fn append_ports(ports: &[PortId], text: &mut [u8], at: usize) -> usize
     end
 }
 
-/// Writes the size of a system, with so many names of parameters that reach nothing, to the front of `text`, and answers
-/// the length.
+/// Writes at the start of `text` the size of a system, with so many unresolved names of parameters, and answers the length.
 #[tactic(auto, unfolding(crate::specs::Message::size_text))]
 pub(crate) fn write_size(system: &System, unreached: u64, text: &mut [u8]) -> usize
     requires { 128 ≤ length text.old }
@@ -300,7 +299,7 @@ pub(crate) fn write_size(system: &System, unreached: u64, text: &mut [u8]) -> us
     append(b"\n", text, at)
 }
 
-/// Writes the numbers of a run to the front of `text`, and answers their length: how many instants it had, how many
+/// Writes at the start of `text` the numbers of a run, and answers their length: how many instants it had, how many
 /// exchanges there were, and how many of these were calls of Restore.
 #[tactic(auto, unfolding(crate::specs::Message::summary_text))]
 pub(crate) fn write_summary(instants: u128, calls: u128, rollbacks: u128, text: &mut [u8]) -> usize
@@ -317,7 +316,7 @@ pub(crate) fn write_summary(instants: u128, calls: u128, rollbacks: u128, text: 
     append(b"\n", text, at)
 }
 
-/// Writes the line of a verdict to the front of `text`, and answers its length.
+/// Writes at the start of `text` the line of a verdict, and answers its length.
 #[tactic(auto, unfolding(crate::specs::TraceCheck::verdict_text))]
 pub(crate) fn write_verdict(verdict: Verdict, text: &mut [u8]) -> usize
     requires { 45 ≤ length text.old }

@@ -5,9 +5,9 @@ use system_files::FileFault;
 /// How a command ends.
 #[derive(Debug, Drop)]
 pub(crate) enum Outcome {
-    /// The words are no command line.
+    /// The arguments are no command line.
     Words,
-    /// There was no memory to begin with.
+    /// Memory ran out before any FMU was called.
     Memory,
     /// A file wasn't taken.
     File { path: Text, fault: FileFault },

@@ -22,7 +22,7 @@ pub(crate) struct Report {
 }
 
 impl Report {
-    /// The words are no command line.
+    /// The arguments are no command line.
     pub fn words(alloc: Global) -> Report
         ensures { result.outcome ≡ Words }
     {
@@ -32,7 +32,7 @@ impl Report {
         }
     }
 
-    /// There was no memory to begin with.
+    /// Memory ran out before any FMU was called.
     pub fn memory(alloc: Global) -> Report
         ensures { result.outcome ≡ Memory }
     {

@@ -36,17 +36,17 @@ use step_master::{Master, PrepareEnd, PrepareFault, RunEnd, lives_of_peers, runs
 use system_files::{Loaded, load};
 use system_model::{Bound, System};
 
-/// Does what the words of a command line say, and answers the program's status.
+/// Does what the arguments of a command line say, and answers the program's status.
 ///
-/// `run DIR --resolution R --step H --stop T [--start S] [--workers W] [--max-iterations N] [--link L]
-/// [--host PROGRAM]` reads the description of the system in a directory and those of its FMUs, runs them from their first calls to their
-/// closing, and puts the trace on `out`; `one` does so with the FMU that is described there. Each FMU is run by the
-/// host, or where none is given by the program itself. R, H, T and S are counts: R of them are one second, and the run
-/// goes from S, which is 0 where it isn't given, to T by steps of H. A point has at most N instants, and at most 100
-/// where that isn't given. The calls of a step are made by W threads, by one where it isn't given. With `--link 2` hosts that take
-/// batches are sent several reads or writes in one. `check DIR
-/// --resolution R` puts the size of the system on `out`, and `trace-check DIR FILE` whether the trace in a file keeps
-/// the rules of that system. At each status but 0 and 1 one line is put on `err`.
+/// `run DIR --resolution R --step H --stop T [--start S] [--workers W] [--max-iterations N] [--link L] [--host PROGRAM]` reads
+/// the description of the system in a directory and those of its FMUs, runs them from their first calls to their closing, and
+/// puts the trace on `out`; `one` does so with the FMU that is described there. PROGRAM is started as the host of each FMU;
+/// without `--host` the FMUs are built-in machines. R, H, T and S are counts: R of them are one second, and the run goes from
+/// S (0 by default) to T by steps of H. A point has at most N instants (100 by default), and W threads make the calls of a
+/// step (1 by default). With `--link 2` hosts that take batches are sent several reads or writes in one.
+/// `check DIR --resolution R` puts the size of the system on `out`, `trace-check DIR FILE` whether the trace in a file keeps
+/// the rules of that system, and `bench SEED N` the numbers of the run of a generated system of N components. At each status
+/// but 0 and 1 one line is put on `err`.
 pub fn run_words<R: Threads + Sync, F: Folder, S: Spawner, O: Sink, E: Sink>(
     rt: &R,
     alloc: Global,

@@ -241,7 +241,7 @@ leads_across r s ts es V next within alike leads =
 abbrev pub EitherReached : Run → Situation → Situation → Type 0
 EitherReached r s x = Reached r s ⊎ Reached r x
 
--- behind an instant one of the two is so too, and no later than the stop
+-- after an instant one of the two is so too, and no later than the stop
 on_too : {r : Run} {s : Situation} {V : List (Option ℤ)} (next : Situation) (ts us : List Timer) (es fs : List (Option ℕ)) → StepsWithin r → EitherReached r s (with_timers s ts es) → s.t ≤ r.plan.stop →
     Solves r s V → Solves r (with_timers s ts es) V → Leads r s V (GoesOn next) → Leads r (with_timers s ts es) V (GoesOn (with_timers next us fs)) →
     EitherReached r next (with_timers next us fs) × (next.t ≤ r.plan.stop)

@@ -22,7 +22,7 @@ use Rattle.run_rest.proofs.Splitting.{Laws, comes_reached, outcome, same_initial
 pushed : (is js : List Instant) (i : Instant) → js ≡ is ++ i ∷ [] → length js ≡ suc (length is)
 pushed is js i e = let l : length (is ++ i ∷ []) ≡ length is + length (i ∷ []) = length-append is (i ∷ []) in ap (λ (xs : List Instant). length xs) e ∙ l ∙ omega arith
 
--- behind equally many instants the run stands in one place
+-- after equally many instants the run stands in one place
 come_same : {r : Run} {is js : List Instant} {s z : Situation} → Laws → IsSound r.system → AreMachines r → Comes r is s → Comes r js z → length is ≡ length js → (is ≡ js) × (s ≡ z)
 come_same {r} laws sound machines (AtFirst s is W solves kept e none) (AtFirst z js U solves2 kept2 f none2) len =
     (none ∙ sym none2, e ∙ ap (beginning r) (same_initially laws r sound machines W U solves solves2) ∙ sym f)

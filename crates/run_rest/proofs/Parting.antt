@@ -9,7 +9,7 @@ use Rattle.run_model.specs.Inputs.{state_with}
 use Rattle.run_model.specs.Stepping as P
 use Rattle.run_rest.specs.Parted.{DepartsFrom, AtStop, WhereAsked, WhereFixed, ByStep, at_step, entering_step, ready}
 
--- one change of each state behind another
+-- one change of each state after another
 each_twice : (f g h : ℕ → Component → Machine → MachineState → MachineState) → ((i : ℕ) (c : Component) (m : Machine) (s : MachineState) → f i c m (g i c m s) ≡ h i c m s) →
     (k : ℕ) (cs : List Component) (ms : List Machine) (ss : List MachineState) → each_from f k cs ms (each_from g k cs ms ss) ≡ each_from h k cs ms ss
 each_twice f g h same k [] ms ss = refl
@@ -47,7 +47,7 @@ closed (WhereAsked next k p step asks e) = P.WhereAsked next k p (record { befor
 closed (WhereFixed next i e lacks x) = P.WhereFixed next i e (record { before_stop = lacks.before_stop; bound = lacks.bound; is_bound = lacks.is_bound; stops = lacks.stops }) x
 closed (ByStep next k p step asks e) = P.ByStep next k p (record { before_stop = step.before_stop; bound = step.bound; is_bound = step.is_bound; agree = step.agree }) asks e
 
--- a step behind EnterStep
+-- a step after EnterStep
 pub enters : {r : Run} {z : Situation} {next : P.Next} → P.Departs r z next → DepartsFrom r (at_step r z) (ready r (at_step r z)) next
 enters {r} {z} {next} d = subst (λ states. DepartsFrom r (at_step r z) states next) (sym (ready_is r z)) (rebased (entering_step r z) z.n (opened d))
 

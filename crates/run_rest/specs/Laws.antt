@@ -66,7 +66,7 @@ Resumes =
     (k : EndKind) (p : ℕ) (z : Situation) → Held r front z →
     (Rest r (at_step r z) rest k p ↔ Rest r (resumed r (snapshot_of r (at_step r z))) rest k p)
 
--- what a run that is resumed writes is what the run that was held writes behind the instants before
+-- what a run that is resumed writes is what the run that was held writes after the instants before
 abbrev pub Resumption : Type 0
 Resumption =
     (r : Run) → IsSound r.system → AreMachines r → StepsWithin r → (front is js : List Instant)

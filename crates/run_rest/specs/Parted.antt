@@ -1,4 +1,4 @@
--- A step in two parts: EnterStep, and what is done from Step Mode on (FMI 3.0, 4.2.1: Step Mode; fmi3DoStep). Behind the two a run stands as behind the one step of `run_model`.
+-- A step in two parts: EnterStep, and what is done from Step Mode on (FMI 3.0, 4.2.1: Step Mode; fmi3DoStep). After the two a run stands as after the one step of `run_model`.
 use Rattle.std.specs.Prelude.{◌≡◌, ℕ, ◌<◌, Bool, true, false, if◌then◌else◌, List}
 use Rattle.std.specs.List.{list_any}
 use Rattle.fmi_calls.specs.declared.call.Call.TheVariants as C

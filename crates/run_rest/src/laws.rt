@@ -42,7 +42,7 @@ pub fn resumes()
     ensures { Resumes }
 {}
 
-/// A law: what a run that is resumed writes is what the run that was held writes behind the instants before.
+/// A law: what a run that is resumed writes is what the run that was held writes after the instants before.
 pub fn resumption()
     ensures { Resumption }
 {

@@ -29,7 +29,7 @@ pub without_last_empty-none : {X : Type 0} (text : X → List ℕ) (xs : List X)
 without_last_empty-none text [] count = refl
 without_last_empty-none text (s ∷ more) count = absurd (omega arith)
 
--- one more segment stands behind a `/`, unless it is the first
+-- one more segment comes after a `/`, unless it is the first
 pub join_with_byte-push : (c : ℕ) (xs : List (List ℕ)) (x y : List ℕ) → join_with_byte c ((x ∷ xs) ++ y ∷ []) ≡ join_with_byte c (x ∷ xs) ++ c ∷ y
 join_with_byte-push c [] x y = refl
 join_with_byte-push c (z ∷ zs) x y =

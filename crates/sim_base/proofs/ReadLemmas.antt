@@ -18,7 +18,7 @@ pub last_replaced : (old rest new : List ReadNote) (read : ReadNote) (answer : R
     new ≡ with_last old answer
 last_replaced old rest new read answer is told = told ∙ sym (last_told rest read answer) ∙ ap (λ (rs : List ReadNote). with_last rs answer) (sym is)
 
--- asked for and answered, the read stands behind those before
+-- asked for and answered, the read comes after those before
 pub read_kept : (old mid new : ReadNotes) (path : List ℕ) (answer : Result (List ℕ) ReadFault) → mid ≡ record old { reads = old.reads ++ read_of path (Err Memory) ∷ [] } →
     new.reads ≡ with_last mid.reads answer → new.reads ≡ old.reads ++ read_of path answer ∷ []
 read_kept old mid new path answer asked reads = reads ∙ ap (λ (m : ReadNotes). with_last m.reads answer) asked ∙ last_told old.reads (read_of path (Err Memory)) answer

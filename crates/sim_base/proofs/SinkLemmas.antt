@@ -9,7 +9,7 @@ use Rattle.std.specs.Prelude.{Some}
 use Rattle.sim_base.specs.Pieces.{cut}
 use Rattle.sim_base.specs.Sink.{SinkView, with_fault}
 
--- one more piece behind the whole
+-- one more piece after the whole
 pub cut_push : (ns bytes piece : List ℕ) (n : ℕ) → sum ns ≡ length bytes → n ≡ length piece → cut (ns ++ n ∷ []) (bytes ++ piece) ≡ cut ns bytes ++ piece ∷ []
 cut_push [] [] piece n whole is_n = grind (arith, common_steps)
 cut_push [] (b ∷ bytes) piece n whole is_n = absurd (omega arith)

@@ -1,4 +1,4 @@
--- Bytes that are taken from the front of those to come.
+-- Bytes that are taken from the start of those to come.
 use Rattle.std.proofs.Common.{◌≡◌, ◌+◌, ◌<◌, ◌≤◌, ℕ, List, [], ◌++◌, length, take, drop, min, refl, length-drop, arith}
 use Rattle.std.proofs.lemmas.List.{take-append-drop, drop-drop, nil_from_length}
 use Rattle.std.proofs.lemmas.Grind.{common_steps}

@@ -24,7 +24,7 @@ with_read view path answer = record view {
   faults = faults_after view.faults answer;
 }
 
--- what a read of a path makes of what a folder tells. For want of memory it may not be noted
+-- what a read of a path makes of what a folder tells. Where memory runs out it may not be noted
 abbrev pub NotesRead : FolderView → FolderView → List ℕ → Result (Vec ℕ Global) ReadFault → Type 0
 NotesRead old new path (Ok bytes) = new ≡ with_read old path (Ok bytes.items)
 NotesRead old new path (Err Missing) = new ≡ with_read old path (Err Missing)

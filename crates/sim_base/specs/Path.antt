@@ -6,7 +6,7 @@ use Rattle.std.specs.List.{slice_split, join_with_byte}
 abbrev pub segments : List ℕ → List (List ℕ)
 segments path = slice_split (λ b. b == 47) path
 
--- all segments but a last one that is empty, as behind a `/` at the end
+-- all segments but a last one that is empty, as after a `/` at the end
 abbrev pub without_last_empty : List (List ℕ) → List (List ℕ)
 without_last_empty [] = []
 without_last_empty (s ∷ []) = if length s == 0 then [] else s ∷ []

@@ -25,7 +25,7 @@ concat-cut_all (n ∷ ns) bytes whole =
     let rest = concat-cut_all ns (drop n bytes) (simp length-drop (omega (arith, sum_by-cons (λ x. x) n ns))) in
     grind (arith, common_steps, rest)
 
--- so they are with empty ones behind them
+-- so they are with empty ones after them
 pub concat-cut : (ns bytes : List ℕ) (k : ℕ) → sum ns ≡ length bytes → bytes ≡ concat (cut ns bytes ++ replicate k [])
 concat-cut ns bytes k whole =
     grind (arith, common_steps, concat-append, concat-replicate k, concat-cut_all ns bytes whole, append-nil)

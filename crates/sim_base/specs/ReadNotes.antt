@@ -20,7 +20,7 @@ abbrev pub told_answer : Result (Vec ℕ Global) ReadFault → Result (List ℕ)
 told_answer (Ok bytes) = Ok bytes.items
 told_answer (Err fault) = Err fault
 
--- the count of failed reads behind an answer
+-- the count of failed reads after an answer
 abbrev pub faults_after : ℕ → Result (List ℕ) ReadFault → ℕ
 faults_after n (Ok bytes) = n
 faults_after n (Err Failed) = one_more n

@@ -28,7 +28,7 @@ with_fault view piece = record {
   faults = one_more view.faults;
 }
 
--- what a put makes of what a sink tells: all of the bytes are one more piece, or after a fault a part from their front
+-- what a put makes of what a sink tells: all of the bytes are one more piece, or after a fault a prefix of them
 abbrev pub NotesPut : {T E : Type 0} → SinkView → SinkView → List ℕ → Result T E → Type 0
 NotesPut old new bytes (Ok _) = new ≡ with_piece old bytes
 NotesPut old new bytes (Err _) = (n : ℕ) × (new ≡ with_fault old (take n bytes))

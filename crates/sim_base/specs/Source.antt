@@ -21,7 +21,7 @@ abbrev pub IsWithinRoom : {E : Type 0} → Result ℕ E → List ℕ → Type 0
 IsWithinRoom (Ok n) into = n ≤ length into
 IsWithinRoom (Err fault) into = Unit {0}
 
--- what a take makes of what a source tells: the front of `into` is the front of what was to come, and is gone from it; nothing is taken into room only at the end; a fault takes nothing
+-- what a take makes of what a source tells: `into` begins with the first bytes of what was to come, which are gone from it; where `into` isn't empty none are taken only at the end; a fault takes nothing
 pub record NotesTake {E : Type 0} (old new : SourceView) (into : List ℕ) (result : Result ℕ E) : Type 0 where
   pub within : IsWithinRoom result into
   pub taken : ReadConsumes old.left new.left result into

@@ -47,8 +47,8 @@ pub fn escaped_byte(byte: u8) -> EscapedByte
     }
 }
 
-/// Writes a name to the front of `out` with the bytes below 33, 127 and `%` escaped, and answers the length of
-/// what it wrote. The bytes behind that stay as they were.
+/// Writes a name to the start of `out`, with the bytes below 33, 127 and `%` escaped, and answers the length of what it wrote.
+/// The bytes after that stay as they were.
 pub fn escape(name: &str, out: &mut [u8]) -> usize
     requires { 3 * length name.now ≤ length out.old }
     ensures written { result ≡ length (escaped name.now) }

@@ -30,7 +30,7 @@ impl Model for ReadBook {
 }
 
 impl ReadBook {
-    /// A book before the first read. It takes no memory.
+    /// A book before the first read. It allocates no memory.
     pub fn new(alloc: Global) -> ReadBook
         ensures reads { result.reads ≡ [] }
         ensures quiet { result.faults ≡ 0 }
@@ -91,7 +91,7 @@ impl ReadBook {
     }
 }
 
-// The count of failed reads behind an answer.
+// The count of failed reads after an answer.
 fn counted(faults: u64, answer: &Result<Vec<u8>, ReadFault>) -> u64
     ensures { result ≡ faults_after faults (told_answer answer.now) }
 {

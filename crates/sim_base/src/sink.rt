@@ -18,7 +18,7 @@ pub trait Sink {
     /// What it tells: its bytes and its pieces, if it tells them, and how often a put has failed.
     ghost view: { Self → SinkView };
 
-    /// Adds all of the bytes as one piece, or after a fault a part from their front. It takes no memory.
+    /// Adds all of the bytes as one piece, or after a fault a prefix of them. It allocates no memory.
     fn put(&mut self, bytes: &[u8]) -> Result<(), SinkFault>
         ensures noted { NotesPut (view self.old) (view self.new) bytes.now result };
 

@@ -17,8 +17,8 @@ pub trait Source {
     /// What it tells: the bytes that are still to come, if it tells them, and how often a take has failed.
     ghost view: { Self → SourceView };
 
-    /// Moves bytes from the front of those to come to the front of `into`, and answers how many: none exactly at the end of
-    /// all bytes, where `into` isn't empty. It takes no memory.
+    /// Moves bytes from the start of those to come to the start of `into`, and answers how many: none exactly at the end of
+    /// all bytes, where `into` isn't empty. It allocates no memory.
     fn take(&mut self, into: &mut [u8]) -> Result<usize, SourceFault>
         ensures noted { NotesTake (view self.old) (view self.new) into.new result };
 }
@@ -78,7 +78,7 @@ impl Source for MemSource {
     }
 }
 
-// Copies the front of the bytes from a place on to the front of `into`, as much as there is and as fits.
+// Copies the bytes from a place on to the start of `into`, as many as there are and as fit.
 fn copy_front(bytes: &[u8], from: usize, into: &mut [u8]) -> usize
     ensures count { result ≡ min (length into.old) (length (drop from bytes.now)) }
     ensures copied { take result into.new ≡ take result (drop from bytes.now) }

@@ -18,7 +18,7 @@ impl Model for Text {
 }
 
 impl Text {
-    /// A text of these bytes. It takes no memory.
+    /// A text of these bytes. It allocates no memory.
     pub fn from_string(text: String) -> Text
         ensures { result ≡ string_bytes text }
     {

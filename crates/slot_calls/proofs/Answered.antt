@@ -1,4 +1,4 @@
--- Lists of calls and their answers, one behind the other.
+-- Lists of calls and their answers, one after the other.
 use Rattle.std.proofs.Common.{◌≡◌, ℕ, zero, suc, ◌+◌, ◌<◌, ◌≤◌, Bool, true, false, List, [], ◌∷◌, ◌++◌, Ok, Err, Result, refl, sym, ap, ap₂, ◌∙◌, subst, append_assoc, arith, length, get_or, map, take, drop}
 use Rattle.std.specs.Prelude.{All, if◌then◌else◌}
 use Rattle.std.proofs.lemmas.List.{append-nil, length-take-le, take_more, take-append-drop}
@@ -113,7 +113,7 @@ module _ (test : Shape → Bool) (call : Shape → Call) where
   those_none : (k : ℕ) (s : Shape) → test s ≡ false → to_those_from k test call (s ∷ []) ≡ []
   those_none k s h = ap (λ (b : Bool). if b then record { component = k; call = call s } ∷ [] else []) h
 
-  -- behind the last of them nothing is left
+  -- after the last of them nothing is left
   pub those_all : (ss : List Shape) (i : ℕ) → length ss ≤ i → to_those test call (take i ss) ≡ to_those test call ss
   those_all ss i h = ap (to_those test call) (take_whole ss i h) where
     take_whole : (xs : List Shape) (i : ℕ) → length xs ≤ i → take i xs ≡ xs
@@ -122,7 +122,7 @@ module _ (test : Shape → Bool) (call : Shape → Call) where
     take_whole (y ∷ ys) zero h = absurd (omega (arith, h))
     take_whole (y ∷ ys) (suc i) h = ap (λ (zs : List Shape). y ∷ zs) (take_whole ys i (omega (arith, h)))
 
-  -- the calls up to a place, and those behind it
+  -- the calls up to a place, and those after it
   module _ (ss : List Shape) (i : ℕ) (shape : Shape) (within : i < length ss) (at : IsShapeAt ss i shape) where
     abbrev pub asking : Asking
     asking = record { component = i; call = call shape }

@@ -44,9 +44,9 @@ other i k h = grind (arith)
 pub same : (i k : ℕ) → i ≡ k → (i == k) ≡ true
 same i k h = grind (arith)
 
--- ---- one call that is sent or left out, and what is sent behind it
+-- ---- one call that is sent or left out, and what is sent after it
 
--- the rest of a log behind the call, if it was sent
+-- the rest of a log after the call, if it was sent
 record Rest (a : Asking) (cs : List Asking) (log : List Sent) : Type 0 where
   rest : List Sent
   rest_is : askings rest ≡ cs

@@ -37,7 +37,7 @@ module _ (m : Machine) where
     by (Ok reply) k on = (k.0, on k.1)
     by (Err fault) k on = tt
 
-  -- behind good ones
+  -- after good ones
   pub replies_back : (shape : Shape) (s : MachineState) (es fs : List Exchange) → T.AllGood shape es → RepliesBy m s (es ++ fs) → RepliesBy m (state_by m s es) fs
   replies_back shape s [] fs good h = h
   replies_back shape s (e ∷ es) fs good h =

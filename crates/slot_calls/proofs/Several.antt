@@ -1,4 +1,4 @@
--- Several calls to an FMU in a slot: its token, and whether it is marked by Fatal, behind them.
+-- Several calls to an FMU in a slot: its token, and whether it is marked by Fatal, after them.
 use Rattle.std.proofs.Common.{◌≡◌, Bool, false, true, List, [], ◌∷◌, ◌++◌, length, Ok, Err, Result, refl, sym, ap, ◌∙◌, subst, ◌⊎◌, inl, inr}
 use Rattle.std.specs.Prelude.{All, IfErr, OnOk, ◌||◌, is_some}
 use Rattle.std.proofs.lemmas.List.Elements.{All-head, All-tail}

@@ -1,4 +1,4 @@
--- Which saved state is held behind a list of exchanges.
+-- Which saved state is held after a list of exchanges.
 use Rattle.std.proofs.Common.{◌≡◌, Bool, false, List, [], ◌∷◌, ◌++◌, Option, Result, refl}
 use Rattle.value_types.specs.declared.shape.Shape.{Shape}
 use Rattle.fmi_calls.specs.declared.call.Call.{Call}
@@ -13,7 +13,7 @@ pub saved_on : (shape : Shape) (saved : Bool) (es fs : List Exchange) → saved_
 saved_on shape saved [] fs = refl
 saved_on shape saved (e ∷ es) fs = saved_on shape (saved_by shape e.call e.result saved) es fs
 
--- the last step behind a list, and whether one stands behind the last Save
+-- the last step after a list, and whether one comes after the last Save
 pub last_on : (before : Option Exchange) (es fs : List Exchange) → last_step before (es ++ fs) ≡ last_step (last_step before es) fs
 last_on before [] fs = refl
 last_on before (e ∷ es) fs = last_on (step_or e e.call before) es fs

@@ -22,13 +22,13 @@ if_good Good saved = true
 if_good Refused saved = saved
 if_good Misreply saved = saved
 
--- whether a state is held behind a call: a good Save gives one, and a Free spends it, whatever is answered
+-- whether a state is held after a call: a good Save gives one, and a Free spends it, whatever is answered
 abbrev pub saved_by : Shape → Call → Result Reply PeerFault → Bool → Bool
 saved_by shape C.Save (Ok reply) saved = if_good (grade_of shape C.Save reply) saved
 saved_by shape C.Free result saved = false
 saved_by shape call result saved = saved
 
--- behind these exchanges
+-- after these exchanges
 abbrev pub saved_after : Shape → Bool → List Exchange → Bool
 saved_after shape saved [] = saved
 saved_after shape saved (e ∷ es) = saved_after shape (saved_by shape e.call e.result saved) es
@@ -60,7 +60,7 @@ AgreeAtLast talks =
     (m : ℕ) × All (λ (t : Talk). IfSome (last_step None t.exchanges)
     (λ e. IsGood t.shape e × EndsAt m e.result)) talks
 
--- the talk has a DoStep behind its last Save
+-- the talk has a DoStep after its last Save
 abbrev pub steps : Call → Bool → Bool
 steps (C.DoStep at size) stepped = true
 steps C.Save stepped = false
@@ -76,7 +76,7 @@ IsEnding C.Terminate = Unit {0}
 IsEnding C.FreeInstance = Unit {0}
 IsEnding call = ⊥
 
--- among these talks a call is one of the closing: one that ends its instance, or a Free before such ones alone, where the last DoSteps of all weren't good with one end, or its own talk has no DoStep behind its last Save. It stands behind the front of its talk and before the rest. All other calls are the run's
+-- among these talks a call is one of the closing: one that ends its instance, or a Free before such ones alone, where the last DoSteps of all weren't good with one end, or its own talk has no DoStep after its last Save. It comes after the first part of its talk and before the rest. All other calls are the run's
 abbrev pub IsOfClosing : List Talk → List Exchange → Call → List Exchange → Type 0
 IsOfClosing talks front C.Free rest =
     All (λ (e : Exchange). IsEnding e.call) rest ×

@@ -116,7 +116,7 @@ pub record Moves {L T : Type 0} {g : _} (view : L → View) (old : Held L g) (ca
   pub called : Called call value (view (peer_in old)) (view (peer_in new)) result
   pub live : OnOk result (IsLive view new)
 
--- in Step Mode the FMU was asked this call alone, and is there behind a good answer; its slot, which had or hadn't the token of a saved state, has it by the answer
+-- in Step Mode the FMU was asked this call alone, and is there after a good answer; its slot, which had or hadn't the token of a saved state, has it by the answer
 pub record Stays {T : Type 0} (call : Call) (value : Exchange → T) (old new : View) (had has : Bool)
     (result : Result T Why) : Type 0 where
   pub called : Called call value old new result

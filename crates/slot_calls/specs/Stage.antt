@@ -23,7 +23,7 @@ shapes_of system = map (λ (c : Component). c.shape) system.components
 abbrev pub IsGoodOf : List Shape → Sent → Type 0
 IsGoodOf shapes s = (d : Shape) → IsGood (slice_index_or shapes s.component d) s.exchange
 
--- the last answer isn't good, and those in front of it are
+-- the last answer isn't good, and those before it are
 pub record IsFirst (shapes : List Shape) (bad : BadAnswer) (front : List Sent)
     (last : Sent) : Type 0 where
   pub good : All (IsGoodOf shapes) front

@@ -8,7 +8,7 @@ use Rattle.ssd_tree.specs.Names.{HasNameLength}
 use Rattle.ssd_tree.specs.Parts.{IsFullName, InOutermost, InInner}
 use Rattle.ssd_tree.proofs.ElementLemmas.{holder_cases}
 
--- the full name of an element is that of an outer one with so many bytes behind it
+-- the full name of an element is that of an outer one with so many bytes after it
 pub record IsNameBehind (t : List Node) (k outer behind : ℕ) : Type 0 where
   pub grows : (above : List ℕ) → IsFullName t outer above → (name : List ℕ) × IsFullName t k name × (length name ≡ length above + behind)
   pub begins : (name : List ℕ) → IsFullName t k name → (above : List ℕ) × IsFullName t outer above × (length name ≡ length above + behind)

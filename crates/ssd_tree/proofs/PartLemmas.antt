@@ -199,7 +199,7 @@ first_name t k xs ys x name sound is way split same =
     let named : attribute t x (codes "name") ≡ Some name = part_has_name t x sound (climbs_part t k xs x way.0 sound (inr is) climbs) ∙ ap (λ (z : List ℕ). Some z) (sym same) in
     (x, (way.0, parts.0, parts.1, InOutermost x way.0 name parts.1 way.2 named))
 
--- the next one's name stands behind it
+-- the next one's name comes after it
 pub next_name : (t : List Node) (k : ℕ) (xs ys : List ℕ) (x : ℕ) (old new : List ℕ) → IsSoundStructure t → IsComponent t k
     → (last : ℕ) × ((outer : ℕ) × Climbs t k ys last × (holder t last (codes "Elements") ≡ Some outer) × IsFullName t last old) → ys ≡ xs ++ x ∷ [] → new ≡ old ++ 46 ∷ text_of t x (codes "name")
     → (last : ℕ) × ((outer : ℕ) × Climbs t k xs last × (holder t last (codes "Elements") ≡ Some outer) × IsFullName t last new)

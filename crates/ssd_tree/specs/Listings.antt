@@ -1,7 +1,7 @@
 -- Lists of the elements of a sort, in document order.
 use Rattle.std.specs.Prelude.{◌↔◌, ℕ, ◌<◌, List, length, slice_index, Contains}
 
--- each stands behind those before it
+-- each comes after those before it
 abbrev pub IsRising : List ℕ → Type 0
 IsRising nodes = (i j : ℕ) → i < j → j < length nodes → slice_index nodes i < slice_index nodes j
 

@@ -12,7 +12,7 @@ abbrev pub IsOwner : SystemTree → Owner → Type 0
 IsOwner t (System place) = place < length t.systems
 IsOwner t (Component place) = place < length t.components
 
--- the names of the Systems below the outermost, down to this one, each with a dot behind it
+-- the names of the Systems below the outermost, down to this one, each with a dot after it
 pub data IsScope (t : SystemTree) : ℕ → List ℕ → Type 0 where
   Outermost : (s : ℕ) (part : SystemPart) (scope : List ℕ) → slice_get t.systems s ≡ Some part →
       part.parent ≡ None → scope ≡ [] → IsScope t s scope
@@ -31,7 +31,7 @@ pub record BeginsWithScope (t : SystemTree) (s : ℕ) (name : List ℕ) : Type 0
 abbrev pub IsInScope : SystemTree → ComponentPart → Type 0
 IsInScope t c = BeginsWithScope t c.system c.name
 
--- each System stands behind the one that it stands in, full names are those of the tree, and each binding is that of a part
+-- each System comes after the one that it stands in, full names are those of the tree, and each binding is that of a part
 pub record IsNamedTree (t : SystemTree) : Type 0 where
   pub outer : (s above : ℕ) (part : SystemPart) → slice_get t.systems s ≡ Some part →
       part.parent ≡ Some above → above < s

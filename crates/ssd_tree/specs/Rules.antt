@@ -180,12 +180,12 @@ ViolatesStructure s t r.ElementTwice k = IsPart t k × IsRepeated (element_key t
 ViolatesStructure s t r.OtherType k = HasOtherType s t k
 -- 33: a source is a path below the description's folder or, at a component, below the component's
 ViolatesStructure s t r.NoSource k = HasNoSource t k
--- 34: Model Exchange is left out of this profile
+-- 34: Model Exchange is unsupported
 ViolatesStructure s t r.ModelExchange k =
     IsFmu s t k × (attribute t k (codes "implementation") ≡ Some (codes "ModelExchange"))
 -- 35: something required is absent; two connectors of a part have one name; a kind is none of this profile
 ViolatesStructure s t r.Incomplete k = IsIncomplete t k
--- 36: the factor, the offset or an entry of a transformation doesn't read, or it maps enumerations, which are left out of this profile
+-- 36: the factor, the offset or an entry of a transformation doesn't read, or it maps enumerations, which are unsupported
 ViolatesStructure s t r.Transformation k = IsConnection t k × HasMisread t k
 -- 37: an end names no element or no connector
 ViolatesStructure s t r.NoEnd k = IsConnection t k × HasNoEnd t k

@@ -1,5 +1,5 @@
 -- What a `source` names: a path below the description's folder (SSP 1.0: source; RFC 3986, 3.3: segments).
--- Escapes, schemes and what leads out of the folder are left out of this profile.
+-- Escapes, schemes and what leads out of the folder are unsupported.
 use Rattle.std.specs.Prelude.{◌≡◌, ℕ, Bool, true, false, not, ◌==◌, ◌&&◌, ◌||◌, All, List, length, codes, bytes_eq}
 use Rattle.std.specs.List.{join_with_byte, list_any}
 use Rattle.sim_base.specs.Path.{is_dot, kept_segments}

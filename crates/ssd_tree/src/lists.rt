@@ -18,7 +18,7 @@ pub struct Parts {
 }
 
 impl Parts {
-    /// The tree of these parts. It takes no memory.
+    /// The tree of these parts. It allocates no memory.
     pub fn into_tree(self) -> SystemTree
         ensures { result ≡ tree_of self }
     {

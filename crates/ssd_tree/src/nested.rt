@@ -40,7 +40,7 @@ impl IndexedTree<'_> {
         })
     }
 
-    // The Component at a place behind others, if it is a system of its own.
+    // The Component at a place after others, if it is a system of its own.
     fn push_nested(
         &self,
         alloc: Global,

@@ -88,7 +88,7 @@ fn is_binding(tree: &Tree, systems: &[usize], components: &[usize], node: usize)
         && is_of_part(tree, systems, components, node, "ParameterBindings")
 }
 
-/// All Systems. A System stands behind the one that it stands in.
+/// All Systems. A System comes after the one that it stands in.
 pub(crate) fn systems(alloc: Global, tree: &Tree) -> Result<Vec<usize>, AllocError>
     ensures { IfOk result (λ v. IsListing (IsSystem tree.now) v.items) }
 {

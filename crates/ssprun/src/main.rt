@@ -1,4 +1,4 @@
-//! The program: its words, files, streams and FMUs are those of the host.
+//! The program: its arguments, files, streams and FMUs are those of the host.
 #![tactic(auto)]
 
 use child_hosts::Hosts;

@@ -132,7 +132,7 @@ module _ (t step : ℕ) (fmus : List Fmu) where
       by (AllOfThem all) = absurd (let h : true ≡ false = sym (all i f at) ∙ un in cc)
       by (OneAlone one others) = others i f e at un later
 
-    -- ---- behind the first asking, for the bound b
+    -- ---- after the first asking, for the bound b
     module _ (g q : Fmu → ℕ) (waits : Each (λ (f : Fmu). first f.shape ≡ false → g f ≡ t) fmus) (b : ℕ) (later : t < b) (front : List Sent) (asks : Asks t step everyone (comes_first first) b (map (stand_of g q) fmus) front) (ends : AreEnds t fmus front) where
       abbrev pub first_points : Fmu → ℕ
       first_points f = if first f.shape then f.end b else g f

@@ -13,7 +13,7 @@ use Rattle.step_agreement.proofs.GoingBack.{same_shapes}
 abbrev pub IsOfRound : ℕ → Call → Type 0
 IsOfRound t call = (call ≡ C.Restore) ⊎ ((size : ℕ) × (call ≡ C.DoStep t size))
 
--- what well answered rounds have, one behind the other, and what one with a bad answer has behind those
+-- what well answered rounds have, one after the other, and what one with a bad answer has after those
 pub record IsAlong (t : ℕ) (shapes : List Shape) (Good : List Sent → Type 0) (Bad : BadAnswer → List Sent → Type 0) : Type 0 where
   pub none : Good []
   pub joined : (front back : List Sent) → Good front → Good back → Good (front ++ back)
@@ -55,7 +55,7 @@ module _ (t step : ℕ) (first : Shape → Bool) (shapes : List Shape) (Good : L
         subst (λ (o : Outcome). Has o log) (sym is)
         (subst (Bad bad) (sym log_is) (h.behind bad backs steps (well (is_away t test) C.Restore backs back_call back) (badly test (C.DoStep t (e - t)) bad steps (step_call (e - t)) fails)))
 
-  -- behind well answered rounds
+  -- after well answered rounds
   on : (front back : List Sent) (outcome : Outcome) → Good front → Has outcome back → Has outcome (front ++ back)
   on front back (Meets point) f b = h.joined front back f b
   on front back (Unfit i e) f b = h.joined front back f b

@@ -1,4 +1,4 @@
--- In an agreement a Restore of one FMU stands behind a step alone, whatever is answered.
+-- In an agreement a Restore of one FMU comes only after a step, whatever is answered.
 use Rattle.std.proofs.Common.{◌≡◌, ℕ, ◌-◌, ◌<◌, ◌==◌, Bool, true, false, not, List, [], ◌∷◌, ◌++◌, Some, refl, sym, ap, ◌∙◌, subst, arith, append-nil}
 use Rattle.std.specs.Prelude.{◌&&◌}
 use Rattle.std.specs.List.{slice_get}
@@ -13,7 +13,7 @@ use Rattle.step_agreement.proofs.Falling.{OneCall, own_call, split_calls}
 use Rattle.step_agreement.proofs.Moves.{FromAway, FromHere, Own, Skips, good_end, other_number, own, same_number}
 use Rattle.step_agreement.proofs.Tracks.{stand_here}
 
--- steps from t, and Restores, each behind a step; before these calls there was a step or not
+-- steps from t, and Restores, each after a step; before these calls there was a step or not
 abbrev pub Alternates : ℕ → Bool → List Call → Type 0
 Alternates t stepped [] = Unit {0}
 Alternates t stepped (C.DoStep at size ∷ cs) = (at ≡ t) × Alternates t true cs
@@ -31,7 +31,7 @@ module _ (t : ℕ) where
   on_off : (s : Stand) → t < s.point → is_off t s ≡ true
   on_off s after = ap not (other_number s.point t (λ same. absurd (omega (arith, same, after))))
 
-  -- a good step ends behind t
+  -- a good step ends after t
   after_step : (z : Stand) (shape : Shape) (x : Exchange) (e : ℕ) → x.call ≡ C.DoStep t (e - t) → IsGood shape x → t < (moved t z x.call x.result).point
   after_step z shape x e call good = let g = good_end shape t (e - t) x good call in let l = g.later in let there = ap (λ (c : Call). (moved t z c x.result).point) call in omega (arith, there, l)
 

@@ -79,7 +79,7 @@ module _ (t : ℕ) (shapes : List Shape) where
 abbrev all_first : Shape → Bool
 all_first shape = true
 
--- each stands behind t, and all not at one point
+-- each is past t, and all not at one point
 pub record AreApart (t : ℕ) (stands : List Stand) : Type 0 where
   pub behind : Each (λ (s : Stand). t < s.point) stands
   pub apart : (m : ℕ) → are_at m stands ≡ true → ⊥
@@ -90,7 +90,7 @@ all_there m stands h j y at = equal y.point m (all_each (λ (s : Stand). s.point
 pub there_all : (m : ℕ) (stands : List Stand) → Each (λ (s : Stand). s.point ≡ m) stands → are_at m stands ≡ true
 there_all m stands h = each_all (λ (s : Stand). s.point == m) stands (λ j y at. same_number y.point m (h j y at))
 
--- one behind a log
+-- one after a log
 stand_behind : (t : ℕ) (stands : List Stand) (log : List Sent) (k : ℕ) (s : Stand) → slice_get stands k ≡ Some s → slice_get (stands_by t stands log) k ≡ Some (stand_by t s (part k log))
 stand_behind t stands log k s at = let place : 0 + k ≡ k = omega arith in from 0 stands k at ∙ ap (λ (n : ℕ). Some (stand_by t s (part n log))) place where
   from : (i : ℕ) (ss : List Stand) (j : ℕ) → slice_get ss j ≡ Some s → slice_get (stands_from t i ss log) j ≡ Some (stand_by t s (part (i + j) log))
@@ -142,7 +142,7 @@ module _ (t step b : ℕ) (later : t < b) (stands : List Stand) (front : List Se
 -- ---- how it ends
 
 module _ (t step : ℕ) (shapes : List Shape) where
-  -- a round with a bad answer behind others that were answered well: of steps, or of Restores while all stand apart
+  -- a round with a bad answer after others that were answered well: of steps, or of Restores while all stand apart
   pub record IsBroken (bad : BadAnswer) (stands : List Stand) (log : List Sent) : Type 0 where
     pub front : List Sent
     pub more : List Sent
@@ -159,11 +159,11 @@ module _ (t step : ℕ) (shapes : List Shape) where
   EndsSo stands log (Unfit i e) = AreGoodSteps t shapes log × ((log ≡ []) ⊎ (AreApart t (stands_by t stands log) ⊎ (early_count shapes ≡ 1)))
   EndsSo stands log (Fails bad) = IsBroken bad stands log
 
-  -- all stand at t, or apart behind it
+  -- all stand at t, or apart after it
   abbrev pub Begins : List Stand → Type 0
   Begins stands = Each (λ (s : Stand). s.point ≡ t) stands ⊎ AreApart t stands
 
-  -- behind further rounds that were answered well
+  -- after further rounds that were answered well
   further : (stands mids : List Stand) (front rest : List Sent) (outcome : Outcome) → AreGoodSteps t shapes front → mids ≡ stands_by t stands front → AreApart t mids → EndsSo mids rest outcome → EndsSo stands (front ++ rest) outcome
   further stands mids front rest (Meets m) good is apart (rest_good, there, later) = (
     All-append (IsGoodStep t shapes) front rest good rest_good,

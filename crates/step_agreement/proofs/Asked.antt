@@ -1,4 +1,4 @@
--- Who is asked for what on the way to an agreement: where each step that is asked for ends well, each ask is behind the beginning, and so is the point; and each FMU keeps one that it was asked.
+-- Who is asked for what on the way to an agreement: where each step that is asked for ends well, each ask is after the beginning, and so is the point; and each FMU keeps one that it was asked.
 use Rattle.std.proofs.Common.{◌≡◌, ◌≢◌, ◌⊎◌, inl, inr, ℕ, ◌<◌, ◌≤◌, ◌==◌, Bool, true, false, not, List, [], Some, refl, sym, ap, ◌∙◌, subst, arith, map}
 use Rattle.std.specs.Prelude.{if◌then◌else◌}
 use Rattle.std.specs.List.{list_all, slice_get}
@@ -23,7 +23,7 @@ unnot true h = absurd (cc)
 unnot false h = refl
 
 module _ (fmus : List Stepper) (t step : ℕ) where
-  -- a step that is asked for an end behind t ends behind t, and at that at most
+  -- a step that is asked for an end after t ends after t, and at that at most
   abbrev pub EndWhereAsked : ℕ → Type 0
   EndWhereAsked b = (i e : ℕ) (f : Stepper) → IsAsked fmus (λ k. true) t step b i e → t < e → slice_get fmus i ≡ Some f → (t < f.end e) × (f.end e ≤ e)
 

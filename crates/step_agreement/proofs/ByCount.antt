@@ -149,7 +149,7 @@ meets_within t step b stands log p later home agrees =
 -- ---- how it ends
 
 module _ (t step : ℕ) (shapes : List Shape) (one : early_count shapes ≡ 1) where
-  -- behind well answered rounds, one of those that stand at t
+  -- after well answered rounds, one of those that stand at t
   stops_one : (sized test : Stand → Bool) (e : ℕ) (mids : List Stand) → shapes_in mids ≡ shapes → ((i : ℕ) (s : Stand) → slice_get mids i ≡ Some s → test s ≡ true → s.point ≡ t) → (stands : List Stand) (front back : List Sent) (outcome : Outcome) → AreGoodSteps t shapes front →
       Stops t step sized test e mids back outcome → EndsSo t step shapes stands (front ++ back) outcome
   stops_one sized test e mids same home stands front back outcome good (IsUnfit i unfit none is) =

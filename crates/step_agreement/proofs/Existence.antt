@@ -53,7 +53,7 @@ module _ (fmus : List Stepper) (t step : ℕ) where
         unnot true h = absurd (cc)
         unnot false h = refl
 
-      -- where one of the others ends elsewhere, the next bound is behind t and below this one
+      -- where one of the others ends elsewhere, the next bound is past t and below this one
       pub fallen_within : Passes (λ (f : Stepper). f.end (met fmus b) == met fmus b) false (others fmus b) → (t < fallen_bound fmus b) × (fallen_bound fmus b < b)
       fallen_within missed =
           let one = least_one (λ (f : Stepper). f.end (met fmus b)) b (others fmus b) missed.1 (missed.0, missed.2) in

@@ -140,9 +140,9 @@ module _ (t step : ℕ) (first : Shape → Bool) (i : ℕ) where
       end_of true = tt
       end_of false = tt
 
-  -- ---- where they stand behind an asking
+  -- ---- where they stand after an asking
 
-  -- one that was asked is behind t and at its bound at most
+  -- one that was asked is past t and at its bound at most
   own_within : (e : ℕ) → t < e → (b : Bool) (s : Stand) (es : List Exchange) → Own t e b s es → b ≡ true → (t < (stand_by t s es).point) × ((stand_by t s es).point ≤ e)
   own_within e later b s es (Skips un is) h = absurd (cc)
   own_within e later b s es (FromHere asked home x is call good) h =
@@ -159,7 +159,7 @@ module _ (t step : ℕ) (first : Shape → Bool) (i : ℕ) where
   own_stays e b s es (FromHere asked home x is call good) h = absurd (cc)
   own_stays e b s es (FromAway asked away y x is back y_good call good) h = absurd (cc)
 
-  -- one behind a log stood somewhere before it
+  -- one after a log stood somewhere before it
   pub stood : (stands : List Stand) (log : List Sent) (j : ℕ) (y : Stand) → slice_get (stands_by t stands log) j ≡ Some y → (s : Stand) × (slice_get stands j ≡ Some s) × (y ≡ stand_by t s (part j log))
   stood stands log j y at =
       let was = stood_from t 0 stands log j y at in
@@ -174,7 +174,7 @@ module _ (t step : ℕ) (first : Shape → Bool) (i : ℕ) where
       let was = stood stands log j y at in
       ap (λ (z : Stand). first z.shape) was.2 ∙ ap first (shape_kept t was.0 (part j log)) ∙ h j was.0 was.1
 
-  -- behind the first asking
+  -- after the first asking
   module _ (b : ℕ) (later : t < b) (stands : List Stand) (firsts : ComeFirst stands) (front : List Sent) (asks : Asks t step everyone (comes_first first) b stands front) (mids : List Stand) (mids_are : mids ≡ stands_by t stands front) (m : ℕ) (m_is : m ≡ reached t b mids) where
     mid_within : Each (λ (y : Stand). (t < y.point) × (y.point ≤ b)) mids
     mid_within j y at =
@@ -206,7 +206,7 @@ module _ (t step : ℕ) (first : Shape → Bool) (i : ℕ) where
           unnot true h = absurd (cc)
           unnot false h = refl
 
-    -- behind the second, where not all are there
+    -- after the second, where not all are there
     module _ (back : List Sent) (asks2 : Asks t step (ends_elsewhere t b m) (is_elsewhere m) m mids back) (lasts : List Stand) (lasts_are : lasts ≡ stands_by t mids back) (behind : are_at m lasts ≡ false) (c : ℕ) (c_is : c ≡ reached t m lasts) where
       last_by : (j : ℕ) (y : Stand) → slice_get mids j ≡ Some y → (x : Bool) → is_elsewhere m y ≡ x → (t < (stand_by t y (part j back)).point) × ((stand_by t y (part j back)).point ≤ m)
       last_by j y at true is = own_within m m_within.0 (is_elsewhere m y) y (part j back) (own t step (ends_elsewhere t b m) (is_elsewhere m) m mids back asks2 j y at) is

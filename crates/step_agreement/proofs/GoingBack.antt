@@ -151,7 +151,7 @@ module _ (t step : ℕ) where
       abbrev pub lasts : List Stand
       lasts = stands_by t mids back
 
-      -- one that isn't there at last was elsewhere before, ended early, and behind t
+      -- one that isn't there at last was elsewhere before, ended early, and after t
       record Missed (z : Stand) : Type 0 where
         y : Stand
         j : ℕ
@@ -185,7 +185,7 @@ module _ (t step : ℕ) where
           let x = missed one.0 one.1 one.2 (unequal one.1.point m one.3) in
           two_early x.j x.y x.at x.ne x.early
 
-      -- each stands behind t, and at m at most
+      -- each is past t, and at m at most
       pub last_later : (j : ℕ) (z : Stand) → slice_get lasts j ≡ Some z → t < z.point
       last_later j z at = by (z.point == m) refl where
         by : (x : Bool) → (z.point == m) ≡ x → t < z.point

@@ -37,7 +37,7 @@ unequal a b q = grind (arith, nat_tests)
 
 -- ---- no FMU stands before t
 
--- one behind a log stood somewhere before it
+-- one after a log stood somewhere before it
 pub stood_from : (t k : ℕ) (ss : List Stand) (log : List Sent) (i : ℕ) (y : Stand) → slice_get (stands_from t k ss log) i ≡ Some y → (s : Stand) × (slice_get ss i ≡ Some s) × (y ≡ stand_by t s (part (k + i) log))
 stood_from t k [] log i y at = absurd (none_some y at)
 stood_from t k (x ∷ ss) log zero y at =

@@ -1,4 +1,4 @@
--- Where the FMUs stand behind an asking.
+-- Where the FMUs stand after an asking.
 use Rattle.std.proofs.Common.{◌≡◌, ◌≢◌, ℕ, suc, ◌+◌, ◌-◌, ◌<◌, ◌≤◌, ◌==◌, Bool, true, false, not, List, [], ◌∷◌, ◌++◌, Some, Result, Ok, Err, refl, sym, ap, ap₂, ◌∙◌, subst, arith, get_or, map}
 use Rattle.std.specs.Prelude.{MatchResult, ◌&&◌, if◌then◌else◌}
 use Rattle.std.specs.List.{slice_get}
@@ -34,7 +34,7 @@ refused_step : (shape : Shape) (at size : ℕ) (kind : Kind) (status : BadStatus
 refused_step shape at size K.DoStep status h = absurd (cc)
 refused_step shape at size kind status h = absurd (cc)
 
--- it ends behind its beginning, at its bound at most, and before it only where the FMU might return early
+-- it ends after its beginning, at its bound at most, and before it only where the FMU might return early
 pub record IsEnd (shape : Shape) (at size end : ℕ) : Type 0 where
   pub later : at < end
   pub within : end ≤ at + size
@@ -57,7 +57,7 @@ good_end shape at size e good is = by e.result (subst (λ (c : Call). MatchResul
 
 -- ---- what one has of an asking
 
--- nothing, a step from where it stands, or a step behind a Restore
+-- nothing, a step from where it stands, or a step after a Restore
 pub data Own (t e : ℕ) (b : Bool) (s : Stand) (es : List Exchange) : Type 0 where
   Skips : b ≡ false → es ≡ [] → Own t e b s es
   FromHere : b ≡ true → s.point ≡ t → (x : Exchange) → es ≡ x ∷ [] → x.call ≡ C.DoStep t (e - t) → IsGood s.shape x → Own t e b s es
@@ -109,7 +109,7 @@ own_is_end t e b s es (FromAway asked away y x is back y_good call good) h =
 
 -- ---- where it stands then
 
--- behind an asking for e
+-- after an asking for e
 abbrev pub asked_stand : ℕ → Bool → ℕ → Stand → Stand
 asked_stand e b end s = record { shape = s.shape; point = if b then end else s.point; ask = if b then e else s.ask }
 

@@ -85,7 +85,7 @@ module _ (t step : ℕ) where
   stood_at : (stands : List Stand) (log : List Sent) (j : ℕ) (y : Stand) → slice_get (stands_by t stands log) j ≡ Some y → (s : Stand) × (slice_get stands j ≡ Some s) × (y ≡ stand_by t s (part j log))
   stood_at stands log j y at = stood t step one_first j stands log j y at
 
-  -- behind the first asking
+  -- after the first asking
   module _ (b : ℕ) (later : t < b) (stands : List Stand) (home : Each (λ (s : Stand). s.point ≡ t) stands) (alone : OneEarlyIn stands) (front : List Sent) (asks : Asks t step everyone (comes_first one_first) b stands front)
       (mids : List Stand) (mids_are : mids ≡ stands_by t stands front) (m : ℕ) (m_is : m ≡ reached t b mids) where
     was : (j : ℕ) (y : Stand) → slice_get mids j ≡ Some y → (s : Stand) × (slice_get stands j ≡ Some s) × (y ≡ stand_by t s (part j front))

@@ -13,7 +13,7 @@ use Rattle.slot_calls.specs.Stage.{IsAnswered, IsGoodOf}
 use Rattle.slot_calls.proofs.CallerLemmas.{first_same, rest_same, skips, takes, other, same}
 use Rattle.step_agreement.specs.Agreement.{to_some, to_some_from}
 
--- the rest of a log behind a call, if it was sent
+-- the rest of a log after a call, if it was sent
 record Rest (a : Asking) (cs : List Asking) (log : List Sent) : Type 0 where
   rest : List Sent
   rest_is : askings rest ≡ cs

@@ -111,7 +111,7 @@ module _ (m : Machine) (ignores : IgnoresSlot m) (before : MachineState) (slot :
   restored is state same =
       ap (λ (o : Option SavedMachine). put_back o state) (same ∙ is) ∙ ap (λ (o : Option SavedMachine). record before { slot = o }) (same)
 
-  -- behind an asking
+  -- after an asking
   pub leads_by : (e : ℕ) → t < e → (b : Bool) (s : Stand) → s.shape ≡ f.shape → (state : MachineState) (asks : Bool) (es : List Exchange) → Own t e b s es → IsHere s state asks → All IsSaved es → RepliesBy m state es → Leads s state asks es
   leads_by e later b s shape_is state asks es (Skips un is) here saved replies =
       subst (Leads s state asks) (sym is) (record { ends = All-nil (EndsSo t f); here = here; replies = λ rest h. h })

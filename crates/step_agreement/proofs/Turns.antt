@@ -17,7 +17,7 @@ pub record IsTo {A : Type 0} (test : A → Bool) (call : A → Call) (i : ℕ) (
   pub asked : test one ≡ true
   pub call_is : a.call ≡ call one
 
--- in front of this call nothing was sent to the same
+-- before this call nothing was sent to the same
 pub record IsTurn {A : Type 0} (test : A → Bool) (call : A → Call) (i : ℕ) (xs : List A) (front : List Sent) (last : Sent) : Type 0 where
   pub to : IsTo test call i xs (asking_of last)
   pub none : part last.component front ≡ []

@@ -142,7 +142,7 @@ saved_in shapes i = option_map_or (λ (shape : Shape). is_saved (early_count sha
 abbrev pub IsKept : List Shape → Sent → Type 0
 IsKept shapes s = s.exchange.call ≡ C.Restore → saved_in shapes s.component ≡ true
 
--- those that pass the test and stand behind t are saved
+-- those that pass the test and are past t are saved
 abbrev pub AreSaved : ℕ → (Stand → Bool) → List Stand → Type 0
 AreSaved t test stands = (i : ℕ) (s : Stand) → slice_get stands i ≡ Some s → test s ≡ true → s.point ≢ t → is_saved (early_count (shapes_in stands)) s.shape ≡ true
 

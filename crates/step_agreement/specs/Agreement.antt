@@ -29,7 +29,7 @@ abbrev pub end_by : ℕ → Result Reply PeerFault → ℕ
 end_by t (Ok reply) = end_of reply t
 end_by t (Err fault) = t
 
--- where it stands behind a call: where its step ended, or at t again, where its state was saved
+-- where it stands after a call: where its step ended, or at t again, where its state was saved
 abbrev pub moved : ℕ → Stand → Call → Result Reply PeerFault → Stand
 moved t s (C.DoStep at size) result = record s { point = end_by t result; ask = at + size }
 moved t s C.Restore result = record s { point = t }
@@ -43,7 +43,7 @@ abbrev pub stands_from : ℕ → ℕ → List Stand → List Sent → List Stand
 stands_from t i [] log = []
 stands_from t i (s ∷ ss) log = stand_by t s (part i log) ∷ stands_from t (suc i) ss log
 
--- where all stand behind a log
+-- where all stand after a log
 abbrev pub stands_by : ℕ → List Stand → List Sent → List Stand
 stands_by t stands log = stands_from t 0 stands log
 
@@ -56,7 +56,7 @@ to_some_from i test call xs = to_those_from i test (λ x. call) xs
 abbrev pub to_some : {A : Type 0} → (A → Bool) → Call → List A → List Asking
 to_some test call xs = to_some_from 0 test call xs
 
--- those that pass the test and stand behind t
+-- those that pass the test and are past t
 abbrev pub is_away : ℕ → (Stand → Bool) → Stand → Bool
 is_away t test s = test s && not (s.point == t)
 
@@ -72,7 +72,7 @@ putting_back t test stands = to_some (is_away t test) C.Restore stands
 abbrev pub stepping : ℕ → ℕ → (Stand → Bool) → List Stand → List Asking
 stepping t e test stands = to_some test (C.DoStep t (e - t)) stands
 
--- those that pass the test were asked to step from t to e, in a round: before it, in another, those of them that stood behind t were put back, and before that it was seen that each of some takes a step of this size
+-- those that pass the test were asked to step from t to e, in a round: before it, in another, those of them that were past t were put back, and before that it was seen that each of some takes a step of this size
 pub record Asks (t step : ℕ) (sized test : Stand → Bool) (e : ℕ) (stands : List Stand)
     (log : List Sent) : Type 0 where
   pub backs : List Sent

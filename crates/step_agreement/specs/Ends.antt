@@ -42,7 +42,7 @@ ResultAt t step b fmus lasts (Meets point) =
 ResultAt t step b fmus lasts (Unfit i e) = StopsShort (map stepper_of fmus) t step b i e
 ResultAt t step b fmus lasts (Fails bad) = Unit {0}
 
--- the same behind a log
+-- the same after a log
 abbrev pub ComesFrom : ℕ → ℕ → ℕ → List Fmu → List Stand → List Sent → Outcome → Type 0
 ComesFrom t step b fmus stands log outcome =
     ResultAt t step b fmus (stands_by t stands log) outcome

@@ -1,4 +1,4 @@
--- A chain of exchanges with one instance, and how its calls leave it: behind a run so that it can be closed, and behind its closing unmade, gone or lost, or keeping a state.
+-- A chain of exchanges with one instance, and how its calls leave it: after a run so that it can be closed, and after its closing not made, gone or lost, or keeping a state.
 use Rattle.std.proofs.Common.{◌≡◌, ℕ, ◌≤◌, inl, inr, true, false, List, [], ◌∷◌, ◌++◌, Option, Some, None, Result, Ok, Err, refl, sym, ap, ◌∙◌, subst, append_assoc, arith, ◌⊎◌, Bool, ap₂}
 use Rattle.std.specs.Prelude.{◌||◌, All, IfSome, MatchResult, if◌then◌else◌}
 use Rattle.std.specs.List.{list_any}
@@ -189,7 +189,7 @@ bad_start shape phase a b d reply G.Refused bad = by (bad_status_of reply) refl
     by B.Fatal is = inr (ap (λ (s : BadStatus). state_after_bad phase.state (C.Instantiate a b d) s) is)
     by status is = inl (ap (λ (s : BadStatus). state_after_bad phase.state (C.Instantiate a b d) s) is)
 
--- the phase behind it
+-- the phase after it
 start_ended : (shape : Shape) (phase : Phase) (a b d : Bool) (e : Exchange) → e.call ≡ C.Instantiate a b d → (IsGood shape e → ⊥) → IsEnded (next_by shape phase e).state
 start_ended shape phase a b d e is bad =
     subst (λ (c : Call). IsEnded (next_of shape phase c (result_ok e.result)).state) (sym is) (by e.result (subst (λ (c : Call). MatchResult e.result (λ reply. grade_of shape c reply ≡ G.Good) (λ fault. ⊥) → ⊥) is bad))
@@ -272,7 +272,7 @@ record IsClosable (shape : Shape) (p : Phase) (saved : Bool) : Type 0 where
   state : IsStanding p.state
   kept : p.slot.is_full ≡ true → IsKept shape p.state saved
 
--- a call of the run behind the first
+-- a call of the run after the first
 abbrev IsMid : Call → Type 0
 IsMid (C.Instantiate event_mode early_return batches) = ⊥
 IsMid C.Terminate = ⊥
@@ -382,7 +382,7 @@ module _ (shape : Shape) (p : Phase) (saved : Bool) (h : IsClosable shape p save
     next_closable (Err fault) may = inl (lost _ _ refl)
     next_closable (Ok reply) may = by_grade reply (grade_of shape call reply) refl may
 
--- ---- behind a list of exchanges
+-- ---- after a list of exchanges
 
 -- so it stands there
 record Left (shape : Shape) (p : Phase) (saved : Bool) (talk : List Exchange) : Type 0 where
@@ -451,7 +451,7 @@ module _ (shape : Shape) where
           | inr bad ↦ inl (record { first = e; rest = es; is = refl; bad = subst (λ (c : Call). IsGood shape (record { call = c; result = e.result }) → ⊥) (sym start) bad })
         ]
 
--- an instance that was new stands so behind calls of a run
+-- an instance that was new stands so after calls of a run
 pub leaves_one : (x : Instance) (es : List Exchange) (y : Instance) → x.view.phase ≡ fresh x.view.fixed.shape → x.has_saved ≡ false → Has x es y → All IsRunCall (calls_in es) → IsLastGivenUp es → IsLeft y es
 leaves_one x es y new none h runs last =
     let shape_is : y.view.fixed.shape ≡ x.view.fixed.shape = ap (λ (f : Fixed). f.shape) (talks_fixed x.view es y.view h.talks) in

@@ -1,4 +1,4 @@
--- The lives of peers, from their seats through a log to their closing.
+-- The histories of peers, from their slots through a log to their closing.
 use Rattle.std.proofs.Common.{◌≡◌, ℕ, zero, suc, ◌+◌, ◌==◌, Bool, true, false, List, [], ◌∷◌, ◌++◌, Some, refl, sym, ap, ap₂, ◌∙◌, subst, append_assoc, arith, length, map, take, drop}
 use Rattle.std.specs.Prelude.{All, ◌||◌, ◌&&◌, if◌then◌else◌}
 use Rattle.std.specs.List.{slice_get}

@@ -55,7 +55,7 @@ none_ends C.Terminate run ends = absurd (cc)
 none_ends C.FreeInstance run ends = absurd (cc)
 none_ends call run ends = ends
 
--- what holds of the calls of a talk holds of one of them, and of those behind it
+-- what holds of the calls of a talk holds of one of them, and of those after it
 all_behind : (P : Call → Type 0) (front rest : List Exchange) (e : Exchange) (all : List Exchange) → all ≡ front ++ e ∷ rest → All P (calls_in all) → All P (e.call ∷ calls_in rest)
 all_behind P [] rest e all is rs = subst (λ (l : List Exchange). All P (calls_in l)) is rs
 all_behind P (x ∷ front) rest e all is rs = all_behind P front rest e (front ++ e ∷ rest) refl (All-tail P x.call (calls_in (front ++ e ∷ rest)) (subst (λ (l : List Exchange). All P (calls_in l)) is rs))

@@ -35,7 +35,7 @@ given_more f whole done more left rest x y given is same pushed =
 next_at : (cs : List Component) (n : ℕ) (c : Component) → n < length cs → c ≡ get_or cs n c → drop n cs ≡ c ∷ drop (n + 1) cs
 next_at cs n c w is = drop-cons cs n c w ∙ ap₂ ◌∷◌ (sym is) (ap (λ k. drop k cs) (sym (add-one n)))
 
--- one more has its seat
+-- one more has its slot
 pub seats_more : {S L : Type 0} (f : S → Instance) (view : L → View) (whole : List Instance) (slots more : List S) (cs : List Component) (n m : ℕ) (left rest : List L) (p : L) (c : Component) (s : S) →
     map f slots ++ seated (drop n cs) (map view left) ≡ whole → left ≡ p ∷ rest → m ≡ n + 1 → n < length cs → c ≡ get_or cs n c → more ≡ slots ++ s ∷ [] → f s ≡ seat c (view p) →
     map f more ++ seated (drop m cs) (map view rest) ≡ whole
@@ -59,7 +59,7 @@ pub record IsSeat (i : Instance) : Type 0 where
   pub unsaved : i.has_saved ≡ false
   pub calm : i.is_fatal ≡ false
 
--- what holds of each component's seat holds of each
+-- what holds of each component's slot holds of each
 all_seated : (P : Instance → Type 0) (cs : List Component) (vs : List View) → ((i : ℕ) (c : Component) (v : View) → slice_get cs i ≡ Some c → slice_get vs i ≡ Some v → P (seat c v)) → All P (seated cs vs)
 all_seated P [] vs h = All-nil P
 all_seated P (c ∷ cs) [] h = All-nil P
@@ -68,7 +68,7 @@ all_seated P (c ∷ cs) (v ∷ vs) h = All-cons P (seat c v) (seated cs vs) (h 0
 pub are_seats : (cs : List Component) (vs : List View) → ((i : ℕ) (c : Component) (v : View) → slice_get cs i ≡ Some c → slice_get vs i ≡ Some v → IsNew c.shape v) → All IsSeat (seated cs vs)
 are_seats cs vs h = all_seated IsSeat cs vs (λ i c v at_c at_v. let new = h i c v at_c at_v in record { first = new.phase ∙ ap fresh (sym new.shape_is); untold = new.talk; unsaved = refl; calm = refl })
 
--- what each seat has of its component, all have
+-- what each slot has of its component, all have
 map_seated : {A : Type 0} (f : Instance → A) (g : Component → A) (cs : List Component) (vs : List View) → length vs ≡ length cs →
     ((i : ℕ) (c : Component) (v : View) → slice_get cs i ≡ Some c → slice_get vs i ≡ Some v → f (seat c v) ≡ g c) → map f (seated cs vs) ≡ map g cs
 map_seated f g [] vs e h = refl
@@ -97,7 +97,7 @@ all_under f P xs ys same all = λ k d w.
     let m = length-map xs f in
     subst P (get_or-map f xs k d (f d) w) (subst (All P) (sym same) all k (f d) (omega (arith, m, w)))
 
--- ---- a system whose peers have their seats
+-- ---- a system whose peers have their slots
 
 -- what holds of each component's peer holds of each
 all_views : (P : View → Type 0) (cs : List Component) (vs : List View) → length vs ≡ length cs → ((i : ℕ) (c : Component) (v : View) → slice_get cs i ≡ Some c → slice_get vs i ≡ Some v → P v) → All P vs

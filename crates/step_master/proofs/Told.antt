@@ -1,4 +1,4 @@
--- What the lives of told machines say of their run.
+-- What the histories of told machines say of their run.
 use Rattle.std.proofs.Common.{◌≡◌, ℕ, ◌<◌, inl, inr, Bool, true, List, ◌∷◌, ◌++◌, Some, refl, sym, ap, ◌∙◌, subst, append_assoc, arith, length}
 use Rattle.std.specs.Prelude.{◌||◌, ◌==◌}
 use Rattle.std.specs.List.{list_any, slice_get}
@@ -41,7 +41,7 @@ use Rattle.step_master.specs.System.{TellTheirs}
 use Rattle.step_master.proofs.SeatLemmas.{got}
 use Rattle.step_master.specs.Traced.{IsRunOf, SomeRose, TellMachines, ToldRun, ToldTrace, ToldUnmade, TracesWell, output_of}
 
--- ---- what the lives tell of the machines
+-- ---- what the histories tell of the machines
 
 module _ (system : System) (olds news : List View) (log : List Sent) (lives : List Life) (are : AreLives system olds news log lives) where
   len_lives : length lives ≡ length system.components
@@ -50,7 +50,7 @@ module _ (system : System) (olds news : List View) (log : List Sent) (lives : Li
   len_olds : length olds ≡ length system.components
   len_olds = sym (ap length are.olds_are) ∙ length-map lives (λ (l : Life). l.old) ∙ len_lives
 
-  -- the life of a component
+  -- the history of a component
   life_at : (k : ℕ) → k < length system.components → (life : Life) × (slice_get lives k ≡ Some life) × IsLife life × (slice_get olds k ≡ Some life.old) × (slice_get news k ≡ Some life.new)
   life_at k inside =
       let x = got lives k (let e = len_lives in omega (arith, e, inside)) in

@@ -1,4 +1,4 @@
--- The lives of a system's peers, each from before its first call through the run to its closing (FMI 3.0, 4.2.1; 2.2.3: Fatal).
+-- The histories of a system's peers, each from before its first call through the run to its closing (FMI 3.0, 4.2.1; 2.2.3: Fatal).
 use Rattle.std.specs.Prelude.{◌≡◌, ◌⊎◌, ℕ, ◌≤◌, ◌==◌, Bool, true, false, ◌&&◌, ◌||◌, if◌then◌else◌, List, [], ◌∷◌, ◌++◌, map, take, All, Some, IfSome, Result}
 use Rattle.std.specs.List.{list_any, slice_get}
 use Rattle.std.specs.Result.{is_err}
@@ -33,7 +33,7 @@ use Rattle.slot_calls.specs.SavedStates.{IsParted, Talk, saved_after}
 use Rattle.slot_calls.specs.Stage.{shapes_of}
 use Rattle.course_laws.specs.Laws.{IsStateless}
 
--- ---- one life
+-- ---- one history
 
 -- the number of the peer's source, what it was before its first call, its exchanges of the run and those of the closing, and what it is at the end
 pub record Life : Type 0 where
@@ -50,7 +50,7 @@ shape_in life = life.old.fixed.shape
 abbrev pub talk_in : Life → List Exchange
 talk_in life = life.run ++ life.closing
 
--- a fault came in the reply's place
+-- a fault came in place of the reply
 abbrev pub is_unanswered : Exchange → Bool
 is_unanswered e = is_err e.result
 
@@ -70,7 +70,7 @@ ComeInTurn shape phase (c ∷ cs) sent =
     ComeInTurn shape (T.next_by shape phase (record { call = c; result = result })) cs rest))
     ⊎ ((Permitted shape phase c → ⊥) × ComeInTurn shape phase cs sent)
 
--- behind its run a peer was sent Free where its state is still saved, Terminate and then FreeInstance, each once where it was permitted, or nothing
+-- after its run a peer was sent Free where its state is still saved, Terminate and then FreeInstance, each once where it was permitted, or nothing
 abbrev pub ClosesInTurn : Life → Type 0
 ClosesInTurn life =
     (spared : Bool) × ComeInTurn (shape_in life) (T.phase_after (shape_in life) life.run)
@@ -97,7 +97,7 @@ pub data IsOver (life : Life) : Type 0 where
   LostHere : life.new.phase.state ≡ P.Lost → IsOver life
   Keeping : life.new.phase.slot.is_full ≡ true → T.EndsKeeping (talk_in life) → IsOver life
 
--- ---- the lives of all
+-- ---- the histories of all
 
 -- one of these, of the source, had a call of its run that was refused with Fatal
 abbrev pub any_fatal_run : ℕ → List Life → Bool
@@ -122,7 +122,7 @@ abbrev pub talks_in : List Life → List Talk
 talks_in lives =
     map (λ (l : Life). record { shape = shape_in l; exchanges = talk_in l }) lives
 
--- the lives of a system's peers, in the order of the components: each has its part of the log, those behind a Fatal of their source have no closing, and each other is closed; no Update follows another at one point that wasn't asked for; which calls are the run's, and which the closing's, the talks of all tell; where at most one FMU might return early, no call saves a state, goes back to one or frees one
+-- the histories of a system's peers, in the order of the components: each has its part of the log, those after a Fatal of their source have no closing, and each other is closed; no Update follows another at one point that wasn't asked for; which calls are the run's, and which the closing's, the talks of all tell; where at most one FMU might return early, no call saves a state, goes back to one or frees one
 pub record AreLives (system : System) (olds news : List View) (log : List Sent)
     (lives : List Life) : Type 0 where
   pub olds_are : map (λ (l : Life). l.old) lives ≡ olds

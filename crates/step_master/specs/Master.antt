@@ -59,7 +59,7 @@ pub record IsUnmade (system : System) (link : ℕ) (views : List View) (bad : Ba
   pub stops : StopsAt (shapes_of system) (making link system) bad log
   pub closes : Closes mids news
 
--- where memory is wanting, nothing was sent
+-- where memory runs out, nothing was sent
 abbrev pub FailsToPrepare : System → ℕ → List View → PrepareFault → List View → Type 0
 FailsToPrepare system link views F.Memory news = news ≡ views
 FailsToPrepare system link views (F.Bad bad) news = IsUnmade system link views bad news

@@ -6,9 +6,9 @@ use machine_courses::logs_of_machines;
 
 /// Laws: of a system that was prepared, run and closed, and of one that couldn't be prepared, the talk of each peer is
 /// legal, lean and closed, an Update follows another at one point only where one was asked for or a Clock was armed for the
-/// point, the end is told by the first bad answer of the least component, and each peer that isn't spared behind a Fatal of
-/// its source is over: it was never asked, its instance is gone or lost, or it keeps a state that Free was answered Discard
-/// for.
+/// point, the end is told by the first bad answer of the least component, and each peer is over, but for those that are sent
+/// nothing more after a Fatal of their source: it was never asked, its instance is gone or lost, or it keeps a state that Free
+/// was answered Discard for.
 pub fn lives_of_peers()
     ensures run { RunIsLived }
     ensures unmade { UnmadeIsClosed }

@@ -14,7 +14,7 @@ use std::alloc::Global;
 use std::thread::Threads;
 use system_model::{Bound, Plan, System};
 
-/// The FMUs of a system with all memory of their run. It can't be let go: it is closed.
+/// The FMUs of a system with all memory of their run. It can't be dropped: it is closed.
 pub struct Master<L: Peer> {
     experiment: Experiment,
     seats: Seats<L>,
@@ -26,8 +26,8 @@ impl<L: Peer> Master<L> {
     ghost use Rattle.step_master.specs.Master.{Closes, FailsToPrepare, Prepares, Runs};
     ghost use Rattle.step_master.specs.Standing.{IsReady, standing};
 
-    /// Takes all memory of a run, and makes each instance in order. Where an answer isn't good, or memory is wanting, it
-    /// closes the peers and gives them back.
+    /// Allocates all memory of a run, and instantiates each FMU in order. It closes the peers and gives them back where an
+    /// answer isn't good or memory runs out.
     pub fn prepare(
         alloc: Global,
         system: System,
@@ -81,7 +81,7 @@ impl<L: Peer> Master<L> {
     /// one instant after the other until no Update asks for another and no Clock is armed for it, the Sets of the inputs of
     /// the FMUs without event mode and a step to the next point, until the run ends. It puts the trace, one piece for the
     /// header, one for each instant, and one for the end.
-    /// It takes no memory.
+    /// It allocates no memory.
     pub fn run<R: Threads + Sync, O: Sink>(&mut self, rt: &R, out: &mut O) -> RunEnd
         requires { IsReady L.view self.old }
         ensures { Runs (standing L.view self.old) (standing L.view self.new) (O.view out.old)
@@ -98,7 +98,7 @@ impl<L: Peer> Master<L> {
     }
 
     /// Closes the instances in order, each by the calls that it still may be sent, and gives the peers back. After a
-    /// refusal with Fatal the instances of that source are sent nothing more. It takes no memory.
+    /// refusal with Fatal the instances of that source are sent nothing more. It allocates no memory.
     pub fn close(self) -> Vec<L>
         ensures { Closes (standing L.view self).instances (map L.view result.items) }
     {

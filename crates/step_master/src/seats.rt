@@ -24,7 +24,7 @@ impl<L: Peer> Seats<L> {
     ghost use Rattle.slot_calls.specs.Slots.{LiveSlot, Stands, instances};
     ghost use Rattle.slot_calls.specs.Stage.{Stage, nothing, shapes, to_each};
 
-    /// Puts each peer into the slot of its component. Where memory is wanting it gives the peers back.
+    /// Puts each peer into the slot of its component. Where memory runs out it gives the peers back.
     pub fn new(alloc: Global, components: &[Component], peers: Vec<L>) -> Result<Seats<L>, Vec<L>>
         requires each { length components.now ≡ vec_len peers }
         requires fresh { All (λ p. (L.view p).phase ≡ fresh (L.view p).fixed.shape) peers.items }

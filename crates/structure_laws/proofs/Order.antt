@@ -1,4 +1,4 @@
--- The elements of a document stand behind the elements that they stand in.
+-- The elements of a document come after the elements that they stand in.
 use Rattle.std.proofs.Common.{◌≡◌, ℕ, zero, suc, ◌+◌, ◌≤◌, List, [], ◌∷◌, ◌++◌, length, Option, Some, None, inl, inr, refl, sym, subst, arith, length-append}
 use Rattle.doc_grammar.specs.Grammar.{strict, Content, done, char, reference, comment, instruction, section, empty, element, Event, Body, Unmarked, Document}
 use Rattle.doc_grammar.specs.Nodes.{Node, nodes_of, Denotes, count, nodes_under}
@@ -10,7 +10,7 @@ below_more : (p : Option ℕ) (m n : ℕ) → m ≤ n → IsBelow m p → IsBelo
 below_more None m n le h = tt
 below_more (Some p) m n le h = omega (arith, le, h)
 
--- each node, numbered from n on, stands behind its parent
+-- each node, numbered from n on, comes after its parent
 abbrev AreBehind : ℕ → List Node → Type 0
 AreBehind n [] = Unit {0}
 AreBehind n (x ∷ xs) = IsBelow n x.parent × AreBehind (n + 1) xs

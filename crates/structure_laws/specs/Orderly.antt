@@ -1,21 +1,21 @@
--- Trees whose Systems and Components stand behind what they stand in, in the order of their document.
+-- Trees whose Systems and Components come after what they stand in, in the order of their document.
 use Rattle.std.specs.Prelude.{◌≡◌, ℕ, ◌<◌, List, Some, None, slice_get}
 use Rattle.ssd_tree.specs.declared.tree.SystemPart.{SystemPart}
 use Rattle.ssd_tree.specs.declared.tree.ComponentPart.{ComponentPart}
 use Rattle.ssd_tree.specs.declared.tree.SystemTree.{SystemTree}
 
--- each stands behind those before it
+-- each comes after those before it
 abbrev pub AreRising : List SystemPart → Type 0
 AreRising xs =
     (i j : ℕ) (x y : SystemPart) → slice_get xs i ≡ Some x → slice_get xs j ≡ Some y → i < j →
     x.node < y.node
 
--- the Component stands behind its System
+-- the Component comes after its System
 abbrev pub StandsBehind : SystemTree → ComponentPart → Type 0
 StandsBehind t c =
     (x : SystemPart) × (slice_get t.systems c.system ≡ Some x) × (x.node < c.node)
 
--- Systems stand in document order among so many elements, each behind the one that it stands in; the first has none around it
+-- Systems stand in document order among so many elements, each after the one that it stands in; the first has none around it
 pub record IsOrderly (elements : ℕ) (t : SystemTree) : Type 0 where
   pub rising : AreRising t.systems
   pub below : (i : ℕ) (x : SystemPart) → slice_get t.systems i ≡ Some x → x.node < elements

@@ -13,7 +13,7 @@ ghost use Rattle.structure_laws.specs.OwnNames.{HasOwnName};
 
 use doc_grammar::document_laws;
 
-/// A law: what a system structure description without violation says is a tree in which each System stands behind the
+/// A law: what a system structure description without violation says is a tree in which each System comes after the
 /// one that it stands in, and the full name of each component begins with the names of the Systems around it.
 pub fn named_trees()
     ensures { (bytes : List ℕ) (document : List Node) (tree : SystemTree) → Denotes bytes document →
@@ -23,7 +23,7 @@ pub fn named_trees()
 }
 
 /// Laws: what a system structure description without violation says is a tree in which Systems and Components stand in
-/// document order, each behind the System that it stands in; and those of its Components that are systems of their own stand
+/// document order, each after the System that it stands in; and those of its Components that are systems of their own stand
 /// among its Components in document order, with the full names of the Systems around them and then their own.
 pub fn orderly_trees()
     ensures orderly { (bytes : List ℕ) (document : List Node) (tree : SystemTree) →

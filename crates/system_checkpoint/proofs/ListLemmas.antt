@@ -62,7 +62,7 @@ pub each_done : {A V : Type 0} (part : A → V → List ℕ → Type 0) (things 
 each_done part things bytes values place n le walks =
     goes_end part things [] bytes values n (drop n bytes) (subst (λ left. Goes part things [] left bytes values n (drop n bytes)) (drop_all place things le) walks.goes)
 
--- ---- all of them, and what stands behind
+-- ---- all of them, and what comes after
 
 module _ {A V W : Type 0} (part : A → V → List ℕ → Type 0) (single : (a : A) → AreSingle (part a)) (things given : List A) (same : given ≡ things) (next : List V → W → List ℕ → Type 0) (bytes : List ℕ) where
   pub all_then : (values : List V) (n : ℕ) (rest answer : Taken W) → Gets (Each part given) bytes values n → Takes (next values) (take (length bytes - n) (drop n bytes)) rest → answer ≡ moved n rest → Takes (Behind (Each part things) next) bytes answer
@@ -117,7 +117,7 @@ arming_if_some low high le small false = nothing_some NoClock
 pub arming_of_single : (held : Snapshot) (port : Port) → AreSingle (ArmingOf held port)
 arming_of_single held port = arming_if_single (held.point + 1) held.plan.stop (may_be_armed port.role)
 
--- the stop is behind the point, and its number isn't too great
+-- the stop is after the point, and its number isn't too great
 pub record IsBefore (point stop : ℕ) : Type 0 where
   pub before : point < stop
   pub near : stop ≤ 2 ^ 62

@@ -1,4 +1,4 @@
--- Parts of a checkpoint: each is of one value and no proper front of another, and each can stand.
+-- Parts of a checkpoint: each is of one value and no proper prefix of another, and each can stand.
 use Rattle.std.proofs.Common.{◌≡◌, ℕ, zero, suc, ◌+◌, ◌-◌, ◌<◌, ◌≤◌, ◌^◌, Bool, true, false, List, [], ◌∷◌, ◌++◌, length, take, drop, get_or, refl, sym, ap, subst, ◌∙◌, arith, inl, inr}
 use Rattle.std.specs.Prelude.{◌==◌, if◌then◌else◌, Option, Some, None}
 use Rattle.std.proofs.lemmas.Bool.{cases_lt}
@@ -20,7 +20,7 @@ use Rattle.system_checkpoint.specs.Parts.{Known, Low, Nothing, Optional, Shift, 
 tail_of : (bytes : List ℕ) (n : ℕ) → take (length bytes - n) (drop n bytes) ≡ drop n bytes
 tail_of bytes n = take_all _ _ (omega (arith, length-drop n bytes))
 
--- the first is there, and what was taken behind it is what is answered
+-- the first is there, and what was taken after it is what is answered
 pub then_takes : {N V : Type 0} (first : N → List ℕ → Type 0) (next : N → V → List ℕ → Type 0) → AreSingle first → (bytes : List ℕ) (n : N) (m : ℕ) (rest answer : Taken V) →
     Gets first bytes n m → Takes (next n) (take (length bytes - m) (drop m bytes)) rest → answer ≡ moved m rest → Takes (Behind first next) bytes answer
 then_takes first next single bytes n m rest answer got h is =

@@ -1,9 +1,9 @@
--- Bytes that are put behind others.
+-- Bytes that are put after others.
 use Rattle.std.proofs.Common.{◌≡◌, ℕ, List, ◌++◌, ap, subst, ◌∙◌, append_assoc}
 use Rattle.std.specs.Prelude.{Result, Ok, Err, OnOk}
 use Rattle.std.specs.List.{flat_map}
 
--- one part is there, and the others come behind it
+-- one part is there, and the others come after it
 pub put_behind : {T E : Type 0} (r : Result T E) (old mid new x y : List ℕ) → mid ≡ old ++ x → OnOk r (new ≡ mid ++ y) → OnOk r (new ≡ old ++ (x ++ y))
 put_behind (Ok v) old mid new x y e f = f ∙ ap (λ (t : List ℕ). t ++ y) e ∙ append_assoc old x y
 put_behind (Err v) old mid new x y e f = tt

@@ -467,7 +467,7 @@ first_all plan point h =
       };
     }
 
--- ---- a text behind its length
+-- ---- a text after its length
 
 known_once : (header bytes : List ℕ) (v : Unit {0}) → Known header v bytes → bytes ≡ sized header
 known_once header bytes v h =

@@ -22,7 +22,7 @@ use Rattle.system_checkpoint.proofs.PartLemmas.{known_single, known_some, made_s
 use Rattle.system_checkpoint.proofs.ListLemmas.{IsBefore, arming_of_single, arming_of_some, event_of_single, event_of_some, state_of_single, state_of_some, times_of_single, times_of_some, word_of_single, word_of_some}
 use Rattle.system_checkpoint.proofs.FirstLemmas.{first_before, first_single}
 
--- ---- what stands behind each list, by what is held so far
+-- ---- what comes after each list, by what is held so far
 
 abbrev pub behind_states : System → Snapshot → List (List ℕ) → Snapshot → List ℕ → Type 0
 behind_states system held states = WordsOf system (record held { states = states })

@@ -31,7 +31,7 @@ plan_of resolution start step stop limit = record {
 abbrev pub first_of : Plan → ℕ → First
 first_of plan point = record { plan = plan; point = point }
 
--- the numbers, one behind another: each lies in its limits, the stop behind the start, and the point from the start on and before the stop
+-- the numbers, one after another: each lies in its limits, the stop after the start, and the point from the start on and before the stop
 abbrev pub PointOf : (resolution start step stop limit : ℕ) → First → List ℕ → Type 0
 PointOf resolution start step stop limit =
     Made (Field 8 (between start (stop - 1)))

@@ -1,4 +1,4 @@
--- The parts of a checkpoint, each in numbers with their most significant byte first: texts and states behind their length, numbers that may be wanting, and the timings of Clocks.
+-- The parts of a checkpoint, each in numbers with their most significant byte first: texts and states after their length, numbers that may be missing, and the timings of Clocks.
 use Rattle.std.specs.Prelude.{ℕ, ◌+◌, ◌*◌, ◌-◌, ◌^◌, ◌==◌, List, [], length, Option, Some, None, if◌then◌else◌}
 use Rattle.value_types.specs.declared.values.PortType.{PortType}
 use Rattle.value_types.specs.declared.values.PortType.TheVariants.{Int8, UInt8, Int16, UInt16, Int32, UInt32, Int64, UInt64, Boolean, Enumeration, Clock}
@@ -61,7 +61,7 @@ abbrev pub arming_of : Option ℕ → Arming
 arming_of None = Unarmed
 arming_of (Some point) = At point
 
--- ---- bytes behind their length
+-- ---- bytes after their length
 
 -- the greatest length of a state, in bytes
 abbrev pub state_max : ℕ

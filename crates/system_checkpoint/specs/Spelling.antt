@@ -26,7 +26,7 @@ numbers_bytes plan point =
 abbrev pub first_bytes : Plan → ℕ → List ℕ
 first_bytes plan point = magic ++ numbers_bytes plan point
 
--- bytes behind their length
+-- bytes after their length
 abbrev pub sized : List ℕ → List ℕ
 sized bytes = to_be_bytes w32 (length bytes) ++ bytes
 
@@ -49,7 +49,7 @@ arming_bytes NoClock = []
 arming_bytes Unarmed = option_bytes None
 arming_bytes (At point) = option_bytes (Some point)
 
--- all parts, one behind another
+-- all parts, one after another
 abbrev pub spelling : List ℕ → Snapshot → List ℕ
 spelling header held =
     first_bytes held.plan held.point ++ (sized header ++ (flat_map sized held.states ++
@@ -94,7 +94,7 @@ HasTimes true None = ⊥
 HasTimes true (Some times) = AreTimes times
 HasTimes false times = times ≡ None
 
--- a point behind this one, and up to the stop
+-- a point after this one, and up to the stop
 abbrev pub IsToCome : Snapshot → ℕ → Type 0
 IsToCome held point = (held.point < point) × (point ≤ held.plan.stop)
 
@@ -134,7 +134,7 @@ abbrev pub SpellsAll : Type 0
 SpellsAll = (system : System) (header : List ℕ) (held : Snapshot) → length header < 2 ^ 32 →
     CanBeHeld system held → Checkpoint system header held (spelling header held)
 
--- a checkpoint keeps one thing, and none is a proper front of another
+-- a checkpoint keeps one thing, and none is a proper prefix of another
 abbrev pub KeepsOne : Type 0
 KeepsOne = (system : System) (header : List ℕ) (held other : Snapshot) (bytes more : List ℕ) →
     Checkpoint system header held bytes → Checkpoint system header other (bytes ++ more) →

@@ -54,7 +54,7 @@ abbrev pub ArmingIf : (low high : ℕ) → Bool → Arming → List ℕ → Type
 ArmingIf low high true = Made (Optional 1 (between low high)) arming_of
 ArmingIf low high false = Nothing NoClock
 
--- that point is behind the one where the run is held, and at most the stop
+-- that point is after the one where the run is held, and at most the stop
 abbrev pub ArmingOf : Snapshot → Port → Arming → List ℕ → Type 0
 ArmingOf held port = ArmingIf (held.point + 1) held.plan.stop (may_be_armed port.role)
 
@@ -64,7 +64,7 @@ EventOf held component =
     Optional (if component.shape.has_event_mode then 1 else 0)
     (between (held.point + 1) held.plan.stop)
 
--- ---- the whole, one part behind another: each is behind those that are held so far
+-- ---- the whole, one part after another: each is after those that are held so far
 
 abbrev pub with_events : Snapshot → List (Option ℕ) → Snapshot
 with_events held events = record held { events = events }

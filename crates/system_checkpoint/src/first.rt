@@ -20,7 +20,7 @@ pub(crate) struct First {
 pub(crate) const MAGIC: [u8; 8] = *b"SSPCKPT1";
 
 /// The plan of the run that a checkpoint keeps, with one worker and the first version of the link, by its first 56 bytes.
-/// `Bad` where they aren't all there or begin no checkpoint of any system. It takes no memory.
+/// `Bad` where they aren't all there or begin no checkpoint of any system. It allocates no memory.
 pub fn read_plan(bytes: &[u8]) -> Result<Plan, CheckpointFault>
     ensures { MatchResult result (λ plan. HasPlan bytes.now plan)
         (λ fault. (at : ℕ) × (fault ≡ CheckpointFault.Bad at) × HasNone bytes.now at) }

@@ -84,7 +84,7 @@ fn remake(flag: u64, taken: Taken<u64>) -> Taken<Option<u64>>
     }
 }
 
-// Takes what stands behind the flag.
+// Takes what comes after the flag.
 fn take_word(bytes: &[u8], spans: Spans, flag: u64) -> Taken<Option<u64>>
     requires { IsSane 8 spans }
     ensures { Takes (Word spans flag) bytes.now result }
@@ -131,7 +131,7 @@ pub(crate) fn take_text(bytes: &[u8], text: &[u8]) -> Taken<()>
     }
 }
 
-/// Takes a text that is known, behind its length.
+/// Takes a text that is known, after its length.
 pub(crate) fn take_known(bytes: &[u8], text: &[u8]) -> Taken<()>
     requires { length text.now < 2 ^ 32 }
     ensures { Takes (Known text.now) bytes.now result }
@@ -159,7 +159,7 @@ fn take_block(alloc: Global, bytes: &[u8], size: usize) -> Result<Taken<Items<u8
     })
 }
 
-/// Takes a state, which stands behind its length.
+/// Takes a state, which comes after its length.
 pub(crate) fn take_state(alloc: Global, bytes: &[u8]) -> Result<Taken<Items<u8>>, AllocError>
     ensures { IfOk result (λ taken. Takes State bytes.now taken) }
 {
@@ -184,7 +184,7 @@ pub(crate) fn take_times(bytes: &[u8]) -> Taken<ClockTimes>
     }
 }
 
-// Takes the shift behind the interval.
+// Takes the shift after the interval.
 fn take_shift(bytes: &[u8], interval: u128) -> Taken<ClockTimes>
     ensures { Takes (Shift interval) bytes.now result }
 {
@@ -213,7 +213,7 @@ fn take_wide(bytes: &[u8], least: u64) -> Taken<u128>
     }
 }
 
-// Takes the lower half behind the higher.
+// Takes the lower half after the higher.
 fn take_low(bytes: &[u8], least: u64, high: u64) -> Taken<u128>
     requires { least ≤ 1 }
     ensures { Takes (Low least high) bytes.now result }

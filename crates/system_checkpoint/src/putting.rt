@@ -10,7 +10,7 @@ use sim_base::Items;
 use std::alloc::AllocError;
 use system_model::Plan;
 
-/// Puts a checkpoint behind what `out` has: of what is held, where the trace begins with this header.
+/// Appends a checkpoint to what `out` has: of what is held, where the trace begins with this header.
 pub fn put_checkpoint(held: &Snapshot, header: &[u8], out: &mut Vec<u8>) -> Result<(), AllocError>
     requires header { length header.now < 2 ^ 32 }
     requires states { All (λ state. length state ≤ state_max) held.now.states }

@@ -81,7 +81,7 @@ fn begun(alloc: Global, first: First) -> Snapshot
     }
 }
 
-// Takes the header, and what stands behind it.
+// Takes the header, and what comes after it.
 fn take_header(
     alloc: Global,
     bytes: &[u8],
@@ -104,7 +104,7 @@ fn take_header(
     }
 }
 
-// Takes the states, and what stands behind them.
+// Takes the states, and what comes after them.
 fn take_from_states(
     alloc: Global,
     bytes: &[u8],
@@ -127,7 +127,7 @@ fn take_from_states(
     }
 }
 
-// Takes the words, and what stands behind them.
+// Takes the words, and what comes after them.
 fn take_from_words(
     alloc: Global,
     bytes: &[u8],
@@ -150,7 +150,7 @@ fn take_from_words(
     }
 }
 
-// Takes the intervals and shifts, and what stands behind them.
+// Takes the intervals and shifts, and what comes after them.
 fn take_from_times(
     alloc: Global,
     bytes: &[u8],
@@ -173,7 +173,7 @@ fn take_from_times(
     }
 }
 
-// Takes the armings, and what stands behind them.
+// Takes the armings, and what comes after them.
 fn take_from_armings(
     alloc: Global,
     bytes: &[u8],

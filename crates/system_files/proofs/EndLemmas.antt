@@ -44,7 +44,7 @@ use Rattle.system_files.proofs.PartLemmas.{InMappingAlone, InValuesAlone, is_val
 
 -- ---- the end at one file of a loading
 
--- the order of reading comes to the file at a path, and all its flaws are found alone, whatever is read behind
+-- the order of reading comes to the file at a path, and all its flaws are found alone, whatever is read after them
 module _ (s : Search) (path : List ℕ) (some : List ReadNote) (paths : List (List ℕ)) (Breaks : List ℕ → Rule → Place → Type 0)
     (to : (all : List ReadNote) → AreAmong some all → ComesTo s all (paths ++ path ∷ []) path)
     (alone : (all : List ReadNote) → AreAmong some all → (flaw : Flaw) → LacksFile Breaks all path flaw → ComesAlone s all (paths ++ path ∷ []) (Fails path flaw))
@@ -239,7 +239,7 @@ module _ (s : Search) (o : Outline) (shapes : List Shape) (taken : List Binding)
 -- ---- after there is one
 
 module _ (s : Search) (o : Outline) (old mid : FolderView) (outline : TakesOutline s.subject s.directory o old mid) where
-  -- the first shapes behind the outline
+  -- the first shapes after the outline
   some_taken : (taken : List ComponentPart) (shapes : List Shape) (rest : List ComponentPart) (new : FolderView) → o.systems.components ≡ taken ++ rest →
       (t : TakesShapes s.per_second s.directory taken shapes mid new) →
       ReachesAlone s (outline.reads ++ t.reads) o taken shapes rest × Asks (outline.reads ++ t.reads) (asked_for s o taken) old new
@@ -252,7 +252,7 @@ module _ (s : Search) (o : Outline) (old mid : FolderView) (outline : TakesOutli
     asked_then old mid new outline.reads t.reads (document_files s.directory o.documents) (paths_of s.directory taken) outline.asks t.asks,
   )
 
-  -- the first bindings behind all shapes
+  -- the first bindings after all shapes
   parts_reach : (shapes : List Shape) (taken : List Binding) (given : List GivenBinding) (rest : List Binding) (middle new : FolderView) → o.systems.bindings ≡ taken ++ rest →
       TakesShapes s.per_second s.directory o.systems.components shapes mid middle → TakesBindings s.directory o taken given middle new →
       (reads : List ReadNote) × ReachesBindingsAlone s reads o shapes taken given rest × Asks reads (asked_with s o taken) old new

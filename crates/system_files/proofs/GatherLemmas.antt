@@ -41,7 +41,7 @@ module _ (directory : List ℕ) where
   pub ends_top : (ended : LoadEnd) (old new : FolderView) → EndsAt (FailsStructure OUTERMOST) (joined_path directory top_path) ended old new → EndsOutline what.System directory ended old new
   ends_top ended old new h = EndsAtDocument [] top_path OUTERMOST old refl (record { reads = []; comes = ComesTop [] top_path OUTERMOST refl refl refl; asks = none_asked old }) h
 
-  -- it was read, and then memory was wanting
+  -- it was read, and then memory ran out
   pub top_left : (said : Said) (old new : FolderView) → TakesFile (SaysStructure OUTERMOST) (joined_path directory top_path) said old new → EndsOutline what.System directory end.Memory old new
   top_left said old new takes = ends_top end.Memory old new (inl (takes.reads, takes.asks))
 

@@ -114,7 +114,7 @@ pub as_many : (per_second : ℕ) (directory : List ℕ) (old mid : FolderView) (
 as_many per_second directory old mid components n shapes within takes =
     AllZip-long (HasShapeAlone per_second directory takes.reads) (take n components) shapes takes.each ∙ length-take-le n components within
 
--- memory is wanting before the next component
+-- memory runs out before the next component
 pub ends_here : (per_second : ℕ) (directory : List ℕ) (components : List ComponentPart) (n : ℕ) (shapes : List Shape) (ended : LoadEnd) (old new : FolderView) →
     TakesShapes per_second directory (take n components) shapes old new → ended ≡ end.Memory → EndsShapes per_second directory components ended old new
 ends_here per_second directory components n shapes ended old new takes is =

@@ -72,7 +72,7 @@ Outlines what.System directory reads o = GathersAll IsStructure directory reads 
 abbrev pub HasShape : Search → List ReadNote → ComponentPart → Shape → Type 0
 HasShape s reads c shape = HasFile (IsModel s.per_second) reads (model_path s.directory c) shape
 
--- the first components of the outline have these shapes, and the others stand behind them
+-- the first components of the outline have these shapes, and the others come after them
 pub record ReachesShapes (s : Search) (reads : List ReadNote) (o : Outline) (taken : List ComponentPart)
     (shapes : List Shape) (rest : List ComponentPart) : Type 0 where
   pub outline : Outlines s.subject s.directory reads o

@@ -185,7 +185,7 @@ pub record ReachesDocument (directory : List ℕ) (documents : List SystemDocume
   pub comes : ComesDocument SaysStructure directory reads documents path s
   pub asks : Asks reads (document_files directory documents) old new
 
--- the end tells the rule at an element of a document, unless memory is wanting
+-- the end tells the rule at an element of a document, unless memory runs out
 abbrev pub TellsNesting : List ℕ → List SystemDocument → elements.Place → NestingRule → LoadEnd →
     Type 0
 TellsNesting directory documents place rule (end.File file fault) =
@@ -193,7 +193,7 @@ TellsNesting directory documents place rule (end.File file fault) =
     (fault ≡ Broken (Nesting rule) (place_at documents place) [])
 TellsNesting directory documents place rule end.Memory = Unit {0}
 
--- the end before there is an outline: at a document, where documents stand in one another as they may not, or without memory
+-- the end before there is an outline: at a document, where documents stand in one another as they may not, or out of memory
 pub data EndsOutline (subject : Subject) (directory : List ℕ) (ended : LoadEnd)
     (old new : FolderView) : Type 0 where
   EndsAtDocument : (documents : List SystemDocument) (path : List ℕ) (s : Setting)
@@ -251,7 +251,7 @@ pub record TakesShapes (per_second : ℕ) (directory : List ℕ) (components : L
   pub each : AllZip (HasShapeAlone per_second directory reads) components shapes
   pub asks : Asks reads (paths_of directory components) old new
 
--- the end before each component has its shape: at the description of one, or without memory
+-- the end before each component has its shape: at the description of one, or out of memory
 pub data EndsShapes (per_second : ℕ) (directory : List ℕ) (components : List ComponentPart)
     (ended : LoadEnd) (old new : FolderView) : Type 0 where
   AtShape : (taken : List ComponentPart) (shapes : List Shape) (c : ComponentPart)
@@ -286,7 +286,7 @@ EndsWithin Breaks path (end.File file fault) =
     (fault ≡ Broken rule place []) × Breaks rule place)
 EndsWithin Breaks path end.Memory = Unit {0}
 
--- the end tells the fault in the file at a path, unless memory is wanting
+-- the end tells the fault in the file at a path, unless memory runs out
 abbrev pub TellsWithin : Fault → List ℕ → LoadEnd → Type 0
 TellsWithin (f.Broken rule place) path (end.File file fault) =
     (file.path ≡ path) × (fault ≡ Broken rule place [])
@@ -359,7 +359,7 @@ pub record TakesBindings (directory : List ℕ) (o : Outline) (bindings : List B
   pub each : AllZip (IsGivenAlone directory reads o) bindings given
   pub asks : Asks reads (flat_map (binding_files directory o) bindings) old new
 
--- the end before each binding is taken: at one of them, or without memory
+-- the end before each binding is taken: at one of them, or out of memory
 pub data EndsBindings (directory : List ℕ) (o : Outline) (ended : LoadEnd)
     (old new : FolderView) : Type 0 where
   AtBinding : (taken : List Binding) (given : List GivenBinding) (b : Binding) (rest : List Binding)
@@ -383,7 +383,7 @@ HasBindingPart o (binds.Broken binding in_mapping rule place) =
     IsSome (origin_of in_mapping b))
 HasBindingPart o binds.Memory = Unit {0}
 
--- the end at a rule that what bindings give breaks, or that an outline and shapes break together, or without memory
+-- the end at a rule that what bindings give breaks, or that an outline and shapes break together, or out of memory
 pub data EndsTogether (directory : List ℕ) (o : Outline) (shapes : List Shape)
     (given : List GivenBinding) (ended : LoadEnd) : Type 0 where
   AtParameter : (n : ℕ) (in_mapping : Bool) (rule : Rule) (place : Place) (ports : List PortId)

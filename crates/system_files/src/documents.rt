@@ -97,7 +97,7 @@ fn begin(alloc: Global, read: ReadDocument) -> Result<Gathering, AllocError>
     Ok(Gathering { nest, documents })
 }
 
-// Reads the document that comes next, and puts it in the place of its Component.
+// Reads the document that comes next, and puts it in place of its Component.
 fn read_next<F: Folder>(
     alloc: Global,
     directory: &str,

@@ -33,14 +33,15 @@ use value_types::Shape;
 pub enum LoadEnd {
     /// A file isn't taken.
     File { file: NamedFile, fault: FileFault },
-    /// No memory is left.
+    /// Out of memory.
     Memory,
 }
 
-/// Reads the files in a directory in their order: the structure of the system, where one is asked for, the description of
-/// each FMU once, in the order of its first use, and for each binding of parameters its values and then its mapping.
-/// Answers the system that they make, where a second has `resolution` counts, and the values that its bindings give; or
-/// the file that isn't taken, and why (SSP 1.0, SystemStructure.ssd, SSV and SSM; FMI 3.0, 2.4).
+/// Reads the files in a directory in their order: where a system is asked for, its structure description and those of the
+/// documents that stand in it; the description of each FMU once, in the order of its first use; and for each binding of
+/// parameters its values and then its mapping. Answers the system that they make, where a second has `resolution` counts, and
+/// the values that its bindings give; or the file that isn't taken, and why (SSP 1.0, SystemStructure.ssd, SSV and SSM; FMI
+/// 3.0, 2.4).
 pub fn load<F: Folder>(
     alloc: Global,
     subject: Subject,

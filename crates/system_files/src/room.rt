@@ -3,7 +3,7 @@ ghost use Rattle.system_files.specs.Rooms.{room_for};
 
 use std::alloc::{AllocError, Global};
 
-/// No memory is left.
+/// Out of memory.
 #[derive(Clone, Copy, Debug, PartialEq, Eq)]
 pub struct NoMemory;
 

@@ -118,7 +118,7 @@ TellsBinding o shapes given (Broken binding in_mapping rule place) =
     BreaksBindingAlone o shapes given binding in_mapping rule place
 TellsBinding o shapes given Memory = Unit {0}
 
--- the fault tells this binding, rule and place, unless memory is wanting
+-- the fault tells this binding, rule and place, unless memory runs out
 abbrev pub SaysBinding : ℕ → Bool → Rule → Place → BindingFault → Type 0
 SaysBinding binding in_mapping rule place (Broken n m r p) =
     (n ≡ binding) × (m ≡ in_mapping) × (r ≡ rule) × (p ≡ place)

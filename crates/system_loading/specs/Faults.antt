@@ -15,7 +15,7 @@ use Rattle.system_loading.specs.declared.outline.Outline.{Outline}
 use Rattle.system_loading.specs.Assembly.{BreaksTogetherAlone}
 use Rattle.system_loading.specs.Readings.{BreaksAlone}
 
--- the fault tells the rule that is broken first, unless memory is wanting
+-- the fault tells the rule that is broken first, unless memory runs out
 abbrev pub TellsFirst : {A : Type 0} → (A → Type 0) → (Rule → Place → Type 0) → Fault → Type 0
 TellsFirst Says Breaks (Broken rule place) = BreaksAlone Says Breaks rule place
 TellsFirst Says Breaks Memory = Unit {0}
@@ -28,7 +28,7 @@ TellsTogether o shapes together.Memory = Unit {0}
 
 -- ---- what is told
 
--- the fault tells this rule and this place, unless memory is wanting
+-- the fault tells this rule and this place, unless memory runs out
 abbrev pub SaysFault : Rule → Place → Fault → Type 0
 SaysFault rule place (Broken r p) = (r ≡ rule) × (p ≡ place)
 SaysFault rule place Memory = Unit {0}

@@ -22,7 +22,7 @@ pub enum AssemblyFault {
         node: usize,
         ports: Items<PortId>,
     },
-    /// No memory is left.
+    /// Out of memory.
     Memory,
 }
 

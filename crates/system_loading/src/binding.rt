@@ -25,7 +25,7 @@ pub enum BindingFault {
         rule: Rule,
         place: Place,
     },
-    /// No memory is left.
+    /// Out of memory.
     Memory,
 }
 

@@ -5,6 +5,6 @@ use doc_tree::{Place, Rule};
 pub enum Fault {
     /// They break this rule first, at this place.
     Broken { rule: Rule, place: Place },
-    /// No memory is left.
+    /// Out of memory.
     Memory,
 }

@@ -37,7 +37,7 @@ through_next cs i d x lt =
 pub wide_kept : (x : ℤ) → IsWide x → to_z w128 (of_z w128 x) ≡ x
 wide_kept x wide = let low = wide.0 in let high = wide.1 in to_z-of_z w128 x (omega (arith, ints, low, high))
 
--- behind one more change
+-- after one more change
 pub carried_next : (cs : List Change) (i : ℕ) (d : Change) (kind : PortType) (x y : ℤ) → i < length cs → changed (get_or cs i d) x ≡ Some y →
     option_and_then (fitting kind) (through (drop i cs) x) ≡ option_and_then (fitting kind) (through (drop (i + 1) cs) y)
 carried_next cs i d kind x y lt e = ap (option_and_then (fitting kind)) (through_next cs i d x lt ∙ ap (option_and_then (through (drop (i + 1) cs))) e)

@@ -53,7 +53,7 @@ pub record Labels (i : ℕ) (cs : List Component) (label : Label) : Type 0 where
   pub there : slice_get component.shape.variables place ≡ Some variable
   pub is : IsLabel (i + number) variable label
 
--- of one component, or of what stands behind it
+-- of one component, or of what comes after it
 pub record InBlock (i : ℕ) (vs : List Variable) (label : Label) : Type 0 where
   pub place : ℕ
   pub variable : Variable

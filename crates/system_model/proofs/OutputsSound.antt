@@ -98,7 +98,7 @@ output_of system is p port c v at =
       ap (λ (x : Variable). x.kind) (sym is_v) ∙ found.is.kind,
     )
 
--- without Clocks a variable that isn't foreign names none
+-- without Clocks a variable that isn't ignored names none
 names_none : (shape : Shape) → All (λ (v : Variable). is_clock v ≡ false) shape.variables → (clocks : List ℕ) → All (λ r. is_at is_clock shape.variables r ≡ true) clocks → clocks ≡ []
 names_none shape none [] all = refl
 names_none shape none (r ∷ rs) all =

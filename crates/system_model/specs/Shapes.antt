@@ -27,7 +27,7 @@ HasNames v = (0 < length v.name) × All (λ alias. 0 < length alias) v.aliases
 abbrev pub HasFittingStart : Variable → Type 0
 HasFittingStart v = IfSome v.start (λ x. IsSomeAnd v.kind (λ (kind : PortType). Fits kind x))
 
--- what the variable names as its Clocks are Clocks, and aren't foreign where it isn't
+-- what the variable names as its Clocks are Clocks, and aren't ignored where it isn't
 abbrev pub NamesClocks : Shape → Variable → Type 0
 NamesClocks shape v =
     is_some v.kind ≡ true → All (λ r. is_at is_clock shape.variables r ≡ true) v.clocks
@@ -40,7 +40,7 @@ pub record HasSoundVariables (shape : Shape) : Type 0 where
 
 -- ---- Clocks (2.2.8)
 
--- a triggered Clock is an input or an output, and a time-based one an input; tunable ones are left out of this profile
+-- a triggered Clock is an input or an output, and a time-based one an input; tunable ones are unsupported
 abbrev pub MayTick : IntervalVariability → Causality → Type 0
 MayTick Constant causality = causality ≡ c.Input
 MayTick Fixed causality = causality ≡ c.Input
@@ -83,7 +83,7 @@ pub record IsSoundDependency (shape : Shape) (v : Variable) (dependency : Depend
 
 -- ---- the whole
 
--- its Clocks that aren't foreign have their timings, and its outputs their dependencies, in the order of the variables; a state is serialized only where it can be saved (2.2.6)
+-- its Clocks that aren't ignored have their timings, and its outputs their dependencies, in the order of the variables; a state is serialized only where it can be saved (2.2.6)
 pub record IsSoundShape (shape : Shape) : Type 0 where
   pub variables : HasSoundVariables shape
   pub clocks : AllZip (IsSoundClock shape) (filter is_clock shape.variables) shape.clocks

@@ -86,7 +86,7 @@ IsUnder system i reference p =
     IsSomeAnd (slice_get system.ports p.0) (λ (port : Port). (port.component.0 ≡ i) ×
     (port.reference ≡ reference))
 
--- the ports are the variables of the components that are inputs or outputs and aren't foreign, by component and place in its description; each has the role and the Clocks of its variable
+-- the ports are the variables of the components that are inputs or outputs and aren't ignored, by component and place in its description; each has the role and the Clocks of its variable
 pub record HasSoundPorts (system : System) : Type 0 where
   pub few : length system.ports ≤ 65536
   pub numbered : map label_of system.ports ≡ labels_from 0 system.components

@@ -22,7 +22,7 @@ pub struct Feed {
 }
 
 impl Feed {
-    /// A feed from this port along a path without changes. It takes no memory.
+    /// A feed from this port along a path without changes. It allocates no memory.
     pub fn plain(alloc: Global, from: PortId) -> Feed
         ensures { result ≡ record { from = from; changes = [] } }
     {

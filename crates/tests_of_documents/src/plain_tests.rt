@@ -47,7 +47,7 @@ fn text_of(
     Ok(text)
 }
 
-/// A text, where another stands in the place of a byte.
+/// A text, where another stands in place of a byte.
 fn edit(alloc: Global, text: &[u8], at: usize, other: &[u8]) -> Result<Vec<u8>, AllocError> {
     let mut new = Vec::new(alloc);
     for (i, b) in text.iter().enumerate() {
@@ -60,7 +60,7 @@ fn edit(alloc: Global, text: &[u8], at: usize, other: &[u8]) -> Result<Vec<u8>, 
     Ok(new)
 }
 
-/// Whether the reader reads the text where it is a document, and each front of a document up to its end.
+/// Whether the reader reads the text where it is a document, and each prefix of a document up to its end.
 fn agrees(alloc: Global, text: &[u8]) -> bool {
     let is_one = is_document(text);
     if read_tree(alloc, text).is_ok() != is_one {
@@ -116,7 +116,7 @@ fn short_texts_are_read_where_they_are_documents(rt: HostRuntime) {
     );
 }
 
-// Whether the reader agrees on a text with another in the place of a byte.
+// Whether the reader agrees on a text with another in place of a byte.
 fn agrees_edited(alloc: Global, document: &[u8], at: usize, other: &[u8]) -> bool {
     match edit(alloc, document, at, other) {
         Ok(text) => agrees(alloc, text.as_slice()),

@@ -189,7 +189,7 @@ static FAULTS: [(&[u8], DocumentRule, usize); 134] = [
     (b"<a b='' b/>", DocumentRule::Malformed, 9),
     (b"<a p:b='' p:b=''/>", DocumentRule::AttributeTwice, 10),
     (b"<a xmlns='' xmlns=''/>", DocumentRule::AttributeTwice, 12),
-    // Behind the eighth attribute, of a name before it and behind it.
+    // After the eighth attribute, of a name before it and after it.
     (
         b"<a b='' c='' d='' e='' f='' g='' h='' i='' j='' i=''/>",
         DocumentRule::AttributeTwice,
@@ -387,7 +387,7 @@ fn faults_are_told(rt: HostRuntime) {
     assert_eq!(rt; wrong, None);
 }
 
-// Whether each front of a document is told as cut at its end.
+// Whether each prefix of a document is told as cut at its end.
 fn is_cut_at_each_end(alloc: Global, document: &[u8]) -> bool {
     (0..document.len()).all(|at| is_fault(alloc, &document[..at], DocumentRule::Malformed, at))
 }

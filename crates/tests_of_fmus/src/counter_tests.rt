@@ -126,7 +126,7 @@ static RUNS: [&[(Call, Content)]; 2] = [
     ],
 ];
 
-// What reads y behind Initialization Mode and behind each of three steps.
+// What reads y after Initialization Mode and after each of three steps.
 fn steps_of(kind: PortType, words: &[u64; 4]) -> [(Call, Content); 8] {
     let get = Call::Get { kind, reference: 2 };
     let [first, second, third, fourth] = *words;

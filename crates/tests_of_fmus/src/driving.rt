@@ -165,7 +165,7 @@ where
     Ok(goes && answers_each(&mut peer, &END))
 }
 
-// Whether a machine of the shape goes so.
+// Whether a machine of the shape answers so.
 pub(crate) fn goes(
     alloc: Global,
     shape: &Shape,

@@ -15,7 +15,7 @@ struct Modes {
     // the value of the parameter under reference 1, and what the variable under reference 2 is
     parameter: i128,
     second: Causality,
-    // the calls behind EnterInitialization
+    // the calls after EnterInitialization
     steps: &'static [(Call, Content)],
 }
 
@@ -224,7 +224,7 @@ struct Clocked {
     variability: IntervalVariability,
     // what its outputs under 2 and 3 depend on
     on: &'static [u32],
-    // the calls behind EnterInitialization
+    // the calls after EnterInitialization
     steps: &'static [(Call, Content)],
 }
 

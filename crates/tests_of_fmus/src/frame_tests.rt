@@ -512,7 +512,7 @@ fn is_call_cut_at_each_end(frame: &[u8]) -> bool {
     (0..frame.len()).all(|end| take_call(&frame[..end]) == Taken::NeedMore)
 }
 
-// Whether a call has this frame, both ways, and each front of it wants more.
+// Whether a call has this frame, both ways, and each prefix of it needs more.
 fn has_frame(call: &Call, name: &str, token: &str, frame: &[u8]) -> bool {
     let mut out = [0xAA; 40];
     is_put(call, name, token, frame, &mut out)
@@ -520,7 +520,7 @@ fn has_frame(call: &Call, name: &str, token: &str, frame: &[u8]) -> bool {
         && is_call_cut_at_each_end(frame)
 }
 
-// The frame with 1 in the place of a byte.
+// The frame with 1 in place of a byte.
 fn with_one_at(frame: &[u8; 24], place: usize) -> [u8; 24] {
     let mut wrong = *frame;
     if place < 24 {

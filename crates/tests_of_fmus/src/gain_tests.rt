@@ -14,7 +14,7 @@ struct Gain {
     on: &'static [u32],
     // what the input is set to in Initialization Mode, and before the step
     set: [i128; 2],
-    // the words of the output in Initialization Mode, behind it, and behind the step
+    // the words of the output in Initialization Mode, after it, and after the step
     words: [u64; 3],
 }
 

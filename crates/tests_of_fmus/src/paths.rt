@@ -1,4 +1,4 @@
-//! Paths of calls with their replies, the shape of an FMU that goes them, and what is permitted behind each.
+//! Paths of calls with their replies, the shape of an FMU that takes them, and what is permitted after each.
 use fmi_calls::{Call, Content, InstanceState, Phase, Reply, next_phase, permitted};
 use sim_base::{Items, Text};
 use std::alloc::{AllocError, Global};
@@ -169,7 +169,7 @@ pub(crate) fn shape_of(alloc: Global) -> Result<Shape, AllocError> {
     shape_with(alloc, variables(alloc)?, clocks)
 }
 
-// The phase behind the calls of a path, where each is permitted.
+// The phase after the calls of a path, where each is permitted.
 fn follow(alloc: Global, shape: &Shape, path: &[(Call, Option<Reply>)]) -> Option<Phase> {
     let mut phase = Phase::fresh(alloc, shape).ok()?;
     for (call, reply) in path {
@@ -204,7 +204,7 @@ fn is_row(alloc: Global, shape: &Shape, row: &Row, probes: &[Call], never: &[Cal
     }
 }
 
-// The place of the first row whose path leads elsewhere, or behind which something else is permitted.
+// The place of the first row whose path leads elsewhere, or after which something else is permitted.
 pub(crate) fn first_wrong(
     alloc: Global,
     shape: &Shape,

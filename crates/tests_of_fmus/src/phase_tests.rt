@@ -1,4 +1,4 @@
-//! The state machine of an FMU with and without event mode: the state behind each path of calls, and what is permitted there.
+//! The state machine of an FMU with and without event mode: the state after each path of calls, and what is permitted there.
 use crate::paths::{
     EMPTY, ENTER, ENTER_STEP, ENTERED, EXIT, EXITED, FREE, GET, IN_STEP, INSTANTIATE,
     INSTANTIATE_EVENTS, RESTORE, Row, SAVE, SET, SETTLED, STARTED_EVENTS, STEP, TERMINATE, UPDATE,
@@ -14,7 +14,7 @@ const SET_PARAMETER: Call = Call::Set {
     value: 7,
 };
 
-// Steps behind the first: one like it, from where it ended or ended early, a shorter one, and one past the stop.
+// Steps after the first: one like it, from where it ended or ended early, a shorter one, and one past the stop.
 const SECOND: Call = Call::DoStep { at: 40, size: 30 };
 
 const BEHIND_EARLY: Call = Call::DoStep { at: 25, size: 30 };

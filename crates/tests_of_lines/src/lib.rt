@@ -1,4 +1,4 @@
-//! Tests of the command line: words that ask for something, and words that are no line.
+//! Tests of the command line: arguments that ask for something, and arguments that are no command line.
 #![tactic(auto)]
 
 #[cfg(test)]

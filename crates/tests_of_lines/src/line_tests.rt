@@ -1,10 +1,10 @@
-//! Lines of words: what they ask for, and those that are none.
+//! Lines of arguments: what they ask for, and those that are none.
 use command_line::{CommandLine, Request, WordsFault, read_words};
 use std::alloc::{AllocError, Global};
 use system_model::Plan;
 
-// What words ask for: the directory, and the resolution, start, step, stop and limit; of a check the resolution alone. Of the
-// run of a generated system the seed, and the numbers of components and workers.
+// What arguments ask for: the directory, and the resolution, start, step, stop and limit; of a check the resolution alone. Of
+// the run of a generated system the seed, and the numbers of components and workers.
 #[derive(Clone, Copy, PartialEq)]
 enum Asked<'a> {
     One(&'a str, [u64; 5]),
@@ -16,7 +16,7 @@ enum Asked<'a> {
 
 use Asked::{Bench, Check, One, Run, TraceCheck};
 
-// Words between bars, and what they ask for.
+// Arguments between bars, and what they ask for.
 static LINES: [(&str, Asked<'static>); 37] = [
     // All is right.
     (
@@ -100,7 +100,7 @@ static LINES: [(&str, Asked<'static>); 37] = [
         Run("one", [10, 0, 3, 7, 100]),
     ),
     ("check|run|--resolution|10", Check("run", 10)),
-    // Options with `=`, in any order, before the directory and behind it.
+    // Options with `=`, in any order, before the directory and after it.
     (
         "one|d|--resolution=10|--step=3|--stop=7|--start=7",
         One("d", [10, 7, 3, 7, 100]),
@@ -145,9 +145,9 @@ static LINES: [(&str, Asked<'static>); 37] = [
     ("bench|7|--workers=64|256", Bench(7, 256, 64)),
 ];
 
-// Words between bars that are no line.
+// Arguments between bars that are no line.
 static OTHERS: [&str; 160] = [
-    // A word is missing.
+    // An argument is missing.
     "",
     "one",
     "one|d",
@@ -173,7 +173,7 @@ static OTHERS: [&str; 160] = [
     "trace-check",
     "trace-check|d",
     "trace-check|--resolution|1000|d",
-    // A word is there twice, or there is one too many.
+    // An argument is there twice, or there is one too many.
     "one|d|d|--resolution|10|--step|3|--stop|7",
     "one|d|--resolution|10|--step|3|--stop|7|d",
     "one|d|--resolution|10|--step|3|--stop|7|",
@@ -205,7 +205,7 @@ static OTHERS: [&str; 160] = [
     "check|d|--resolution|1000|--step|10|--stop|100",
     "check|d|--resolution|1000|--max-iterations|7",
     "check|d|--resolution|1000|--max-iterations=7",
-    // The command is another, or isn't the first word.
+    // The command is another, or isn't the first argument.
     "two|d|--resolution|10|--step|3|--stop|7",
     "One|d|--resolution|10|--step|3|--stop|7",
     "on|d|--resolution|10|--step|3|--stop|7",
@@ -321,7 +321,7 @@ static OTHERS: [&str; 160] = [
     "bench|1|1|--resolution|1000",
 ];
 
-// Words between bars, and the host that they ask for.
+// Arguments between bars, and the host that they ask for.
 static HOSTS: [(&str, &str); 9] = [
     ("one|d|--resolution|10|--step|3|--stop|7", "builtin"),
     ("run|d|--resolution|10|--step|3|--stop|7", "builtin"),
@@ -346,7 +346,7 @@ static HOSTS: [(&str, &str); 9] = [
     ("run|d|--resolution|10|--step|3|--stop|7|--host|=", "="),
 ];
 
-// Words between bars with a host that makes them no line.
+// Arguments between bars with a host that makes them no line.
 static OTHER_HOSTS: [&str; 14] = [
     "one|d|--resolution|10|--step|3|--stop|7|--host",
     "run|d|--host|--resolution|10|--step|3|--stop|7",
@@ -364,7 +364,7 @@ static OTHER_HOSTS: [&str; 14] = [
     "check|d|--resolution|1000|--host=builtin",
 ];
 
-// Words between bars, and the number of workers that they ask for.
+// Arguments between bars, and the number of workers that they ask for.
 static WORKERS: [(&str, u32); 6] = [
     ("one|d|--resolution|10|--step|3|--stop|7", 1),
     ("run|d|--resolution|10|--step|3|--stop|7", 1),
@@ -374,7 +374,7 @@ static WORKERS: [(&str, u32); 6] = [
     ("one|--workers=10|d|--resolution|10|--step|3|--stop|7", 10),
 ];
 
-// Words between bars, and the version of the link that they ask for.
+// Arguments between bars, and the version of the link that they ask for.
 static LINKS: [(&str, u32); 5] = [
     ("one|d|--resolution|10|--step|3|--stop|7", 1),
     ("one|d|--resolution|10|--step|3|--stop|7|--link|1", 1),
@@ -386,7 +386,7 @@ static LINKS: [(&str, u32); 5] = [
     ),
 ];
 
-// Words between bars with a version of the link that makes them no line.
+// Arguments between bars with a version of the link that makes them no line.
 static OTHER_LINKS: [&str; 10] = [
     "run|d|--resolution|10|--step|3|--stop|7|--link",
     "run|d|--resolution|10|--step|3|--stop|7|--link=",
@@ -400,7 +400,7 @@ static OTHER_LINKS: [&str; 10] = [
     "bench|1|1|--link|2",
 ];
 
-// Words between bars with a number of workers that makes them no line.
+// Arguments between bars with a number of workers that makes them no line.
 static OTHER_WORKERS: [&str; 10] = [
     "run|d|--resolution|10|--step|3|--stop|7|--workers",
     "run|d|--resolution|10|--step|3|--stop|7|--workers=",

@@ -2,7 +2,7 @@ use doc_tree::{Refusal, Rule, Tree, read_tree};
 use ssd_tree::{DocumentParts, Setting, SystemTree, read_document, read_ssd};
 use std::alloc::Global;
 
-// What stands before and behind the lists of the outermost System of a document.
+// What stands before and after the lists of the outermost System of a document.
 const HEAD: &str = r#"<SystemStructureDescription version="1.0" name="d"><System name="s">"#;
 
 const FOOT: &str = "</System></SystemStructureDescription>";

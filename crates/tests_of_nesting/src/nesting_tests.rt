@@ -27,7 +27,7 @@ fn add(alloc: Global, nest: Nest, path: &str, lists: &str) -> Option<Nest> {
     }
 }
 
-// All documents, each with the path at which it is asked for; none is asked for behind them.
+// All documents, each with the path at which it is asked for; none is asked for after them.
 fn nest_of(alloc: Global, lists: &str, documents: &[(&str, &str)]) -> Option<Nest> {
     let mut nest = nest(alloc, lists)?;
     for (path, lists) in documents {
@@ -150,7 +150,7 @@ fn many_packages(alloc: Global, count: usize) -> Option<String> {
     Some(lists)
 }
 
-// Where the next document is refused behind so many empty packages.
+// Where the next document is refused after so many empty packages.
 fn refused_package(alloc: Global, count: usize) -> Option<Place> {
     let lists = many_packages(alloc, count)?;
     let mut nest = nest(alloc, lists.as_str())?;

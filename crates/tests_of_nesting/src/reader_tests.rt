@@ -39,7 +39,7 @@ fn a_system_alone_has_no_packages(rt: HostRuntime) {
     assert_eq!(rt; refused_lists(rt.alloc(), OUTERMOST, MIXED), None);
 }
 
-// An FMU for Model Exchange, behind a package that is.
+// An FMU for Model Exchange, after a package that is.
 const EXCHANGES: &str =
     r#"<Elements><Component name="p" type="application/x-ssp-package" implementation="ModelExchange" source="p"/><Component name="a" implementation="ModelExchange" source="a"/></Elements>"#;
 

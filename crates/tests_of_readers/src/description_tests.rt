@@ -147,7 +147,7 @@ static REFUSED: [(&str, usize, u32); 34] = [
         3,
         20,
     ),
-    // a foreign variable counts among the references
+    // an ignored variable counts among the references
     (
         r#"<Float64 name="a" valueReference="1"/><Int32 name="b" valueReference="1"/>"#,
         4,
@@ -168,13 +168,13 @@ static ACCEPTED: [(&str, usize, usize); 5] = [
         1,
         0,
     ),
-    // what is foreign may say what it likes
+    // what is ignored may say what it likes
     (
         r#"<fmiModelDescription fmiVersion="3.0" modelName="m" instantiationToken="t"><CoSimulation modelIdentifier="m"/><ModelVariables><Float64 name="x" valueReference="1" start="1e3"/><Int32 name="xs" valueReference="2" start="1 2"><Dimension start="2"/></Int32><String name="s" valueReference="3"><Start value="a"/></String><Int8 name="o" valueReference="4" causality="other" start="900"/><Clock name="l" valueReference="5"/><Int8 name="k" valueReference="6" clocks="5" start="x"/></ModelVariables></fmiModelDescription>"#,
         6,
         0,
     ),
-    // two lists of variables, and a Clock that stands behind what it clocks
+    // two lists of variables, and a Clock that comes after what it clocks
     (
         r#"<fmiModelDescription fmiVersion="3.0" modelName="m" instantiationToken="t"><CoSimulation modelIdentifier="m" hasEventMode="1"/><ModelVariables><Int32 name="y" valueReference="2" clocks="1"/></ModelVariables><ModelVariables><Clock name="c" valueReference="1" causality="input" intervalVariability="fixed" supportsFraction="true"/></ModelVariables></fmiModelDescription>"#,
         2,

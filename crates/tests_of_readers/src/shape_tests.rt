@@ -15,7 +15,7 @@ pub(crate) const BACK: &str = "</fmiModelDescription>";
 /// What stands in a description; its variables, Clocks, dependencies, and those of Initialization Mode.
 static PARTS: [(&str, &str); 7] = [
     ("", "|||"),
-    // Aliases, foreign variables, two lists of variables, and an exact start value.
+    // Aliases, ignored variables, two lists of variables, and an exact start value.
     (
         r#"<ModelVariables><Int32 name="a" valueReference="1" causality="input"><Alias name="b"/><Alias name="c"/></Int32><Float64 name="f" valueReference="2" causality="input" start="0.5"/></ModelVariables><ModelVariables><Int8 name="d" valueReference="3" causality="output" initial="exact" start="-5"/><Int32 name="v" valueReference="4" causality="output"><Dimension start="2"/></Int32></ModelVariables>"#,
         "a=b=c 1 Some(Int32) Input None;f 2 None Input None;d 3 Some(Int8) Output Some(-5);v 4 None Output None;||3: all;|3:;",
@@ -40,7 +40,7 @@ static PARTS: [(&str, &str); 7] = [
         r#"<ModelVariables><Clock name="c" valueReference="1" causality="input" intervalVariability="constant" intervalDecimal="0.01" shiftDecimal="1e-1"/><Clock name="d" valueReference="2" causality="input" intervalVariability="fixed" supportsFraction="true" intervalCounter="1" resolution="4" shiftCounter="3"/><Clock name="e" valueReference="3" causality="input" intervalVariability="fixed" supportsFraction="true"/><Clock name="o" valueReference="4" causality="output" intervalVariability="triggered"/><Clock name="l" valueReference="5" intervalVariability="triggered"/><Int32 name="k" valueReference="6" causality="input" clocks="1  2" canHandleMultipleSetPerTimeInstant="false"/><Int32 name="g" valueReference="7" causality="output" clocks="5"/><Clock name="n" valueReference="8" causality="input" intervalVariability="constant" supportsFraction="true" intervalCounter="1" resolution="2" intervalDecimal="0.25"/></ModelVariables>"#,
         "c 1 Some(Clock) Input None;d 2 Some(Clock) Input None;e 3 Some(Clock) Input None;o 4 Some(Clock) Output None;l 5 None Local None;k 6 Some(Int32) Input None @1 @2 once;g 7 None Output None @5;n 8 Some(Clock) Input None;|1 Constant false 1/100 1/10;2 Fixed true 1/4 3/4;3 Fixed true - -;4 Triggered false - -;8 Constant true 1/2 0/2;|4: all;|4: all;",
     ),
-    // Clocks that name one another in a circle, and others that hang on a local one, with what they clock.
+    // Clocks that name one another in a circle, and others that depend on a local one, with what they clock.
     (
         r#"<ModelVariables><Clock name="a" valueReference="1" causality="input" clocks="2" intervalVariability="triggered"/><Clock name="b" valueReference="2" causality="input" clocks="3 1" intervalVariability="triggered"/><Clock name="c" valueReference="3"/><Clock name="d" valueReference="4" causality="input" clocks="5" intervalVariability="triggered"/><Clock name="e" valueReference="5" causality="input" clocks="4" intervalVariability="triggered"/><Int32 name="f" valueReference="6" causality="output" clocks="5  1"/><Int32 name="g" valueReference="7" causality="input" clocks="4"/></ModelVariables>"#,
         "a 1 None Input None @2;b 2 None Input None @3 @1;c 3 None Local None;d 4 Some(Clock) Input None @5;e 5 Some(Clock) Input None @4;f 6 None Output None @5 @1;g 7 Some(Int32) Input None @4;|4 Triggered false - -;5 Triggered false - -;||",

@@ -5,7 +5,7 @@ use fmu_description::read_description;
 use std::alloc::{AllocError, Global};
 use value_types::Shape;
 
-// What stands before and behind a text in a description.
+// What stands before and after a text in a description.
 type Around = (&'static str, &'static str);
 
 const FLAG: Around = (

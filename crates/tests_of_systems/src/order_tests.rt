@@ -1,7 +1,7 @@
 use dependency_order::{Found, GroupedNeeds, Lists, find_order, order_grouped, reached_from};
 use std::alloc::{AllocError, Global};
 
-// Puts a number behind a list, if there is such a list.
+// Appends a number to a list, if there is such a list.
 fn put(lists: &mut Lists, at: usize, number: usize) -> Result<(), AllocError> {
     if at < lists.len() {
         lists.push(at, number)?;
@@ -9,7 +9,7 @@ fn put(lists: &mut Lists, at: usize, number: usize) -> Result<(), AllocError> {
     Ok(())
 }
 
-// So many lists, with these numbers behind them.
+// So many lists, with these numbers after them.
 fn lists(alloc: Global, len: usize, numbers: &[(usize, usize)]) -> Result<Lists, AllocError> {
     let mut all = Lists::new(alloc, len)?;
     for (at, number) in numbers {
@@ -54,7 +54,7 @@ static GRAPHS: [Row; 6] = [
     ),
 ];
 
-// Whether what is found is the order, or the loop, that is wanted.
+// Whether what is found is the order, or the loop, that is expected.
 fn is_found(found: &Found, ordered: bool, nodes: &[usize]) -> bool {
     if ordered {
         is_order(found, nodes)

@@ -6,7 +6,7 @@ use system_model::{Component, Feed, Port, Role, Timing};
 use value_types::{ByReference, Causality, Dependency, Knowns, PortType, Shape, Variable};
 
 // Two FMUs in a ring: the output under reference 3 of each feeds the input under reference 2 of the other. Each row has
-// what the outputs list, none for all inputs, and the loop that is wanted.
+// what the outputs list, none for all inputs, and the loop that is expected.
 struct Ring {
     has_event_mode: bool,
     first: Option<&'static [u32]>,

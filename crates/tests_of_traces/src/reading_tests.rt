@@ -97,7 +97,7 @@ static PORTS: [(&str, u64); 9] = [
     ("port 0 Int32  y\nend fault 0\n", 2),
 ];
 
-// Behind a port of type Int32 and a Clock.
+// After a port of type Int32 and a Clock.
 static ROWS: [(&str, u64); 10] = [
     ("at 0 0\n0 -5\n1 1\nend stop 20\n", 0),
     ("at 0 0\n1 0\nat 0 1\n1 0\nend limit 0\n", 0),

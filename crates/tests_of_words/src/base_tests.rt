@@ -165,7 +165,7 @@ fn a_sink_fails_by_its_list_and_its_room(rt: HostRuntime) -> Result<(), Fail> {
     Ok(())
 }
 
-// At each take: the room, what the source answers, and the front of the room behind it.
+// At each take: the room, what the source answers, and the start of the room after it.
 static TAKES: [(usize, Result<usize, SourceFault>, &[u8]); 6] = [
     (2, Ok(2), b"ab"),
     (2, Err(SourceFault), b""),

@@ -107,7 +107,7 @@ fn fractions_are_counted(rt: HostRuntime) {
     assert_eq!(rt; COUNTS.iter().position(|row| !is_counted_as(row)), None);
 }
 
-// Whether a Clock within the limits ticks, or doesn't, at a point and comes next as is wanted.
+// Whether a Clock within the limits ticks, or doesn't, at a point and comes next as is expected.
 fn ticks_as(row: &(u64, u128, u128, u64, bool, u128)) -> bool {
     let (start, shift, interval, t, ticks, next) = *row;
     start <= FAR

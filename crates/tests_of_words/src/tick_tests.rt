@@ -72,7 +72,7 @@ fn the_least_event_time_comes_first(rt: HostRuntime) -> Result<(), AllocError> {
     two_events(&rt, rt.alloc())
 }
 
-// Behind half a million thirds of a second the Clock goes on with the tick that comes next, and the event time is told.
+// After half a million thirds of a second the Clock goes on with the tick that comes next, and the event time is told.
 fn resumed_thirds<R: Abort>(rt: &R, alloc: Global) -> Result<(), AllocError> {
     let clocks = [periodic_clock(333, 5)];
     let mut schedule = Schedule::resume(alloc, &clocks, 1, 0, FAR, 166_500_005)?;

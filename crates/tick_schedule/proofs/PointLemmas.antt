@@ -77,7 +77,7 @@ sound_first Changing interval shift i s = (tt, tt)
 sound_first IsCountdownClock interval shift i s = (tt, tt)
 sound_first Triggered interval shift i s = sound_known interval shift i s
 
--- ---- behind a point
+-- ---- after a point
 
 module _ (start shift interval t u : ℕ) (moves : 0 < interval) where
   abbrev first : ℕ

@@ -153,7 +153,7 @@ first_sound clocks sound k d within =
 pub first_near : (clocks : List TimeClock) (states : List ClockState) → All IsSoundClock clocks → states ≡ map first_state clocks → All IsNear states
 first_near clocks states sound first = let P : List ClockState → Type 0 = All IsNear in subst P (sym first) (λ k d within. (first_sound clocks sound k d within).1)
 
--- ---- Clocks, and behind them components
+-- ---- Clocks, and after them components
 
 get_left : {X : Type 0} (xs ys : List X) (i : ℕ) → i < length xs → slice_get (xs ++ ys) i ≡ slice_get xs i
 get_left [] ys i lt = absurd (omega (arith, lt))
@@ -298,7 +298,7 @@ kept_at_first start stop components count states slice events old points run nea
     let kept = entries_kept start stop slice components points run near (subst (All IsSoundState) (sym same) sound) all in
     subst (λ xs. IsKept start stop (entries xs events) points) same (subst (λ es. IsKept start stop (entries slice es) points) (sym none) kept)
 
--- behind a point
+-- after a point
 near_up_to : (start shift interval t : ℕ) → 0 < interval → interval ≤ 2 ^ 126 → t ≤ 2 ^ 62 → ticks_up_to start shift interval t * interval ≤ 2 ^ 126 + 2 ^ 62
 near_up_to start shift interval t moves small near = (elim (cases_lt t (start + shift)) as (λ c. ticks_up_to start shift interval t * interval ≤ 2 ^ 126 + 2 ^ 62) [
   | inl early ↦

@@ -40,7 +40,7 @@ HasCount (Countdown armed) = ⊤
 abbrev pub event_state : Option ℕ → ClockState
 event_state point = Countdown point
 
--- what has a next point: the Clocks, and behind them the components
+-- what has a next point: the Clocks, and after them the components
 abbrev pub entries : List ClockState → List (Option ℕ) → List ClockState
 entries clocks events = clocks ++ map event_state events
 

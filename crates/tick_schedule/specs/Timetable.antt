@@ -55,7 +55,7 @@ with_event table component point =
 abbrev pub size_of : Timetable → ℕ
 size_of table = length table.clocks + length table.events
 
--- where a Clock stands once it has ticked: a periodic one before the tick behind, a countdown one without its arming
+-- where a Clock stands once it has ticked: a periodic one before the next tick, a countdown one without its arming
 abbrev pub after_tick : ClockState → ClockState
 after_tick Unasked = Unasked
 after_tick (Periodic interval shift ticks) = Periodic interval shift (ticks + 1)
@@ -95,14 +95,14 @@ first_by Triggered interval shift = known_state interval shift
 abbrev pub first_state : TimeClock → ClockState
 first_state clock = first_by clock.variability clock.interval clock.shift
 
--- ---- a run that is resumed behind a point
+-- ---- a run that is resumed after a point
 
 -- how many ticks a periodic Clock has made up to the point
 abbrev pub ticks_up_to : (start shift interval t : ℕ) → ℕ
 ticks_up_to start shift interval t =
     if nat_lt t (start + shift) then 0 else (t - (start + shift)) / interval + 1
 
--- where a Clock stands behind the point
+-- where a Clock stands after the point
 abbrev pub resumed_in : ℕ → ℕ → ClockState → ClockState
 resumed_in start t Unasked = Unasked
 resumed_in start t (Periodic interval shift ticks) =
@@ -112,7 +112,7 @@ resumed_in start t (Countdown armed) = Countdown armed
 abbrev pub resumed_state : ℕ → ℕ → TimeClock → ClockState
 resumed_state start t clock = resumed_in start t (first_state clock)
 
--- behind the point a Clock stands before its least tick above it
+-- after the point a Clock stands before its least tick above it
 abbrev pub ResumesAbove : Type 0
 ResumesAbove = (start shift interval t u : ℕ) → 0 < interval →
     (IsToTick start (Periodic interval shift (ticks_up_to start shift interval t)) u

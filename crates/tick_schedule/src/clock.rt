@@ -82,7 +82,7 @@ impl ClockState {
         }
     }
 
-    /// Where the Clock stands behind a point.
+    /// Where the Clock stands after a point.
     pub(crate) fn resumed(self, start: u64, t: u64) -> ClockState
         requires start { start ≤ 2 ^ 62 }
         requires t { t ≤ 2 ^ 62 }

@@ -185,7 +185,7 @@ fn event_by<L: Ledger>(schedule: &mut Schedule, component: usize, point: Option<
     schedule.event_at(component, point, &mut Steps::<L>::new(blank));
 }
 
-/// Takes the arming of a countdown or changing Clock away, if it has one.
+/// Disarms a countdown or changing Clock, if it is armed.
 pub fn disarm(schedule: &mut Schedule, clock: usize)
     requires { IsCountdown schedule.old clock }
     ensures { schedule.new ≡ with_clock schedule.old clock (Countdown None) }
@@ -203,7 +203,7 @@ fn disarm_by<L: Ledger>(schedule: &mut Schedule, clock: usize, blank: Blank)
     schedule.disarm(clock, &mut Steps::<L>::new(blank));
 }
 
-/// A Clock has ticked at its next point: a periodic one goes on to the tick behind it, and a countdown or changing one is no
+/// A Clock has ticked at its next point: a periodic one goes on to the tick after it, and a countdown or changing one is no
 /// longer armed.
 pub fn ticked(schedule: &mut Schedule, clock: usize)
     requires { HasNext schedule.old clock }

@@ -22,7 +22,7 @@ pub struct Schedule {
     clocks: Vec<ClockState>,
     /// the event time of each component
     events: Vec<Option<u64>>,
-    /// the next point of each Clock, and behind them of each component
+    /// the next point of each Clock, and after them of each component
     points: Heap,
 }
 
@@ -45,7 +45,7 @@ impl Model for Schedule {
 
 impl Schedule {
     /// Each Clock before its first tick, no countdown or changing Clock armed, and no component with an event time. Nothing
-    /// else of a schedule takes memory.
+    /// else of a schedule allocates memory.
     pub fn new(
         alloc: Global,
         clocks: &[TimeClock],
@@ -250,7 +250,7 @@ impl Schedule {
         self.points.put(place, next, steps);
     }
 
-    /// Takes the arming of a countdown or changing Clock away, if it has one.
+    /// Disarms a countdown or changing Clock, if it is armed.
     pub fn disarm<L: Ledger>(&mut self, clock: usize, steps: &mut Steps<L>)
         requires { IsCountdown self.old clock }
         ensures disarmed { self.new ≡ with_clock self.old clock (Countdown None) }
@@ -259,7 +259,7 @@ impl Schedule {
         self.set(clock, ClockState::Countdown { armed: None }, steps);
     }
 
-    /// A Clock has ticked at its next point: a periodic one goes on to the tick behind it, and a countdown or changing one is
+    /// A Clock has ticked at its next point: a periodic one goes on to the tick after it, and a countdown or changing one is
     /// no longer armed.
     pub fn ticked<L: Ledger>(&mut self, clock: usize, steps: &mut Steps<L>)
         requires { HasNext self.old clock }
@@ -309,7 +309,7 @@ fn within(point: u64, stop: u64) -> Option<u64>
     if point <= stop { Some(point) } else { None }
 }
 
-/// Where each Clock stands behind a point.
+/// Where each Clock stands after a point.
 fn resumed_states(
     alloc: Global,
     clocks: &[TimeClock],
@@ -328,7 +328,7 @@ fn resumed_states(
     Ok(states)
 }
 
-/// How many places there are, where there is memory for so many.
+/// How many places there are; it fails where a `usize` doesn't hold that.
 fn sum(clocks: usize, components: usize) -> Result<usize, AllocError>
     ensures { IfOk result (λ count. count ≡ clocks + components) }
 {

@@ -17,7 +17,7 @@ use Rattle.trace_check.specs.Rules.BreaksIn.{OutOfOrder, OffSource, OffTick}
 use Rattle.trace_check.specs.Steps.{AreConstantClocks, IsAnyOff, IsFirstIn, IsOtherValue}
 use Rattle.trace_check.proofs.SourceLemmas.{lines_none, lines_within, lines_zero}
 
--- a line that isn't behind another, with a rule that isn't above its, comes first
+-- a line that isn't after another, with a rule that isn't above its, comes first
 pub comes_first : (line l rule r : ℕ) → line ≤ l → rule ≤ r → (line < l) ⊎ ((line ≡ l) × (rule ≤ r))
 comes_first line l rule r order less = elim (cases_lt line l) [ inl before ↦ inl before | inr behind ↦ inr (omega (arith, order, behind), less) ]
 

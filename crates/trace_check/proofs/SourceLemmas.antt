@@ -1,4 +1,4 @@
--- The line of a port, by how many lines it stands behind the `at` line of its instant.
+-- The line of a port, by how many lines it stands after the `at` line of its instant.
 use Rattle.std.proofs.Common.{arith, ◌≡◌, refl, sym, ap, ◌∙◌, ℕ, ◌+◌, ◌<◌, ◌≤◌, suc, zero, ℤ, cond, List, [], ◌∷◌, Option, Some, None, length, take, inl, inr, below_more}
 use Rattle.std.specs.Prelude.{is_some, count_by, slice_get}
 use Rattle.std.proofs.lemmas.Bool.{cases_lt}
@@ -38,7 +38,7 @@ few_lines : (o : Option ℤ) (values : List (Option ℤ)) (count : ℕ) → coun
 few_lines None values count few = omega arith
 few_lines (Some v) values count few = few
 
--- no port's line stands behind those of the values
+-- no port's line comes after those of the values
 pub lines_within : (values : List (Option ℤ)) (p : ℕ) → lines_to values p ≤ length (told_values_from 0 values)
 lines_within values p =
     let all = value_lines_count 0 values in
@@ -64,7 +64,7 @@ lines_zero values p zero_lines = none_from (value values p) (λ v some. let abov
 
 -- ---- the lines of values, one after another
 
--- the line at a place tells a port's value, and stands behind those of the ports before it
+-- the line at a place tells a port's value, and comes after those of the ports before it
 pub record Tells (k : ℕ) (values : List (Option ℤ)) (line p : ℕ) (v : ℤ) : Type 0 where
   pub place : ℕ
   pub port : p ≡ k + place

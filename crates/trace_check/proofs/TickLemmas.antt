@@ -77,7 +77,7 @@ right_of start interval shift last t n v due is_due same none (Wrong wrong) =
     wrong ((λ one. is_due.0 (sym same ∙ active_of v one)), (λ ticks. active_is v (same ∙ is_due.1 ticks)))
 right_of start interval shift last t n v due is_due same none (Passed passed) = none passed
 
--- a tick was passed over exactly where the first one behind the point before stands before this one
+-- a tick was passed over exactly where the first one after the point before stands before this one
 pub passes_of : (start interval shift before m t next : ℕ) → IsTick start shift interval next → before < next → ((tick : ℕ) → IsTick start shift interval tick → before < tick → next ≤ tick) →
     IsTrue (nat_lt next t) ↔ PassesTick start interval shift (Some (before, m)) t
 passes_of start interval shift before m t next ticks behind least = (

@@ -174,7 +174,7 @@ pub record Told (t : Trace) (rows behind : List TraceLine) (values : List (Optio
   pub values_are : (told : List (Option ℤ)) (rest : List TraceLine) → BeginsWithValues rows (length t.ports) told rest → values ≡ told
   pub rest_is : (told : List (Option ℤ)) (rest : List TraceLine) → BeginsWithValues rows (length t.ports) told rest → behind ≡ rest
 
--- the lines behind it are those of the later instants
+-- the lines after it are those of the later instants
 pub record HereThen (system : System) (t : Trace) (instants : List Instant) (rest behind : List TraceLine) (last : Option (ℕ × ℕ)) (is_reached : Bool) (i : Instant) : Type 0 where
   pub here : Here system t instants rest last is_reached i
   pub behind_is : behind ≡ flat_map instant_lines here.later

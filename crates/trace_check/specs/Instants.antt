@@ -14,14 +14,14 @@ pub record AreInstantsOf (t : Trace) (instants : List Instant) : Type 0 where
 
 -- ---- lines, by their numbers from 1 on
 
--- the line behind the header, the ports' lines and those of these instants
+-- the line after the header, the ports' lines and those of these instants
 abbrev pub line_behind : Trace → List Instant → ℕ
 line_behind t before = length t.ports + 2 + length (flat_map instant_lines before)
 
 abbrev pub end_line_number : Trace → ℕ
 end_line_number t = length t.ports + 2 + length t.lines
 
--- how many lines the line of a port stands behind the `at` line, which is its place where it has no value
+-- how many lines the line of a port stands after the `at` line, which is its place where it has no value
 abbrev pub lines_to : List (Option ℤ) → ℕ → ℕ
 lines_to values p = if is_some (value values p) then count_by is_some (take (p + 1) values) else 0
 
@@ -32,7 +32,7 @@ abbrev pub last_time : List Instant → Option (ℕ × ℕ)
 last_time instants =
     option_map (λ (i : Instant). (i.t, i.n)) (slice_get instants (length instants - 1))
 
--- the first instant of a run is at its start; behind the m-th at s stands the next at s, or the first at a later point up to the stop
+-- the first instant of a run is at its start; after the m-th at s stands the next at s, or the first at a later point up to the stop
 abbrev pub IsInOrder : ℕ → ℕ → Option (ℕ × ℕ) → ℕ → ℕ → Type 0
 IsInOrder start stop None t n = (t ≡ start) × (n ≡ 0)
 IsInOrder start stop (Some (s, m)) t n = ((t ≡ s) × (n ≡ m + 1)) ⊎ ((s < t) × (t ≤ stop) × (n ≡ 0))

@@ -10,7 +10,7 @@ use Rattle.system_model.specs.Values.{value}
 use Rattle.trace_check.specs.Values.{DiffersFromSource}
 use Rattle.trace_check.specs.Ticks.{IsConstantClock, IsOffTick}
 
--- the line so many behind the `at` line of the instant breaks a rule; `last` is when the instant before it was
+-- the line so many after the `at` line of the instant breaks a rule; `last` is when the instant before it was
 pub data BreaksIn (system : System) (t : Trace) (last : Option (ℕ × ℕ)) (i : Instant)
     (offset rule : ℕ) : Type 0 where
   -- 2: it stands out of order (FMI 3.0, 2.1.5: super-dense time)
@@ -25,7 +25,7 @@ pub data BreaksIn (system : System) (t : Trace) (last : Option (ℕ × ℕ)) (i 
       IsOffTick t.start interval shift last i.t i.n (value i.values p) →
       BreaksIn system t last i offset rule
 
--- a run that ends at its stop ends there, behind an instant there
+-- a run that ends at its stop ends there, after an instant there
 pub record StopsAtStop (t : Trace) (instants : List Instant) : Type 0 where
   pub point : t.point ≡ t.stop
   pub reached : ReachesPoint t.stop instants

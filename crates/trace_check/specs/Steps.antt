@@ -43,7 +43,7 @@ BeginsNoValue [] = Unit {0}
 BeginsNoValue (At t n ∷ lines) = Unit {0}
 BeginsNoValue (Value p v ∷ lines) = ⊥
 
--- the lines are those of values, of which there are so many, and of what stands behind them
+-- the lines are those of values, of which there are so many, and of what comes after them
 pub record BeginsWithValues (lines : List TraceLine) (ports : ℕ) (values : List (Option ℤ))
     (behind : List TraceLine) : Type 0 where
   pub size : length values ≡ ports
@@ -52,7 +52,7 @@ pub record BeginsWithValues (lines : List TraceLine) (ports : ℕ) (values : Lis
 
 -- ---- the first of them that breaks a rule
 
--- so many lines behind the `at` line stands that of an input that hasn't what comes to it from its source
+-- so many lines after the `at` line stands that of an input that hasn't what comes to it from its source
 pub record IsOtherValue (system : System) (values : List (Option ℤ)) (lines : ℕ) : Type 0 where
   pub input : ℕ
   pub differs : DiffersFromSource system values input

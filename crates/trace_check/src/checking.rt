@@ -97,7 +97,7 @@ fn line_number(trace: &Trace, rest: &[TraceLine]) -> u64
     (trace.ports.len() + 2 + (trace.lines.len() - rest.len())) as u64
 }
 
-// Whether a run to the stop ends there, behind an instant there.
+// Whether a run to the stop ends there, after an instant there.
 fn is_end_right(trace: &Trace, is_reached: bool) -> bool
     ensures right { IsTrue result → trace.now.kind ≡ Stop → (trace.now.point ≡ trace.now.stop) ×
         IsTrue is_reached }

@@ -13,8 +13,8 @@ use crate::verdict::{ORDER_RULE, SOURCE_RULE, TICK_RULE};
 use system_model::System;
 use trace_reading::{Trace, TraceLine};
 
-/// The first line of an instant that breaks a rule, by how many lines it stands behind the `at` line, and the least rule
-/// that it breaks. The lines behind it tell the values.
+/// The first line of an instant that breaks a rule, by how many lines it stands after the `at` line, and the least rule
+/// that it breaks. The lines after it tell the values.
 pub(crate) fn first_break(
     system: &System,
     clocks: &[ConstantClock],
@@ -54,7 +54,7 @@ pub(crate) fn first_break(
     }
 }
 
-// Whether the n-th instant at `t` may stand behind the instant before, or first.
+// Whether the n-th instant at `t` may come after the instant before, or first.
 fn is_in_order(start: u64, stop: u64, last: Option<(u64, u64)>, t: u64, n: u64) -> bool
     ensures { IsTrue result ↔ IsInOrder start stop last t n }
 {

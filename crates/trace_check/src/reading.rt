@@ -5,7 +5,7 @@ ghost use Rattle.trace_check.specs.Steps.{BeginsWithValues};
 
 use trace_reading::TraceLine;
 
-/// The `at` line that stands first, and what is left behind it.
+/// The `at` line that stands first, and what is left after it.
 pub(crate) fn next_at(lines: &[TraceLine]) -> Option<(u64, u64, &[TraceLine])>
     ensures found { IfSome result (λ p. lines.now ≡ TraceLine.At p.0 p.1 ∷ p.2.now) }
     ensures none { IfNone result ((t n : ℕ) (rest : List TraceLine) →
@@ -17,7 +17,7 @@ pub(crate) fn next_at(lines: &[TraceLine]) -> Option<(u64, u64, &[TraceLine])>
     }
 }
 
-/// The value lines that stand first, and what is left behind them.
+/// The value lines that stand first, and what is left after them.
 pub(crate) fn value_lines(lines: &[TraceLine]) -> (&[TraceLine], &[TraceLine])
     ensures told { (ports : ℕ) (values : List (Option ℤ)) (behind : List TraceLine) →
         BeginsWithValues lines.now ports values behind → result.0.now ≡ told_values_from 0 values }
@@ -46,7 +46,7 @@ pub(crate) fn put_values(values: &mut Vec<Option<i128>>, told: &[TraceLine])
     }
 }
 
-/// Takes away what was put.
+/// Clears what was put.
 pub(crate) fn clear_values(values: &mut Vec<Option<i128>>, told: &[TraceLine])
     requires told { told.now ≡ told_values_from 0 values.old.items }
     ensures none { values.new.items ≡ replicate (length values.old.items) None }

@@ -158,7 +158,7 @@ fn first_lacking(system: &System, ports: &[usize], values: &[Option<i128>]) -> O
 }
 
 /// Of the inputs that have a value, are present and haven't what comes to them from their source the first: how many lines its
-/// line stands behind the `at` line. These lines tell the values.
+/// line stands after the `at` line. These lines tell the values.
 pub(crate) fn first_other_value(
     system: &System,
     told: &[TraceLine],

@@ -1,4 +1,4 @@
-/// What a trace is found to be.
+/// The verdict on a trace.
 #[derive(Clone, Copy, Debug, PartialEq, Eq)]
 pub enum Verdict {
     /// No line breaks a rule.
@@ -9,7 +9,7 @@ pub enum Verdict {
     No { line: u64, rule: u8 },
 }
 
-/// An answer to the lines of the ports.
+/// The rule of the lines of ports.
 pub(crate) const PORT_RULE: u8 = 1;
 
 pub(crate) const ORDER_RULE: u8 = 2;

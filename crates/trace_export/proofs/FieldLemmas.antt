@@ -4,7 +4,7 @@ use Rattle.std.proofs.Math.Seq.{take-suc}
 use Rattle.trace_export.specs.declared.cells.Form.{Form}
 use Rattle.trace_export.specs.Fields.{AddsField, AddsFields, AreFields, IsField}
 
--- one more field behind fields
+-- one more field after fields
 pub AreFields-more : (forms : List Form) (values : List (Option ℤ)) (form : Form) (value : Option ℤ) (fields field : List ℕ) → AreFields forms values fields →
     IsField form value field → AreFields (forms ++ (form ∷ [])) (values ++ (value ∷ [])) (fields ++ (44 ∷ field))
 AreFields-more [] [] form value fields field none it =
@@ -19,7 +19,7 @@ AreFields-more (f ∷ forms) (v ∷ values) form value fields field (head, rest,
   ap (λ l. l ++ (44 ∷ field)) text ∙ ap (λ l. 44 ∷ l) (append_assoc head rest (44 ∷ field)),
 )
 
--- the same behind a text
+-- the same after a text
 pub AddsFields-more : (forms : List Form) (values : List (Option ℤ)) (form : Form) (value : Option ℤ) (old mid new : List ℕ) → AddsFields forms values old mid →
     AddsField form value mid new → AddsFields (forms ++ (form ∷ [])) (values ++ (value ∷ [])) old new
 AddsFields-more forms values form value old mid new (fields, each, text) (field, it, behind) = (

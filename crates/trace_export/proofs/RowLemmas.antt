@@ -42,7 +42,7 @@ flushed old new piece kept left noted same empty =
     ∙ (written_same old.content piece
     ∙ ap (λ (l : List ℕ). option_map (λ b. b ++ l) old.content) same))
 
--- a text was put behind what is kept back
+-- a text was put after what is kept back
 pub passes : (content : Option (List ℕ)) (bytes added extended row whole : List ℕ) (more : Option (List ℕ)) → extended ≡ bytes ++ added → added ≡ row → more ≡ option_map (λ b. b ++ extended) content → option_map (λ b. b ++ bytes) content ≡ Some whole → more ≡ Some (whole ++ row)
 passes content bytes added extended row whole more grown same kept is =
     let all : extended ≡ bytes ++ row = grown ∙ ap (λ (l : List ℕ). bytes ++ l) same in

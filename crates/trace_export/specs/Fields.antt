@@ -27,7 +27,7 @@ abbrev pub IsField : Form → Option ℤ → List ℕ → Type 0
 IsField form None text = text ≡ []
 IsField form (Some value) text = IsValueText form value text
 
--- a field for each port, in order, each behind a comma
+-- a field for each port, in order, each after a comma
 abbrev pub AreFields : List Form → List (Option ℤ) → List ℕ → Type 0
 AreFields [] [] text = text ≡ []
 AreFields [] (value ∷ values) text = ⊥
@@ -36,13 +36,13 @@ AreFields (form ∷ forms) (value ∷ values) text =
     (field : List ℕ) × (rest : List ℕ) × IsField form value field × AreFields forms values rest ×
     (text ≡ 44 ∷ (field ++ rest))
 
--- behind its time the instant's number at its point, and a field for each port
+-- after its time the instant's number at its point, and a field for each port
 pub record IsRow (n : ℕ) (forms : List Form) (values : List (Option ℤ)) (row : List ℕ) : Type 0 where
   pub fields : List ℕ
   pub each : AreFields forms values fields
   pub text : row ≡ decimal n ++ (fields ++ (10 ∷ []))
 
--- behind the old text stands such a field, with its comma; such fields; such a row
+-- after the old text stands such a field, with its comma; such fields; such a row
 abbrev pub AddsField : Form → Option ℤ → List ℕ → List ℕ → Type 0
 AddsField form value old new =
     (field : List ℕ) × IsField form value field × (new ≡ old ++ (44 ∷ field))

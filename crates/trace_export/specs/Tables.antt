@@ -37,7 +37,7 @@ abbrev pub shown : Bool → List Instant → List Instant
 shown true instants = last_at_points instants
 shown false instants = instants
 
--- behind the text before stand the rows of the instants that are shown of the trace that the bytes are the text of, one for each, with each port in the form that is told of it
+-- after the text before stand the rows of the instants that are shown of the trace that the bytes are the text of, one for each, with each port in the form that is told of it
 pub record TellsEach (forms : List TracePort → List Form) (last : Bool) (bytes before : List ℕ)
     (new : Option (List ℕ)) : Type 0 where
   pub trace : Trace
@@ -73,7 +73,7 @@ pub record HasNone {B : Type 0} (remaining : B → Option (List ℕ)) (stream : 
   pub waits : row ≡ []
   pub written_is : new ≡ Some before
 
--- an instant behind earlier ones, whose row waits
+-- an instant after earlier ones, whose row waits
 pub record HasSome {B : Type 0} (remaining : B → Option (List ℕ)) (stream : TraceStream B)
     (forms : List Form) (last : Bool) (point : Option ℕ) (bytes before row : List ℕ)
     (new : Option (List ℕ)) : Type 0 where

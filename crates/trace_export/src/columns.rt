@@ -100,7 +100,7 @@ pub(crate) fn forms_of(alloc: Global, columns: &[Column]) -> Result<Vec<Form>, A
     Ok(forms)
 }
 
-/// Puts a port's name behind a text: its component's, a dot, and its variable's.
+/// Appends a port's name to a text: its component's, a dot, and its variable's.
 pub(crate) fn append_name(port: &TracePort, out: &mut Vec<u8>) -> Result<(), AllocError> {
     out.extend_from_slice(port.component.as_slice())?;
     out.push(b'.')?;

@@ -6,7 +6,7 @@ ghost use Rattle.trace_export.specs.Fields.{AddsReal, AddsText, IsField};
 use crate::cells::{Cell, Form, float32_of, float64_of};
 use std::alloc::AllocError;
 
-/// Puts the text of a port's value behind another: nothing where it has none, a number as a decimal, a real as the
+/// Appends the text of a port's value to another: nothing where it has none, a number as a decimal, a real as the
 /// shortest decimal that reads back, or `nan`, `inf` or `-inf`.
 pub(crate) fn append_field(cell: Cell, out: &mut Vec<u8>) -> Result<(), AllocError>
     ensures { OnOk result ((field : List ℕ) × IsField cell.form cell.value field ×

@@ -8,7 +8,7 @@ const MOST_PLACES: usize = 63;
 
 const SIGNIFICANT_END: u64 = 1_000_000_000_000_000;
 
-/// Puts a point behind a text, in seconds: exact where that has an end as a decimal, else with 15 significant digits, the
+/// Appends a point to a text, in seconds: exact where that has an end as a decimal, else with 15 significant digits, the
 /// last one rounded to the nearest.
 pub fn append_seconds(t: u64, resolution: u64, out: &mut Vec<u8>) -> Result<(), AllocError>
     requires { 1 ≤ resolution }
@@ -28,7 +28,7 @@ pub fn append_seconds(t: u64, resolution: u64, out: &mut Vec<u8>) -> Result<(), 
     }
 }
 
-// The digits behind the point, where they have an end.
+// The digits after the point, where they have an end.
 fn append_exact(rest: u64, resolution: u64, out: &mut Vec<u8>) -> Result<bool, AllocError>
     requires { rest < resolution }
 {
@@ -92,7 +92,7 @@ fn append_rounded(
     append_point(digits, places, out)
 }
 
-// A number with so many of its digits behind the point.
+// A number with so many of its digits after the point.
 fn append_point(digits: u64, places: usize, out: &mut Vec<u8>) -> Result<(), AllocError> {
     let mut buffer = itoa::Buffer::new();
     let text = buffer.format(digits).as_bytes();
@@ -112,7 +112,7 @@ fn append_point(digits: u64, places: usize, out: &mut Vec<u8>) -> Result<(), All
     out.extend_from_slice(text)
 }
 
-// A whole with more than 15 digits, rounded to 15, where a fraction that has no end stands behind it.
+// A whole with more than 15 digits, rounded to 15, where a fraction that has no end stands after it.
 fn rounded_whole(whole: u64) -> u64 {
     let mut scale = 1u64;
     'scale: for _ in 0..5 {

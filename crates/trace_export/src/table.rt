@@ -44,7 +44,7 @@ pub fn write_table<B: BufRead + Drop, S: Sink>(
     write_rows(alloc, &mut stream, &forms, last, out)
 }
 
-// The rows behind the header.
+// The rows after the header.
 fn write_rows<B: BufRead, S: Sink>(
     alloc: Global,
     stream: &mut TraceStream<B>,
@@ -140,7 +140,7 @@ fn append_header(alloc: Global, ports: &[TracePort], out: &mut Vec<u8>) -> Resul
     }
 }
 
-/// Puts an instant's row behind its time: its number at its point, and each port's value in it, by what the port's number
+/// Puts an instant's row after its time: its number at its point, and each port's value in it, by what the port's number
 /// stands for.
 pub fn append_row(
     n: u64,

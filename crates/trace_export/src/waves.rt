@@ -87,7 +87,7 @@ pub fn write_waves<B: BufRead + Drop, S: Sink>(
     Err(ViewFault::Read)
 }
 
-// The end of the run, where it lies behind what was reached.
+// The end of the run, where it lies beyond what was reached.
 fn append_end(time: u64, reached: u64, out: &mut Vec<u8>) -> Result<(), AllocError> {
     if reached < time {
         append_time(time, out)
@@ -247,7 +247,7 @@ fn append_changes(
     Ok(())
 }
 
-// A value, as far as the identifier behind it. A real that has no value is written as one that is no number.
+// A value, as far as the identifier after it. A real that has no value is written as one that is no number.
 fn append_change(
     kind: PortType,
     form: Form,
@@ -288,7 +288,7 @@ fn width_of(kind: PortType) -> u32 {
     }
 }
 
-// The lowest bits, without zeros in front.
+// The lowest bits, without leading zeros.
 fn append_bits(bits: u64, width: u32, out: &mut Vec<u8>) -> Result<(), AllocError> {
     let mut has_begun = false;
     for place in (0..64u32).rev() {

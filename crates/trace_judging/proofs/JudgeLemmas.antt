@@ -241,7 +241,7 @@ module _ (laws : LawsOfTexts) (q : Question) (old new : FolderView) where
     asks = subst (λ (reads : List ReadNote). Asks reads (q.file ∷ []) old new) (sym (append-nil f.reads)) f.asks;
   }
 
-  -- behind a trace in form
+  -- after a trace in form
   module _ (t : Trace) (mid : FolderView) (takes : TakesTrace q t old mid) where
     each_once : AreSteady takes.reads
     each_once = one_steady takes.reads q.file takes.asks.paths_are

@@ -107,7 +107,7 @@ pub data FailsReading (q : Question) (path : List ℕ) (old new : FolderView) : 
   OfSystem : (t : Trace) (mid : FolderView) → TakesTrace q t old mid →
       FailsToRead (search_for q t) path mid new → FailsReading q path old new
 
--- memory was wanting: no file was read, or the trace alone, or with it some files of the system or all, and no read failed
+-- memory ran out: no file was read, or the trace alone, or with it some files of the system or all, and no read failed
 pub data ReadsFew (q : Question) (old new : FolderView) : Type 0 where
   Nothing : new ≡ old → ReadsFew q old new
   TheTrace : (reads : List ReadNote) → Asks reads (q.file ∷ []) old new → ReadsFew q old new

@@ -17,7 +17,7 @@ pub record JudgesTrace (s : Search) (t : Trace) (verdict : Verdict)
   pub loads : Loads s (Found loaded) old new
   pub verdict_is : IsVerdict loaded.system t verdict
 
--- no system is loaded, or memory is wanting behind it
+-- no system is loaded, or memory runs out after it
 pub data LacksTraceVerdict (s : Search) (ended : LoadEnd) (old new : FolderView) : Type 0 where
   Unloaded : EndsLoading s ended old new → LacksTraceVerdict s ended old new
   BehindSystem : (loaded : Loaded) → ended ≡ end.Memory → Loads s (Found loaded) old new →

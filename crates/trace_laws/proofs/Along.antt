@@ -1,4 +1,4 @@
--- Along a run whose FMUs behave well: each instant stands in order behind the one before, and no tick of a periodic Clock lies between two points.
+-- Along a run whose FMUs behave well: each instant stands in order after the one before, and no tick of a periodic Clock lies between two points.
 use Rattle.std.proofs.Common.{◌≡◌, ℕ, zero, suc, ◌<◌, ◌≤◌, ℤ, Bool, true, false, List, [], ◌∷◌, length, map, refl, sym, ap, ◌∙◌, subst, inl, inr, arith}
 use Rattle.std.specs.Prelude.{Option, Some, None, IfSome, if◌then◌else◌, ◌==◌, slice_get}
 use Rattle.std.proofs.lemmas.Bool.{eq-eqb}
@@ -49,7 +49,7 @@ pub record Stands (r : Run) (s : Situation) : Type 0 where
   pub point : s.t ≤ r.plan.stop
   pub number : s.n < r.plan.limit
 
--- what comes behind the instant at last stands in order, and passes no tick
+-- what comes after the instant at last stands in order, and passes no tick
 pub record Comes (r : Run) (last : Option (ℕ × ℕ)) (t n : ℕ) : Type 0 where
   pub order : IsInOrder r.plan.start r.plan.stop last t n
   pub passes_none : (p interval shift : ℕ) → IsPeriodicPort r.system.ports p interval shift → PassesTick r.plan.start interval shift last t → ⊥

@@ -32,13 +32,13 @@ use Rattle.trace_laws.proofs.Along.{Comes, Stands, first_comes, first_stands, in
 
 -- ---- one instant
 
--- it breaks no rule behind the one at last
+-- it breaks no rule after the one at last
 pub record KeepsIn (r : Run) (last : Option (ℕ × ℕ)) (i : Instant) : Type 0 where
   pub order : IsInOrder r.plan.start r.plan.stop last i.t i.n
   pub sources : (p : ℕ) → DiffersFromSource r.system i.values p → ⊥
   pub ticks : (p interval shift : ℕ) → IsConstantClock r.system p interval shift → IsOffTick r.plan.start interval shift last i.t i.n (value i.values p) → ⊥
 
--- an input that is present has its source's value
+-- an input that is present has what its path makes of its source's value
 sources_same : (r : Run) (s : Situation) (V : List (Option ℤ)) → Solves r s V → (p : ℕ) → DiffersFromSource r.system V p → ⊥
 sources_same r s V solves p d = by d.port.role d.fed (solves.equations p d.port d.at)
   where
@@ -104,7 +104,7 @@ last_is (i ∷ is) =
     let size : length (i ∷ is) - 1 ≡ length is = omega arith in
     ap (λ (k : ℕ). time_of (slice_get (i ∷ is) k)) size ∙ last_at i is
 
--- the instants and the end, behind the instant at last
+-- the instants and the end, after the instant at last
 pub record Told (r : Run) (last : Option (ℕ × ℕ)) (is : List Instant) (kind : EndKind) (end : ℕ) : Type 0 where
   pub keep : AllBehind (KeepsIn r) last is
   pub form : AllByRecursion (IsInstant (kinds_of (ports_told r.system))) is

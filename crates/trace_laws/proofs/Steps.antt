@@ -1,4 +1,4 @@
--- The point that a step reaches: behind the one where it begins, at most the stop, and no tick lies between.
+-- The point that a step reaches: after the one where it begins, at most the stop, and no tick lies between.
 use Rattle.std.proofs.Common.{◌≡◌, inl, ℕ, suc, ◌+◌, ◌-◌, ◌<◌, ◌≤◌, Bool, true, false, not, cond, List, [], ◌∷◌, map, filter, refl, sym, ap, ◌∙◌, subst, arith}
 use Rattle.std.specs.Prelude.{Some, ◌==◌, if◌then◌else◌, slice_get}
 use Rattle.std.specs.List.{AllByRecursion}

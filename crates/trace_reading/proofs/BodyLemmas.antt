@@ -103,7 +103,7 @@ pub record Open (kinds : List PortType) (kind : EndKind) (point next : ℕ) (ite
   pub body : Body kinds kind point later
   pub lines : items ≡ rows (told_values_from next values) ++ later
 
--- what lies behind a place, where the walk gets to the end
+-- what lies after a place, where the walk gets to the end
 abbrev Behind : List PortType → EndKind → ℕ → Place → List Item → Type 0
 Behind kinds kind point Between items = Body kinds kind point items
 Behind kinds kind point (Within next) items = Open kinds kind point next items

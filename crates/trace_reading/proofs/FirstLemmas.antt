@@ -9,7 +9,7 @@ use Rattle.trace_reading.specs.Faults.Wrong.{NoText, Unended}
 use Rattle.trace_reading.proofs.LineLemmas.{one_cut}
 use Rattle.trace_reading.proofs.TraceLemmas.{begins_free}
 
--- the lines go on with this one, with which the bytes behind them begin
+-- the lines go on with this one, with which the bytes after them begin
 record Onward (before : List (List ℕ)) (after : List ℕ) (longer : List (List ℕ)) : Type 0 where
   line : List ℕ
   more : List (List ℕ)
@@ -18,7 +18,7 @@ record Onward (before : List (List ℕ)) (after : List ℕ) (longer : List (List
   cut : after ≡ line ++ (10 ∷ rest)
   free : Lacks 10 line
 
--- of two fronts of a text by whole lines one is the other, or goes on behind it
+-- of two prefixes of a text by whole lines one is the other, or goes on after it
 data Fronts (a : List (List ℕ)) (x : List ℕ) (b : List (List ℕ)) (y : List ℕ) : Type 0 where
   Same : a ≡ b → Fronts a x b y
   Before : Onward a x b → Fronts a x b y
@@ -55,7 +55,7 @@ begins_too before line more longer e b = record {
   parts = b.parts ∙ ap (λ (ls : List (List ℕ)). ls ++ b.more) e ∙ append_assoc before (line ∷ more) b.more ∙ sym (append_assoc before (line ∷ []) (more ++ b.more));
 }
 
--- what is wrong behind some lines is wrong in each text that goes on behind them
+-- what is wrong after some lines is wrong in each text that goes on after them
 no_longer : (before : List (List ℕ)) (after : List ℕ) (longer : List (List ℕ)) → Wrong before after → Begins longer → Onward before after longer → ⊥
 no_longer before after longer (NoText line rest cut free none) b o =
     let same = one_cut 10 o.line line o.rest rest o.free free (sym o.cut ∙ cut) in

@@ -6,7 +6,7 @@ use Rattle.std.proofs.lemmas.List.{append_assoc}
 use Rattle.std.proofs.lemmas.Grind.{common_steps}
 use Rattle.sim_base.specs.Escape.{escaped, escaped_byte, is_escaped, hex_digit}
 
--- what is left of a whole name behind its front, and what is left of its text
+-- what is left of a whole name after its prefix, and what is left of its text
 pub record Left (whole front rest : List ℕ) : Type 0 where
   pub more : List ℕ
   pub bytes : AllByRecursion (λ (b : ℕ). b < 256) more

@@ -116,7 +116,7 @@ one_port k p q low e =
     let names = one_cut 32 (escaped p.component) (escaped q.component) (escaped p.variable) (escaped q.variable) (lacks_escaped 32 p.component (omega arith)) (lacks_escaped 32 q.component (omega arith)) types.1 in
     same_port p.kind q.kind p.component q.component p.variable q.variable (one_type p.kind q.kind types.0) (one_name p.component q.component names.0) (one_name p.variable q.variable names.1)
 
--- no line behind the ports is the line of a port
+-- no line after the ports is the line of a port
 pub no_port : (item : Item) (k : ℕ) (p : TracePort) → IsShortItem item → item_line item ≡ line_of_port k p → ⊥
 no_port (Row (At t n)) k p short e = omega (arith, heads 97 112 _ _ e)
 no_port (Row (Value port value)) k p short e = begins_with_digit port 112 _ _ short.0 (omega arith) e

@@ -162,7 +162,7 @@ pub lacks_not : (byte : ℕ) (front rest : List ℕ) → Lacks byte (front ++ (b
 lacks_not byte [] rest h = h.0 refl
 lacks_not byte (c ∷ cs) rest h = lacks_not byte cs rest h.1
 
--- a text whose rest behind some lines has no line feed ends with these lines
+-- a text whose rest after some lines has no line feed ends with these lines
 pub ends_there : (whole before : List (List ℕ)) (after : List ℕ) → AllByRecursion (Lacks 10) whole → AllByRecursion (Lacks 10) before → Lacks 10 after → lines_text whole ≡ lines_text before ++ after → (whole ≡ before) × (after ≡ [])
 ends_there [] [] after aw ab al e = (refl, sym e)
 ends_there (x ∷ xs) [] after aw ab al e =

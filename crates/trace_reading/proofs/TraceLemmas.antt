@@ -30,7 +30,7 @@ use Rattle.trace_reading.proofs.BeginLemmas.{goes_on}
 use Rattle.trace_reading.proofs.TextLemmas.{is_header_line, are_port_lines, are_lines, all_append, lines_front, one_list, ends_there}
 use Rattle.trace_reading.proofs.PortLemmas.{one_port, no_port}
 
--- ---- lines behind the ports
+-- ---- lines after the ports
 
 pub lines_items : (lines : List TraceLine) (kind : EndKind) (point : ℕ) → map line_text lines ++ (end_line kind point ∷ []) ≡ map item_line (items_of lines kind point)
 lines_items [] kind point = refl
@@ -139,7 +139,7 @@ same_trace r s e r2 s2 e2 ps qs xs ys k l p q er es ee eps exs ek ep =
     ∙ ap (λ (z : EndKind). trace_of r2 s2 e2 qs ys z p) ek
     ∙ ap (λ (z : ℕ). trace_of r2 s2 e2 qs ys l z) ep
 
--- the parts of a trace's lines behind the header
+-- the parts of a trace's lines after the header
 abbrev pub tail_lines : Trace → List (List ℕ)
 tail_lines t = lines_of_ports 0 t.ports ++ map item_line (items_of t.lines t.kind t.point)
 
@@ -249,9 +249,9 @@ append_nil : (xs : List ℕ) → xs ++ [] ≡ xs
 append_nil [] = refl
 append_nil (x ∷ xs) = ap (λ (ys : List ℕ). x ∷ ys) (append_nil xs)
 
--- ---- what was read, and the fault of a line behind the header
+-- ---- what was read, and the fault of a line after the header
 
--- the parts that were read, one behind the other
+-- the parts that were read, one after the other
 pub record Read (bytes : List ℕ) (r s e : ℕ) (ports : List TracePort) (rest : List ℕ) : Type 0 where
   pub range : IsRange r s e
   pub behind_header : List ℕ
@@ -350,7 +350,7 @@ wrong_line bytes r s e ports rest before after place read parts good start (NoEn
     let there = ends_there (lines_of t) (header_line r s e ∷ (lines_of_ports 0 ports ++ map item_line before)) after (lines_free t text.form) (begins_free (header_line r s e ∷ (lines_of_ports 0 ports ++ map item_line before)) start) free (sym text.text) in
     none t.kind t.point (no_end r s e ports before place t read.ports_there.few good text.form there.0) there.1)
 
--- the fault of a line behind the ports
+-- the fault of a line after the ports
 pub line_fault : (bytes : List ℕ) (r s e : ℕ) (ports : List TracePort) (rest : List ℕ) (n : ℕ) → Read bytes r s e ports rest → IsFirstFaultOf (kinds_of ports) rest n → IsFirstFault bytes (1 + length ports + n)
 line_fault bytes r s e ports rest n read fault =
     let start = begins_read r s e ports fault.before fault.place read.range read.ports_there.named read.ports_there.few fault.good in

@@ -12,7 +12,7 @@ pub record Begins (lines : List (List ℕ)) : Type 0 where
   pub more : List (List ℕ)
   pub parts : lines_of trace ≡ lines ++ more
 
--- what stands behind the good lines: a line with its end with which no text goes on; or no line feed more, where the good lines with these bytes are no whole text
+-- what comes after the good lines: a line with its end with which no text goes on; or no line feed more, where the good lines with these bytes are no whole text
 pub data Wrong (before : List (List ℕ)) (after : List ℕ) : Type 0 where
   NoText : (line rest : List ℕ) → after ≡ line ++ (10 ∷ rest) → Lacks 10 line →
       (Begins (before ++ (line ∷ [])) → ⊥) → Wrong before after

@@ -1,4 +1,4 @@
--- The front of a trace's text: the header line and the lines of the ports.
+-- The beginning of a trace's text: the header line and the lines of the ports.
 use Rattle.std.specs.Prelude.{◌≡◌, ℕ, ◌^◌, ◌<◌, List, ◌∷◌, ◌++◌, length}
 use Rattle.std.specs.List.{AllByRecursion}
 use Rattle.trace_reading.specs.declared.trace.TracePort.{TracePort}

@@ -1,4 +1,4 @@
--- The lines behind the ports, one after another: where each may stand.
+-- The lines after the ports, one after another: where each may stand.
 use Rattle.std.specs.Prelude.{◌≡◌, ◌&&◌, ◌==◌, ℕ, ◌+◌, ◌^◌, ◌<◌, nat_lt, nat_le, ℤ, Bool, true, false, List, [], ◌∷◌, ◌++◌, Option, Some, None, map, length, take, count_by, if◌then◌else◌}
 use Rattle.std.specs.List.{slice_get, slice_index}
 use Rattle.std.specs.Option.{option_map_or, option_and_then}
@@ -70,7 +70,7 @@ is_next kinds next port value =
 abbrev pub is_start : ℕ → ℕ → Bool
 is_start t n = nat_le t (2 ^ 62) && nat_lt n 10000
 
--- where the reading stands behind the line; none where the line may not stand there
+-- where the reading stands after the line; none where the line may not stand there
 abbrev pub place_behind : List PortType → Place → Item → Option Place
 place_behind kinds place (Row (At t n)) =
     if is_closed kinds place && is_start t n then Some (Within 0) else None
@@ -101,7 +101,7 @@ rows_with lines (End kind t) = lines
 
 -- ---- the first line that may not stand where it does
 
--- behind the lines of the items: a line that no item has which may stand there; or no line feed more, where no end line came or bytes are left
+-- after the lines of the items: a line that no item has which may stand there; or no line feed more, where no end line came or bytes are left
 pub data WrongBehind (kinds : List PortType) (place : Place) (after : List ℕ) : Type 0 where
   NoItem : (line rest : List ℕ) → after ≡ line ++ (10 ∷ rest) → Lacks 10 line →
       ((item : Item) → IsShortItem item → line ≡ item_line item →

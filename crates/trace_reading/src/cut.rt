@@ -1,7 +1,7 @@
 ghost use Rattle.std.specs.Prelude.{◌≡◌, ℕ, List, ◌∷◌, ◌++◌, IfSome, IfNone, IsSomeAnd, Contains};
 ghost use Rattle.trace_reading.specs.Lines.{Lacks};
 
-/// What stands before the first such byte, and what behind it.
+/// What stands before the first such byte, and what after it.
 pub(crate) fn split_once(bytes: &[u8], at: u8) -> Option<(&[u8], &[u8])>
     ensures parts { IfSome result (λ p. bytes.now ≡ p.0.now ++ (at ∷ p.1.now)) }
     ensures first { IfSome result (λ p. Lacks at p.0.now) }
@@ -22,7 +22,7 @@ fn cut_somewhere(bytes: &[u8], at: u8) -> Option<(&[u8], &[u8])>
     Some((front, &rest[1..]))
 }
 
-/// What stands behind a front.
+/// What comes after a prefix.
 pub(crate) fn behind<'a>(bytes: &'a [u8], front: &[u8]) -> Option<&'a [u8]>
     ensures parts { IfSome result (λ rest. bytes.now ≡ front.now ++ rest.now) }
     ensures exact { (rest : List ℕ) → bytes.now ≡ front.now ++ rest →

@@ -1,7 +1,7 @@
 use crate::trace::TraceLine;
 use system_model::EndKind;
 
-/// A line behind the ports.
+/// A line after the ports.
 #[derive(Clone, Copy, Debug, PartialEq, Eq)]
 pub enum Item {
     /// a line of an instant
@@ -10,13 +10,13 @@ pub enum Item {
     End { kind: EndKind, t: u64 },
 }
 
-/// Where the reading of the lines behind the ports stands.
+/// Where the reading of the lines after the ports stands.
 #[derive(Clone, Copy, Debug, PartialEq, Eq)]
 pub enum Place {
     /// before the first instant
     Between,
     /// in an instant; the next value is that of this port or of a later one
     Within { next: usize },
-    /// behind the end line
+    /// after the end line
     Ended { kind: EndKind, t: u64 },
 }

@@ -13,7 +13,7 @@ use crate::trace::TraceLine;
 use system_model::EndKind;
 use value_types::PortType;
 
-// A number, the space behind it, and the rest.
+// A number, the space after it, and the rest.
 fn number_before(bytes: &[u8]) -> Option<(u64, &[u8])>
     ensures found { IfSome result (λ p. bytes.now ≡ decimal p.0 ++ (32 ∷ p.1.now)) }
     ensures exact { (n : ℕ) (rest : List ℕ) → n < 2 ^ 64 → bytes.now ≡ decimal n ++ (32 ∷ rest) →
@@ -49,7 +49,7 @@ pub(crate) fn read_port_fields(line: &[u8]) -> Option<(u64, PortType, &[u8], &[u
     Some((k, kind, component, variable))
 }
 
-// The name of a type, the space behind it, and the rest.
+// The name of a type, the space after it, and the rest.
 fn type_before(bytes: &[u8]) -> Option<(PortType, &[u8])>
     ensures found { IfSome result (λ p. bytes.now ≡ type_name p.0 ++ (32 ∷ p.1.now)) }
     ensures exact { (kind : PortType) (rest : List ℕ) → bytes.now ≡ type_name kind ++ (32 ∷ rest) →
@@ -123,7 +123,7 @@ fn kind_of(word: &[u8]) -> Option<EndKind>
     }
 }
 
-/// A line behind the ports.
+/// A line after the ports.
 pub(crate) fn read_item(line: &[u8]) -> Option<Item>
     ensures found { IfSome result (λ item. line.now ≡ item_line item) }
     ensures exact { (item : Item) → IsShortItem item → line.now ≡ item_line item →

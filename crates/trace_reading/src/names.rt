@@ -5,7 +5,7 @@ use crate::cut::behind;
 use sim_base::escaped_byte;
 use std::alloc::{AllocError, Global};
 
-// The first byte of a name as its text has it, and the text behind it.
+// The first byte of a name as its text has it, and the text after it.
 fn byte_before(word: &[u8]) -> Option<(u8, &[u8])>
     ensures found { IfSome result (λ p. word.now ≡ escaped_byte p.0 ++ p.1.now) }
     ensures exact { (byte : ℕ) (rest : List ℕ) → byte < 256 → word.now ≡ escaped_byte byte ++ rest →

@@ -13,7 +13,7 @@ use sim_base::Items;
 use std::alloc::{AllocError, Global};
 use value_types::PortType;
 
-/// The ports whose lines stand at the front of a text, and what is left behind them.
+/// The ports whose lines stand at the start of a text, and what is left after them.
 pub(crate) fn read_ports(alloc: Global, text: &[u8]) -> Result<(Vec<TracePort>, &[u8]), AllocError>
     ensures { IfOk result (λ p. StandBefore text.now p.0.items p.1.now) }
 {
@@ -26,7 +26,7 @@ pub(crate) fn read_ports(alloc: Global, text: &[u8]) -> Result<(Vec<TracePort>, 
     Ok((ports, rest))
 }
 
-// The port of this number, whose line stands at the front of a text, and what is left behind it.
+// The port of this number, whose line stands at the start of a text, and what is left after it.
 fn port_before(
     alloc: Global,
     number: u64,
@@ -76,7 +76,7 @@ pub fn read_port_line(
     }))
 }
 
-/// For each port the number of Clocks before it, and behind these the number of all.
+/// For each port the number of Clocks before it, and after these the number of all.
 pub(crate) fn clock_table(alloc: Global, ports: &[TracePort]) -> Result<Vec<usize>, AllocError>
     ensures { IfOk result (λ table. IsClockTable (kinds_of ports.now) table.items) }
 {

@@ -14,7 +14,7 @@ use sim_base::{Items, MOST_COUNTS};
 use std::alloc::Global;
 
 /// The trace whose text these bytes are, or the first line that is out of form: no text of the form begins with the
-/// lines up to it, it has no line feed, or it is missing. The room that this takes is below twenty times the text's.
+/// lines up to it, it has no line feed, or it is missing. The memory that this takes is below twenty times the text's.
 pub fn read_trace(alloc: Global, bytes: &[u8]) -> Result<Trace, TraceFault>
     ensures found { IfOk result (IsTextOf bytes.now) }
     ensures exact { (t : Trace) → IsTextOf bytes.now t → (result ≡ Ok t) ⊎
@@ -49,7 +49,7 @@ fn read(alloc: Global, bytes: &[u8]) -> Result<Trace, TraceFault>
     }
 }
 
-// The header whose line stands at the front of a text, and what is left behind it.
+// The header whose line stands at the start of a text, and what is left after it.
 fn header_before(text: &[u8]) -> Option<(Header, &[u8])>
     ensures found { IfSome result (λ p. text.now ≡ header_line p.0.resolution p.0.start p.0.stop ++
         (10 ∷ p.1.now)) }

@@ -12,12 +12,12 @@ use crate::trace::TracePort;
 use sim_base::Items;
 use std::alloc::{AllocError, Global};
 
-/// The lines behind the ports, read one at a time in memory that doesn't grow with them.
+/// The lines after the ports, read one at a time in memory that doesn't grow with them.
 #[derive(Debug, Drop)]
 pub struct RowReader {
     /// in the order of their numbers, from 0
     pub ports: Items<TracePort>,
-    /// for each port the number of Clocks before it, and behind these the number of all
+    /// for each port the number of Clocks before it, and after these the number of all
     pub clocks: Vec<usize>,
     /// where the reading stands
     pub place: Place,
@@ -25,7 +25,7 @@ pub struct RowReader {
 }
 
 impl RowReader {
-    /// Before the first line behind the lines of these ports.
+    /// Before the first line after the lines of these ports.
     pub fn new(alloc: Global, ports: Items<TracePort>) -> Result<RowReader, AllocError>
         ensures { IfOk result (λ r. (r.ports ≡ ports) × (r.place ≡ Between)) }
     {

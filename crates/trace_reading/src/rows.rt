@@ -15,7 +15,7 @@ use std::alloc::{AllocError, Global};
 use system_model::EndKind;
 use value_types::fits;
 
-/// What stands behind the ports: the lines of the instants, and how and where the run ended.
+/// What comes after the ports: the lines of the instants, and how and where the run ended.
 #[derive(Debug, Drop)]
 pub struct Rows {
     pub lines: Vec<TraceLine>,
@@ -23,7 +23,7 @@ pub struct Rows {
     pub point: u64,
 }
 
-/// The lines behind the ports, each read. The number of a fault's line counts from 1 behind the ports.
+/// The lines after the ports, each read. The number of a fault's line counts from 1 after the ports.
 pub(crate) fn read_rows(
     alloc: Global,
     ports: &[TracePort],
@@ -93,7 +93,7 @@ fn push_row(lines: &mut Vec<TraceLine>, item: Item) -> Result<(), AllocError>
     }
 }
 
-// The number of the line behind those that were read.
+// The number of the line after those that were read.
 fn next_number(lines: &Vec<TraceLine>, place: Place) -> u64
     ensures { result ≡ length (items_in lines.now.items place) + 1 }
 {
@@ -103,7 +103,7 @@ fn next_number(lines: &Vec<TraceLine>, place: Place) -> u64
     }
 }
 
-// Where the reading stands behind the line; none where the line may not stand there.
+// Where the reading stands after the line; none where the line may not stand there.
 pub(crate) fn place_behind(
     ports: &[TracePort],
     clocks: &[usize],

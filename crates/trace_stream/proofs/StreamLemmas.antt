@@ -162,7 +162,7 @@ behind_ports bytes header ports line old new number few read takes none =
       count = refl;
     }
 
--- ---- lines behind the ports
+-- ---- lines after the ports
 
 pub line_read : (bytes : List ℕ) (header : Header) (ports : List TracePort) (items : List Item) (place next : Place) (old new : Option (List ℕ)) (number : ℕ) (line : List ℕ) (item : Item) → HasRead bytes header ports items place old number → TakesLine old new line → line ≡ item_line item → place_behind (kinds_of ports) place item ≡ Some next → HasRead bytes header ports (items ++ (item ∷ [])) next new (next_number number)
 line_read bytes header ports items place next old new number line item read takes is step =
@@ -211,7 +211,7 @@ none_fits kinds kind t (Row (At u n)) = refl
 none_fits kinds kind t (Row (Value port value)) = refl
 none_fits kinds kind t (End k u) = refl
 
--- what is left behind the end line
+-- what is left after the end line
 pub rest_fault : (bytes : List ℕ) (header : Header) (ports : List TracePort) (items : List Item) (kind : EndKind) (t : ℕ) (left : Option (List ℕ)) (number : ℕ) → HasRead bytes header ports items (Ended kind t) left number → ((rest : List ℕ) → left ≡ Some rest → rest ≡ [] → ⊥) → IsFaultAt bytes (next_number number)
 rest_fault bytes header ports items kind t left number read some =
     wrong_fault bytes header ports items (Ended kind t) left number read (elim (cut_or_not read.rest) [
@@ -267,7 +267,7 @@ read_same bytes header ports items more place next old new number same read item
     let S : ℕ → Type 0 = λ k. HasRead bytes header ports items place old k in
     subst P items_are (subst Q places (subst R lefts (subst S numbers read)))
 
--- the fault of a first line, behind the ports
+-- the fault of a first line, after the ports
 pub first_fault : (bytes : List ℕ) (header : Header) (ports : List TracePort) (line : List ℕ) (left : Option (List ℕ)) (number : ℕ) → IsBehindPorts bytes header ports line left number → ((item : Item) → IsShortItem item → line ≡ item_line item → place_behind (kinds_of ports) Between item ≡ None) → IsFaultAt bytes number
 first_fault bytes header ports line left number at none =
     let P : ℕ → Type 0 = λ k. IsFaultAt bytes k in
@@ -276,7 +276,7 @@ first_fault bytes header ports line left number at none =
     subst Q (unsome at.body body is) at.cut in
     subst P (sym at.count) (item_fault bytes header ports [] Between (Some at.body) left at.before line at.read takes none)
 
--- the first line, behind the ports
+-- the first line, after the ports
 pub first_read : (bytes : List ℕ) (header : Header) (ports : List TracePort) (line : List ℕ) (left : Option (List ℕ)) (number : ℕ) (item : Item) (next : Place) → IsBehindPorts bytes header ports line left number → line ≡ item_line item → place_behind (kinds_of ports) Between item ≡ Some next → HasRead bytes header ports (item ∷ []) next left number
 first_read bytes header ports line left number item next at is step =
     let P : ℕ → Type 0 = λ k. HasRead bytes header ports (item ∷ []) next left k in

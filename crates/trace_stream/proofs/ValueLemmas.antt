@@ -39,7 +39,7 @@ none_told k (suc m) ys =
     let up : (k + 1) + m ≡ k + suc m = omega arith in
     none_told (k + 1) m ys ∙ ap (λ (n : ℕ). told_values_from n ys) up
 
--- ports without a value behind the others have no lines
+-- ports without a value after the others have no lines
 pub values_end : (front : List (Option ℤ)) (empty : ℕ) → told_values_from 0 (front ++ replicate empty None) ≡ told_values_from 0 front
 values_end front empty =
     values_append 0 front (replicate empty None)
@@ -99,7 +99,7 @@ value_step kinds next port v q e =
 pub no_value_first : (kinds : List PortType) (port : ℕ) (v : ℤ) (q : Place) → place_behind kinds Between (Row (Value port v)) ≡ Some q → ⊥
 no_value_first kinds port v q e = cc e
 
--- behind the line ahead
+-- after the line ahead
 pub ahead_place : (kinds : List PortType) (place : Place) (ahead : Ahead) (q : Place) → place_behind kinds place (item_ahead ahead) ≡ Some q → q ≡ place_ahead ahead
 ahead_place kinds Between (Begin t n) q e = (by_test (is_closed kinds Between && is_start t n) (Within 0) q e).1
 ahead_place kinds (Within k) (Begin t n) q e = (by_test (is_closed kinds (Within k) && is_start t n) (Within 0) q e).1
@@ -142,7 +142,7 @@ within_more bytes header ports before values more port v place next old new numb
       read = subst P (rows_more before (told_values_from 0 within.front) (Value port v) ∙ ap (λ (ls : List TraceLine). before ++ rows ls) lines) (reads (before ++ rows (told_values_from 0 within.front)) within.read);
     }
 
--- ---- behind an instant
+-- ---- after an instant
 
 instant_told : (before : List Item) (i : Instant) (front : List (Option ℤ)) (empty : ℕ) → i.values ≡ front ++ replicate empty None → (before ++ (Row (At i.t i.n) ∷ [])) ++ rows (told_values_from 0 front) ≡ before ++ rows (instant_lines i)
 instant_told before i front empty is =

@@ -6,7 +6,7 @@ use Rattle.trace_reading.specs.Lines.{Lacks}
 abbrev pub next_number : ℕ → ℕ
 next_number n = min (n + 1) (2 ^ 64 - 1)
 
--- the bytes begin with the line and its line feed, and those behind it are left
+-- the bytes begin with the line and its line feed, and those after it are left
 pub record IsCut (bytes line : List ℕ) (left : Option (List ℕ)) : Type 0 where
   pub rest : List ℕ
   pub left_is : left ≡ Some rest

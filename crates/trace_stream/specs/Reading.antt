@@ -33,7 +33,7 @@ abbrev pub end_ahead : Ahead → Option (EndKind × ℕ)
 end_ahead (Begin t n) = None
 end_ahead (Finish kind t) = Some (kind, t)
 
--- behind the last line nothing is left
+-- after the last line nothing is left
 abbrev pub IsLast : Ahead → List ℕ → Type 0
 IsLast (Begin t n) rest = Unit {0}
 IsLast (Finish kind t) rest = rest ≡ []
@@ -50,7 +50,7 @@ pub record IsFaultAt (bytes : List ℕ) (n : ℕ) : Type 0 where
   pub fault : IsFirstFault bytes line
   pub number : n ≡ min line (2 ^ 64 - 1)
 
--- no line ahead: a value's line, or one that ends the trace with bytes behind it
+-- no line ahead: a value's line, or one that ends the trace with bytes after it
 abbrev pub IsWrongAhead : Item → ℕ → ℕ → Option (List ℕ) → Type 0
 IsWrongAhead (Row (At t n)) line number left = ⊥
 IsWrongAhead (Row (Value port value)) line number left = Unit {0}
@@ -71,7 +71,7 @@ pub record HasPorts (bytes : List ℕ) (header : Header) (ports : List TracePort
   pub left_is : left ≡ Some rest
   pub count : number ≡ min (1 + length ports) (2 ^ 64 - 1)
 
--- the header, all ports, and these lines behind them, each where it may stand
+-- the header, all ports, and these lines after them, each where it may stand
 pub record HasRead (bytes : List ℕ) (header : Header) (ports : List TracePort) (items : List Item)
     (place : Place) (left : Option (List ℕ)) (number : ℕ) : Type 0 where
   pub range : IsRange header.resolution header.start header.stop
@@ -94,7 +94,7 @@ pub record IsBehindPorts (bytes : List ℕ) (header : Header) (ports : List Trac
   pub cut : IsCut body line left
   pub count : number ≡ next_number before
 
--- within an instant: the values of the first ports, and behind them none
+-- within an instant: the values of the first ports, and after them none
 pub record IsWithin (bytes : List ℕ) (header : Header) (ports : List TracePort) (before : List Item)
     (values : List (Option ℤ)) (place : Place) (left : Option (List ℕ)) (number : ℕ) : Type 0 where
   pub front : List (Option ℤ)

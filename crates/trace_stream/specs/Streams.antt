@@ -23,7 +23,7 @@ ports_in stream = stream.rows.ports
 abbrev pub rows : List TraceLine → List Item
 rows lines = map (λ (line : TraceLine). Row line) lines
 
--- behind the header and the ports these lines were read, and the one ahead
+-- after the header and the ports these lines were read, and the one ahead
 pub record Stands {B : Type 0} (remaining : B → Option (List ℕ)) (stream : TraceStream B)
     (bytes : List ℕ) (before : List Item) : Type 0 where
   pub read : HasRead bytes stream.header stream.rows.ports (before ++ (item_ahead stream.ahead ∷ []))

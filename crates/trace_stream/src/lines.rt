@@ -49,7 +49,7 @@ impl<B: BufRead> Lines<B> {
         }
     }
 
-    /// Looks whether nothing stands behind the line; else the next one is out of form.
+    /// Looks whether nothing comes after the line; else the next one is out of form.
     pub(crate) fn finish(&mut self) -> Result<(), StreamFault>
         ensures number { self.new.number ≡ self.old.number }
         ensures spent { OnOk result (IsSpent (B.remaining self.old.input)

@@ -25,7 +25,7 @@ pub enum Ahead {
     Finish { kind: EndKind, t: u64 },
 }
 
-/// The header and the ports. The reading stands at the line behind them.
+/// The header and the ports. The reading stands at the line after them.
 pub(crate) fn read_front<B: BufRead>(
     alloc: Global,
     lines: &mut Lines<B>,
@@ -69,7 +69,7 @@ fn read_ports<B: BufRead>(
     Err(StreamFault::Memory)
 }
 
-/// What the next line behind the ports tells.
+/// What the next line after the ports tells.
 pub(crate) fn next_item<B: BufRead>(
     lines: &mut Lines<B>,
     rows: &mut RowReader,
@@ -92,7 +92,7 @@ pub(crate) fn next_item<B: BufRead>(
     }
 }
 
-/// The line that was read ahead, of what it tells. Behind the last one nothing may stand.
+/// The line that was read ahead, of what it tells. After the last one nothing may stand.
 pub(crate) fn ahead_of<B: BufRead>(lines: &mut Lines<B>, item: Item) -> Result<Ahead, StreamFault>
     ensures number { OnOk result (lines.new.number ≡ lines.old.number) }
     ensures item { IfOk result (λ ahead. item ≡ item_ahead ahead) }

@@ -27,7 +27,7 @@ impl<B: BufRead> TraceStream<B> {
     ghost use Rattle.trace_stream.specs.Reading.{end_ahead, IsFaultAt};
     ghost use Rattle.trace_stream.specs.Streams.{Stands, Tells};
 
-    /// Reads the header and the ports, and the first line behind them.
+    /// Reads the header and the ports, and the first line after them.
     pub fn open(alloc: Global, input: B) -> Result<TraceStream<B>, StreamFault>
     where
         B: Drop,
@@ -51,7 +51,7 @@ impl<B: BufRead> TraceStream<B> {
         })
     }
 
-    /// Counts a second, from 1.
+    /// How many counts a second has, at least 1.
     pub fn resolution(&self) -> u64
         ensures same { result ≡ self.now.header.resolution }
         ensures above { 1 ≤ result }

@@ -1,4 +1,4 @@
--- A text whose front stands in a buffer, and whose rest is still to be put.
+-- A text whose prefix stands in a buffer, and whose rest is still to be put.
 use Rattle.std.proofs.Common.{◌≡◌, ℕ, ◌+◌, ◌<◌, ◌≤◌, ℤ, Option, Some, None, List, [], ◌∷◌, ◌++◌, append_assoc, length, take, drop, get_or, codes, sym, ap, ◌∙◌, subst, arith}
 use Rattle.std.proofs.lemmas.Grind.{common_steps}
 use Rattle.system_model.specs.declared.system.Component.{Component}
@@ -6,7 +6,7 @@ use Rattle.system_model.specs.declared.system.Port.{Port}
 use Rattle.system_model.specs.Text.{lines_text, port_line, port_lines_from, value_line, value_lines_from}
 use Rattle.trace_text.specs.Lines.{ended}
 
--- what stands up to `at`, with the rest behind it, is the whole text
+-- what stands up to `at`, with the rest after it, is the whole text
 pub record StandsBut (rest : List ℕ) (at : ℕ) (out whole : List ℕ) : Type 0 where
   pub text : take at out ++ rest ≡ whole
   pub fits : at + length rest ≡ length whole

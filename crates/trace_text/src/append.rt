@@ -1,4 +1,4 @@
-// Pieces of text, each put behind what stands in a buffer up to `at`. Each answers where it ends.
+// Pieces of text, each put after what stands in a buffer up to `at`. Each answers where it ends.
 ghost use Rattle.std.specs.Prelude.{◌≡◌, ◌+◌, ◌≤◌, ◌++◌, length, take, decimal};
 ghost use Rattle.std.specs.Fmt.{signed_decimal};
 ghost use Rattle.sim_base.specs.Escape.{escaped};

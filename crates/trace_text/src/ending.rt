@@ -4,7 +4,7 @@ ghost use Rattle.system_model.specs.Text.{end_text, kind_text};
 use crate::append::{append, append_number};
 use system_model::EndKind;
 
-/// Puts the end of a trace at the point `t` to the front of `out`, and answers the length of its text.
+/// Puts the end of a trace at the point `t` to the start of `out`, and answers the length of its text.
 pub fn put_end(kind: EndKind, t: u64, out: &mut [u8]) -> usize
     requires { length (end_text kind t) ≤ length out.old }
     ensures length { result ≡ length (end_text kind t) }

@@ -7,7 +7,7 @@ use sim_base::CompId;
 use system_model::{Component, Port, System};
 use value_types::PortType;
 
-/// Puts the header of a trace to the front of `out`, and answers its length.
+/// Puts the header of a trace to the start of `out`, and answers its length.
 pub fn put_header(system: &System, resolution: u64, start: u64, stop: u64, out: &mut [u8]) -> usize
     requires { length (header_text system.now resolution start stop) ≤ length out.old }
     ensures length { result ≡ length (header_text system.now resolution start stop) }

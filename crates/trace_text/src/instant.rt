@@ -5,7 +5,7 @@ ghost use Rattle.trace_text.specs.Lines.{ended};
 use crate::append::{append, append_number, append_value};
 use system_model::System;
 
-/// Puts the n-th instant at the point `t` to the front of `out`, and answers the length of its text. The values are
+/// Puts the n-th instant at the point `t` to the start of `out`, and answers the length of its text. The values are
 /// those of the system's ports, in order.
 pub fn put_instant(
     _system: &System,

@@ -45,8 +45,8 @@ impl From<AllocError> for Outcome {
     }
 }
 
-/// Does what the words say, and answers the program's status: 0, 1 where traces differ or one isn't shown, 2 where the
-/// words are no command line, 3 where a file isn't there, 10 where a write failed, 11 where memory ran out.
+/// Does what the arguments say, and answers the program's status: 0, 1 where traces differ or one isn't shown, 2 where the
+/// arguments are no command line, 3 where a file isn't there, 10 where a write failed, 11 where memory ran out.
 pub(crate) fn run_args<S: Sink, E: Sink>(
     rt: &HostRuntime,
     args: io::Result<Args>,

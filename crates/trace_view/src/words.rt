@@ -3,7 +3,7 @@ use clap::{Arg, ArgAction, ArgMatches, Command};
 use std::alloc::{AllocError, AllocFailed, Global};
 use trace_export::Tolerance;
 
-/// What the words ask for, each of a trace's file or of two.
+/// What the arguments ask for, each of a trace's file or of two.
 #[derive(Debug, Drop)]
 pub(crate) enum Request<'a> {
     Table {
@@ -31,7 +31,7 @@ pub(crate) struct Words<'a> {
     pub(crate) reals: Option<&'a str>,
 }
 
-/// Why words ask for nothing.
+/// Why arguments ask for nothing.
 #[derive(Clone, Copy, Debug)]
 pub(crate) enum WordsFault {
     /// They are no command line.
@@ -52,7 +52,7 @@ impl<T: Drop> From<AllocFailed<T>> for WordsFault {
     }
 }
 
-/// Reads the words behind the program's name.
+/// Reads the arguments after the program's name.
 pub(crate) fn read_words<'a>(alloc: Global, words: &'a [String]) -> Result<Words<'a>, WordsFault> {
     match make_command(alloc)?.try_get_matches_from(words) {
         Ok(matches) => read_matches(alloc, &matches),

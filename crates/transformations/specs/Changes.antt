@@ -17,7 +17,7 @@ abbrev pub IsBooleanPair : List Node → ℕ → BooleanPair → Type 0
 IsBooleanPair t k x =
     IsBoolean t k (codes "source") x.source × IsBoolean t k (codes "target") x.target
 
--- the transformation changes values so; a mapping of enumerations is left out of this profile
+-- the transformation changes values so; a mapping of enumerations is unsupported
 abbrev pub IsChange : List Node → ℕ → Change → Type 0
 IsChange t k (change.Linear factor offset) =
     (is_named t k (codes "LinearTransformation") ≡ true)

@@ -31,7 +31,7 @@ is_zero byte = byte == 48
 abbrev pub AreZeros : List ℕ → Type 0
 AreZeros text = (text ≢ []) × (list_all is_zero text ≡ true)
 
--- nothing, or a point and one zero or more behind it
+-- nothing, or a point and one zero or more after it
 abbrev pub IsFraction : List ℕ → Type 0
 IsFraction [] = Unit {0}
 IsFraction (c ∷ zeros) = (c ≡ 46) × AreZeros zeros

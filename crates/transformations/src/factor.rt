@@ -39,7 +39,7 @@ fn read_unmarked(text: &str) -> Option<i64>
     Some(value as i64)
 }
 
-/// A factor or an offset: an optional minus and digits, and perhaps a point with zeros behind it, in 64 bits.
+/// A factor or an offset: an optional minus and digits, and perhaps a point with zeros after it, in 64 bits.
 pub(crate) fn read_factor(text: &str) -> Option<i64>
     ensures value { IfSome result (WritesFactor text.now) }
     ensures exact { (value : ℤ) → WritesFactor text.now value → result ≡ Some value }

@@ -82,7 +82,7 @@ placed_within p xs k placed =
 pub pair_total : IsTotalOrder pair_cmp
 pair_total = then_total (on_total (λ (x : ℕ × ℕ). x.0) nat_cmp_total) (on_total (λ (x : ℕ × ℕ). x.1) nat_cmp_total)
 
--- an entry that stands behind another isn't before it
+-- an entry that comes after another isn't before it
 pub not_before : (index : List (ℕ × ℕ)) (i j : ℕ) (e f : ℕ × ℕ) → IsSorted pair_cmp index → slice_get index i ≡ Some e → slice_get index j ≡ Some f → i ≤ j
     → is_lt (pair_cmp f e) ≡ false
 not_before index i j e f sorted at_i at_j le =
@@ -116,7 +116,7 @@ other_test x r apart = grind (arith, nat_tests)
 module _ (references : List ℕ) (index : List (ℕ × ℕ)) (is : IsIndex references index) (at r : ℕ)
     (below : AllWithin (λ (e : ℕ × ℕ). nat_lt e.0 r ≡ true) index 0 at) (above : AllWithin (λ (e : ℕ × ℕ). nat_lt e.0 r ≡ false) index at (length index))
   where
-    -- an entry with the reference stands at the place or behind it
+    -- an entry with the reference stands at the place or after it
     stands : (q : ℕ) → slice_get references q ≡ Some r → (j : ℕ) × (at ≤ j) × (slice_get index j ≡ Some (r, q))
     stands q there = split_at (is.whole q r there)
       where
@@ -126,7 +126,7 @@ module _ (references : List ℕ) (index : List (ℕ × ℕ)) (is : IsIndex refer
           | false ↦ λ more. (held.0, grind (arith, nat_tests), slice_get-get_or index held.0 (r, q) held.1 ∙ ap Some held.2)
         ] refl
 
-    -- no place but those of entries behind the place has the reference
+    -- no place but those of entries after the place has the reference
     pub none_other : (e : ℕ × ℕ) → slice_get index at ≡ Some e → (e.0 ≡ r → ⊥) → None ≡ position (λ x. x == r) references
     none_other e here other = sym (position_none (λ x. x == r) references (λ q x there. other_test x r (λ same.
         let found : (j : ℕ) × (at ≤ j) × (slice_get index j ≡ Some (r, q)) = stands q (there ∙ ap Some same) in

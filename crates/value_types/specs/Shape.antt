@@ -27,11 +27,11 @@ abbrev pub is_output : Causality → Bool
 is_output Output = true
 is_output _ = false
 
--- an input that isn't foreign
+-- an input that isn't ignored
 abbrev pub is_input_port : Variable → Bool
 is_input_port v = is_input v.causality && is_some v.kind
 
--- an output that isn't foreign
+-- an output that isn't ignored
 abbrev pub is_output_port : Variable → Bool
 is_output_port v = is_output v.causality && is_some v.kind
 
@@ -42,7 +42,7 @@ abbrev pub is_clock_type : Option PortType → Bool
 is_clock_type (Some Clock) = true
 is_clock_type _ = false
 
--- a Clock that isn't foreign
+-- a Clock that isn't ignored
 abbrev pub is_clock : Variable → Bool
 is_clock v = is_clock_type v.kind
 
@@ -70,14 +70,14 @@ dependency_at dependencies reference = find (λ (d : Dependency). d.output == re
 abbrev pub is_at : (Variable → Bool) → List Variable → ℕ → Bool
 is_at kind variables reference = option_map_or kind (variable_at variables reference) false
 
--- the reference is that of an output of this type, which isn't foreign
+-- the reference is that of an output of this type, which isn't ignored
 abbrev pub IsOutput : Shape → PortType → ℕ → Type 0
 IsOutput shape kind reference =
     IsSomeAnd (variable_at shape.variables reference) (λ (v : Variable). (v.kind ≡ Some kind) × (v.causality ≡ Output))
 
 -- ---- what an output depends on (2.4.9)
 
--- the variable is among the knowns of an output; all inputs are those that aren't foreign
+-- the variable is among the knowns of an output; all inputs are those that aren't ignored
 abbrev pub is_known : Knowns → Variable → Bool
 is_known AllInputs v = is_input_port v
 is_known (Listed on) v = list_any (λ r. r == v.reference) on

@@ -82,7 +82,7 @@ impl<T: Referenced> ByReference<T> {
         }
     }
 
-    /// The same list, which shares the elements with this one: it takes no memory, and fails where there are 2^63 of it.
+    /// The same list, which shares the elements with this one: it allocates no memory, and fails where there are 2^63 of it.
     pub fn copy(&self) -> Result<ByReference<T>, AllocError>
         ensures { IfOk result (λ copy. copy ≡ self.now) }
     {

@@ -15,7 +15,7 @@ pub enum Causality {
     Output,
     Local,
     Independent,
-    /// Any other; such a variable is foreign.
+    /// Any other; such a variable is ignored.
     Other,
 }
 
@@ -46,7 +46,7 @@ pub struct ClockTiming {
     pub shift: Option<Fraction>,
 }
 
-/// A variable of an FMU. A foreign variable, which is never set, read, bound or traced, has no `kind`.
+/// A variable of an FMU. An ignored variable, which is never set, read, bound or traced, has no `kind`.
 #[derive(Debug, Drop)]
 pub struct Variable {
     pub name: Text,
@@ -65,7 +65,7 @@ pub struct Variable {
 /// What an output depends on (FMI 3.0, 2.4.9: knowns of an unknown).
 #[derive(Debug, Drop)]
 pub enum Knowns {
-    /// every input of the FMU that isn't foreign
+    /// every input of the FMU that isn't ignored
     AllInputs,
     /// the ports with these value references
     Listed(Items<u32>),
@@ -117,28 +117,28 @@ impl Variable {
         self.causality == Causality::Parameter
     }
 
-    /// Whether it is an input that isn't foreign.
+    /// Whether it is an input that isn't ignored.
     pub fn is_input_port(&self) -> bool
         ensures { result ≡ is_input_port self.now }
     {
         self.causality == Causality::Input && self.kind.is_some()
     }
 
-    /// Whether it is an output that isn't foreign.
+    /// Whether it is an output that isn't ignored.
     pub fn is_output_port(&self) -> bool
         ensures { result ≡ is_output_port self.now }
     {
         self.causality == Causality::Output && self.kind.is_some()
     }
 
-    /// Whether it is an input or output that isn't foreign.
+    /// Whether it is an input or output that isn't ignored.
     pub fn is_port(&self) -> bool
         ensures { result ≡ is_port self.now }
     {
         self.is_input_port() || self.is_output_port()
     }
 
-    /// Whether it is a Clock that isn't foreign.
+    /// Whether it is a Clock that isn't ignored.
     pub fn is_clock(&self) -> bool
         ensures { result ≡ is_clock self.now }
     {
@@ -178,7 +178,7 @@ impl Referenced for Dependency {
 }
 
 impl Shape {
-    /// The same shape. It shares the lists with this one, and takes memory for two texts alone.
+    /// The same shape. It shares the lists with this one, and allocates memory for two texts alone.
     pub fn copy(&self, alloc: Global) -> Result<Shape, AllocError>
         ensures { IfOk result (λ s. s ≡ self.now) }
     {

@@ -57,7 +57,7 @@ first_values Ticks = pos 0 ∷ pos 0 ∷ pos 0 ∷ []
 abbrev pub one_more : ℤ → ℤ
 one_more count = if int_lt count (pos 1000) then count +ℤ pos 1 else count
 
--- the count behind an Update: without event the Clock, or with it active
+-- the count after an Update: without event the Clock, or with it active
 abbrev pub updated : Counts → ℤ → List ℤ → ℤ
 updated Updates count values = one_more count
 updated Ticks count values = if int_eq (first_of values) (pos 1) then one_more count else count

@@ -49,7 +49,7 @@ fn one_more(count: i64) -> i64
 }
 
 impl Counts {
-    // The count behind an Update.
+    // The count after an Update.
     fn updated_count(self, counted: &Counted) -> i64
         ensures { result ≡ updated self counted.now.count (values_in self counted.now) }
     {
@@ -183,7 +183,7 @@ fn write(counted: &mut Counted, _counts: Counts, reference: u32, value: i128)
     }
 }
 
-/// Goes on to the state behind a call.
+/// Goes on to the state after a call.
 pub(crate) fn go_on(counts: Counts, counted: &mut Counted, saved: &mut Option<Counted>, call: &Call)
     ensures { state_in counts counted.new saved.new ≡ after (ticker counts)
         (state_in counts counted.old saved.old) call.now }

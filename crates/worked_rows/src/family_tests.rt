@@ -160,7 +160,7 @@ const FAMILIES: [[Part; 3]; 12] = [
         ),
         part!(7, 4, CLOSED),
     ],
-    // Behind Error and a misreply FreeInstance alone, with a saved state too.
+    // After Error and an invalid reply FreeInstance alone, with a saved state too.
     [
         part!(
             7,

@@ -478,7 +478,7 @@ static CASES: [Case; 14] = [
         puts: 5,
         text: "trace 1 1000 0 20\nport 0 Int32 first y\nport 1 Int32 second y\nport 2 Int32 third y\nat 0 0\n0 1\n1 2\n2 3\nat 10 0\n0 1\n1 2\n2 3\nat 20 0\n0 1\n1 2\n2 3\n",
     },
-    // Fatal at a Get of the second and then a put that fails: the closing is that behind Fatal.
+    // Fatal at a Get of the second and then a put that fails: the closing is that after Fatal.
     Case {
         talks: [
             &[MADE, ENTERED, EXITED, read!(3)],

@@ -22,7 +22,7 @@ use std::thread::Threads;
 use step_master::RunEnd;
 use system_model::System;
 
-// A counter in the place of each gain.
+// A counter in place of each gain.
 #[tactic(auto, using(crate::proofs::ChainSound::chain_peers))]
 fn make_counters(alloc: Global, system: &System) -> Result<Vec<OwnCounter>, AllocError>
     requires { system.now ≡ chain }
@@ -54,7 +54,7 @@ fn run_counters<R: Threads + Sync>(
 }
 
 // Worked out by hand, where each step counts by 3. The output of the second declares to depend on the input that the first
-// feeds: it is read behind that input, and shows its own count.
+// feeds: it is read after that input, and shows its own count.
 const TEXT: &str =
     "trace 1 1000 0 20\nport 0 Int32 first u\nport 1 Int32 first y\nport 2 Int32 second u\nport 3 Int32 second y\nat 0 0\n1 0\n2 0\n3 0\nat 10 0\n1 3\n2 3\n3 3\nat 20 0\n1 6\n2 6\n3 6\nend stop 20\n";
 

@@ -84,7 +84,7 @@ const CASES: [Case; 23] = [
         None,
         &[STARTED, ENTERED, EXITED, READ, STEPPED]
     ),
-    // Behind a Terminate whose answer is bad the instance is freed, but where it is lost.
+    // After a Terminate whose answer is bad the instance is freed, but where it is lost.
     case!(
         InstanceState::Step,
         None,
@@ -170,7 +170,7 @@ const CASES: [Case; 23] = [
             refused!(GET, Kind::Get, BadStatus::Fatal),
         ],
     ),
-    // Behind Discard the instance stands where it stood.
+    // After Discard the instance stands where it stood.
     case!(
         InstanceState::Step,
         why_refused!(SET, BadStatus::Discard),

@@ -1,4 +1,4 @@
-//! Which calls are permitted, what replies are worth, and the phase behind a call.
+//! Which calls are permitted, what replies are worth, and the phase after a call.
 ghost use Rattle.std.specs.Prelude.{◌≡◌, ◌↔◌, IsTrue, option_copied};
 ghost use Rattle.fmi_calls.specs.Next.{HasMarks, next_of};
 ghost use Rattle.fmi_calls.specs.Permission.{Permitted};

@@ -1,4 +1,4 @@
-//! A document in the place of a Component of another.
+//! A document in place of a Component of another.
 ghost use Rattle.std.specs.Prelude.{◌≡◌, ℕ, ◌<◌, Some, IfOk, slice_get, vec_len};
 ghost use Rattle.ssd_tree.specs.declared.tree.ComponentPart.{ComponentPart};
 ghost use Rattle.ssd_tree.specs.Lists.{tree_of};
@@ -8,7 +8,7 @@ use nested_documents::{Frame, inlined};
 use ssd_tree::Parts;
 use std::alloc::{AllocError, Global};
 
-/// The parts of two documents where the inner one, which has so many elements, stands in the place of a Component of the
+/// The parts of two documents where the inner one, which has so many elements, stands in place of a Component of the
 /// outer one.
 pub fn inline_document(
     alloc: Global,

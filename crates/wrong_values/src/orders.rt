@@ -7,7 +7,7 @@ ghost use Rattle.dependency_order.specs.Paths.{IsSpread};
 use dependency_order::{Found, Lists, find_order, reached_from};
 use std::alloc::{AllocError, Global};
 
-/// An order of all nodes, each behind those that it needs, or a loop where there is none.
+/// An order of all nodes, each after those that it needs, or a loop where there is none.
 pub fn order_of(alloc: Global, needs: &Lists) -> Result<Found, AllocError>
     requires closed { IsClosed needs.now }
     ensures { IfOk result (IsFound (λ p. p < length needs.now) (Needs needs.now)) }

@@ -13,7 +13,7 @@ use Rattle.calling_sequence.proofs.ScheduleSteps.{begins, never_first, timed_beh
 use Rattle.calling_sequence.proofs.Ways.{again_there, asked_by_step, asked_there, done_there, limited_there, stepped_there, stops_there, unfit_there}
 use Rattle.calling_sequence.proofs.run.follow.Goals as goal
 
--- what breaks off behind a place breaks off behind those that lead to it
+-- what breaks off after a place breaks off after those that lead to it
 breaks_from : (e : Experiment) (p q : Place) (firsts mids news : List Instance) (first present after : SinkView) (start count counted : ℕ) → Onward e p q firsts mids first present start count → (broken : Break) →
     Breaks e q mids news present after count counted broken → Breaks e p firsts news first after start counted broken
 breaks_from e p q firsts mids news first present after start count counted onward (B.Ends ending) breaks = λ olds before h. breaks olds before (onward olds before h)

@@ -1,4 +1,4 @@
--- What stands in the front of the room is gone from what was to come.
+-- What stands at the start of the room is gone from what was to come.
 use Rattle.std.proofs.Common.{◌-◌, ◌≤◌, length, take}
 use Rattle.std.specs.Io.KnownBytes.{Consumes}
 use Rattle.child_hosts.proofs.pipe_wire.fill.Given as goal

@@ -11,7 +11,7 @@ use Rattle.event_iteration.specs.Waits.{Gathers}
 use Rattle.event_iteration.proofs.Steps.{rested, walked_now}
 use Rattle.event_iteration.proofs.walk.walk.Goals as goal
 
--- behind the last port of the order
+-- after the last port of the order
 at_end : {system : System} {rules : Rules} {before values : List (Option ℤ)} {olds is : List Instance} {k : ℕ} {w : Waiting} (order : List PortId) → Gathers system rules before (numbers order) olds k w values is → length order ≤ k →
     Gathers system rules before (numbers order) olds (length order) w values is
 at_end {system = system} {rules = rules} {before = before} {values = values} {olds = olds} {is = is} {k = k} {w = w} order gathers end =

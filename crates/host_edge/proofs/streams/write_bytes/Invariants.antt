@@ -1,4 +1,4 @@
--- The front that was written is what the stream tells, the rest is still to be written, and each turn wrote or was broken off.
+-- The prefix that was written is what the stream tells, the rest is still to be written, and each turn wrote or was broken off.
 use Rattle.std.proofs.Common.{◌≡◌, ℕ, ◌+◌, ◌≤◌, List, ◌++◌, length}
 use Rattle.host_edge.specs.Streams.{Takes}
 use Rattle.host_edge.proofs.streams.write_bytes.Given as goal

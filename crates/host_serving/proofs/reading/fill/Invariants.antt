@@ -1,4 +1,4 @@
--- So many bytes were taken, and stand at the front of the room.
+-- So many bytes were taken, and stand at the start of the room.
 use Rattle.std.proofs.Common.{◌-◌, ◌≤◌, length, take}
 use Rattle.host_serving.specs.Frames.{Takes}
 use Rattle.host_serving.proofs.reading.fill.Given as goal

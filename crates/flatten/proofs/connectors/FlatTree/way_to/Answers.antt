@@ -26,7 +26,7 @@ returns-in_default c =
     (way_ended f c.requires.indexed c.args.last.now c.requires.last c.requires.fitting c.args.connector c.loop-connection.back.items c.loop-connection.at c.loop-connection.invariant.way c.point_number.result (omega (arith, len, within))
     c.point_number.ensures.number none)
 
--- as many connections are behind it as there are
+-- as many connections follow it as there are
 pub returns : goal.returns
 returns c =
     let f = c.args.self.now in
