@@ -92,6 +92,20 @@ finds_lost test ports values p port lost within read bad source none told =
     subst (FindsLost test ports values) (sym (told port source.feed source.came at source.fed_by source.value))
     (record { first = first_there test ports p port within read bad none; target = port; at = at; feed = source.feed; fed = source.fed_by; value = source.value })
 
+-- a walk over the ports, which are lent: such a port ends it, and another is passed
+module _ (test : Port → Bool) (ports : List Port) {lent : List Port} (p : ℕ) (port : Port) (same : lent ≡ ports) (l : p < length lent) (is : port ≡ get_or lent p port) (none : NoneBefore test ports p) where
+  within : p < length ports
+  within = subst (λ (ps : List Port). p < length ps) same l
+
+  read : port ≡ get_or ports p port
+  read = is ∙ ap (λ (ps : List Port). get_or ps p port) same
+
+  pub ends_at : (values : List (Option ℤ)) (lost : Option LostValue) → test port ≡ true → HasSource port values → IsLostAt lent p values lost → FindsLost test ports values lost
+  ends_at values lost bad source told = finds_lost test ports values p port lost within read bad source none (subst (λ (ps : List Port). IsLostAt ps p values lost) same told)
+
+  pub goes_past : test port ≡ false → NoneBefore test ports (p + 1)
+  goes_past good = none_more test ports p port (λ d. read_any ports p port d within read) good none
+
 abbrev pub lost_at : ℕ → ℤ → LostValue
 lost_at p x = record { port = record { 0 = p }; value = x }
 

@@ -1,15 +1,12 @@
 -- Sending a run, with the instances in their slots.
-use Rattle.std.proofs.Common.{◌≡◌, inl, inr, ℕ, ◌<◌, ◌≤◌, ◌+◌, ◌-◌, ℤ, List, [], ◌∷◌, Option, Some, Result, Ok, Err, refl, sym, ap, ◌∙◌, subst, arith, length, map, take, drop, get_or, set}
-use Rattle.std.specs.Prelude.{All, IsTrue, slice_get}
+use Rattle.std.proofs.Common.{◌≡◌, ℕ, ◌<◌, ◌≤◌, ◌+◌, ◌-◌, ℤ, List, [], ◌∷◌, Option, Some, Result, Ok, Err, refl, sym, ap, ◌∙◌, subst, arith, length, map, take, drop, get_or, set}
+use Rattle.std.specs.Prelude.{All, slice_get}
 use Rattle.std.proofs.lemmas.List.{drop-map, drop-take, length-map, map-set, take-map}
 use Rattle.std.proofs.lemmas.List.Elements.{All-drop, All-head, All-take}
 use Rattle.std.proofs.lemmas.Option.{slice_get_within}
 use Rattle.sim_base.specs.declared.numbers.PortId.{PortId}
 use Rattle.fmi_calls.specs.declared.call.Call.{Call}
-use Rattle.fmi_calls.specs.declared.call.Call.TheVariants as C
 use Rattle.fmi_calls.specs.declared.call.Reply.{Reply}
-use Rattle.fmi_calls.specs.Kinds.{kind_of}
-use Rattle.fmi_calls.specs.Permission.{Permitted}
 use Rattle.fmu_peer.specs.declared.ended.Why.{Why}
 use Rattle.fmu_peer.specs.CloseAll.{Instance}
 use Rattle.fmu_peer.specs.Many.{AreOfOneSort, MayAskAll}
@@ -20,12 +17,11 @@ use Rattle.system_model.proofs.CallerLemmas.{at_contains, place_of}
 use Rattle.run_model.specs.Machines.{AreFitting}
 use Rattle.slot_calls.specs.declared.bad_answer.BadAnswer.{BadAnswer}
 use Rattle.slot_calls.specs.Log.{AnswersAll, StopsBehind}
-use Rattle.slot_calls.specs.Slots.{keeps_mode}
 use Rattle.event_iteration.specs.declared.walk.Waiting.{Waiting}
 use Rattle.event_iteration.specs.declared.walk.Way.{Way}
 use Rattle.event_iteration.specs.declared.walk.Way.TheVariants.{Send, Skip, Wait, Quiet, Ask}
 use Rattle.event_iteration.specs.Turns.{Rules, TakesTurn}
-use Rattle.event_iteration.specs.Waits.{EndsBadly, Gathered, Gathers, IsPlain, IsReady, IsWay, Moves, Place, ReadsOrSets, StandsBehindReads, call_in, skipped, turned, waits_in}
+use Rattle.event_iteration.specs.Waits.{EndsBadly, Gathered, Gathers, IsPlain, IsReady, IsWay, Moves, Place, StandsBehindReads, call_in, skipped, turned, waits_in}
 use Rattle.event_iteration.proofs.Rounds.{number_at}
 use Rattle.event_iteration.proofs.Steps.{asked, ends, failed, sent}
 use Rattle.event_iteration.proofs.Taking.{instance_at, slots_many}

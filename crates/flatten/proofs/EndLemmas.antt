@@ -119,6 +119,10 @@ pub ends_there : (t : SystemTree) (i : ℕ) (e : Connection) → IsWholeTree t �
 ends_there t i e whole l read =
     All-contains (λ (z : Connection). (z.start < length t.connectors) × (z.end < length t.connectors)) t.connections e whole.ends (i, l, sym read)
 
+-- so the second has a mark among those of all connectors
+pub end_marked : (t : SystemTree) (i : ℕ) (e : Connection) {n : ℕ} → IsWholeTree t → i < length t.connections → e ≡ get_or t.connections i e → n ≡ length t.connectors → e.end < n
+end_marked t i e whole l read len = let end = (ends_there t i e whole l read).1 in omega (arith, end, len)
+
 -- both ends of a connection of the table are connectors
 pub ends_in : (t : SystemTree) (connections : List joints.Connection) (e : joints.Connection) → IsWholeTree t → connections ≡ map ends_of t.connections → Contains connections e → (e.start < length t.connectors) × (e.end < length t.connectors)
 ends_in t connections e whole ends is = All-contains (numbers.IsWithin (length t.connectors)) connections e (ends_within t (length t.connectors) connections whole refl ends) is

@@ -1,11 +1,10 @@
-use Rattle.std.proofs.Common.{◌≡◌, ◌<◌, ◌≤◌, List, get_or, length, sym, ap, ◌∙◌, subst, true, arith}
+use Rattle.std.proofs.Common.{List, length, sym, ap, ◌∙◌, subst, arith}
 use Rattle.std.specs.Prelude.{All}
 use Rattle.system_model.specs.declared.system.Port.{Port}
 use Rattle.system_model.proofs.CallerLemmas.{all_at}
 use Rattle.run_model.specs.Initial.{is_bad_initially}
 use Rattle.event_iteration.specs.Initialization.{IsPlaced}
-use Rattle.event_iteration.specs.Lost.{IsLostAt}
-use Rattle.event_iteration.proofs.Losing.{bad_source_initially, finds_lost, none_more, none_there, none_yet, read_any}
+use Rattle.event_iteration.proofs.Losing.{bad_source_initially, ends_at, goes_past, none_there, none_yet}
 use Rattle.event_iteration.proofs.Rounds.{sources_placed}
 use Rattle.event_iteration.proofs.Taking.{port_at}
 use Rattle.event_iteration.proofs.lost.lost_initially.Goals as goal
@@ -32,28 +31,15 @@ lost_at-requires-clause-values c = c.requires.values ∙ ap length (sym c.as_sli
 
 pub returns-then-is_bad_initially : goal.returns-then-is_bad_initially
 returns-then-is_bad_initially c =
-    let system = c.args.system.now in
-    let values = c.args.values.now in
-    let p = c.loop-p.p in
     let port = c.index-ports-p.result in
-    let within : p < length system.ports = let w = c.loop-p-test.true in let e = ap length c.as_slice-ports.ensures in omega (arith, w, e) in
-    let read : port ≡ get_or system.ports p port = c.index-ports-p.is ∙ ap (λ (ps : List Port). get_or ps p port) c.as_slice-ports.ensures in
-    let bad : is_bad_initially system values port ≡ true = sym c.is_bad_initially.ensures ∙ c.if-is_bad_initially.true in
-    finds_lost (is_bad_initially system values) system.ports values p port c.lost_at.result within read bad (bad_source_initially system port values bad) c.loop-p.invariant.none
-    (subst (λ (ps : List Port). IsLostAt ps p values c.lost_at.result) c.as_slice-ports.ensures c.lost_at.ensures)
+    let bad = sym c.is_bad_initially.ensures ∙ c.if-is_bad_initially.true in
+    ends_at (is_bad_initially c.args.system.now c.args.values.now) c.args.system.now.ports c.loop-p.p port c.as_slice-ports.ensures c.loop-p-test.true c.index-ports-p.is c.loop-p.invariant.none c.args.values.now c.lost_at.result bad (bad_source_initially c.args.system.now port c.args.values.now bad) c.lost_at.ensures
 
 pub loop-p-preserved : goal.loop-p-preserved
-loop-p-preserved c =
-    let system = c.args.system.now in
-    let values = c.args.values.now in
-    let p = c.loop-p.p in
-    let port = c.index-ports-p.result in
-    let within : p < length system.ports = let w = c.loop-p-test.true in let e = ap length c.as_slice-ports.ensures in omega (arith, w, e) in
-    let read : port ≡ get_or system.ports p port = c.index-ports-p.is ∙ ap (λ (ps : List Port). get_or ps p port) c.as_slice-ports.ensures in
-    record {
-      upto = omega (arith, within);
-      none = none_more (is_bad_initially system values) system.ports p port (λ d. read_any system.ports p port d within read) (sym c.is_bad_initially.ensures ∙ c.if-is_bad_initially.false) c.loop-p.invariant.none;
-    }
+loop-p-preserved c = record {
+  upto = let w = c.loop-p-test.true in let e = ap length c.as_slice-ports.ensures in omega (arith, w, e);
+  none = goes_past (is_bad_initially c.args.system.now c.args.values.now) c.args.system.now.ports c.loop-p.p c.index-ports-p.result c.as_slice-ports.ensures c.loop-p-test.true c.index-ports-p.is c.loop-p.invariant.none (sym c.is_bad_initially.ensures ∙ c.if-is_bad_initially.false);
+}
 
 pub returns : goal.returns
 returns c =
