@@ -8,6 +8,7 @@
     drive_host.py --pulse HOST DIR R        three ticks of a changing Clock, for the pulse
     drive_host.py --waker HOST DIR R        the steps to a next event time, for the waker
     drive_host.py --batches HOST DIR R      batches of Gets and of Sets, for the counter
+    drive_host.py --states HOST DIR R       a state as bytes, taken in by another instance, for the counter
     drive_host.py --odd HOST DIR R          what is no frame, ends inside one, or is no call for a counter
 
 Status and error line are those of ssprun where the link fails (5), a call is refused (6) or a reply is of another kind
@@ -22,7 +23,7 @@ import xml.etree.ElementTree as ElementTree
 
 KINDS = (
     "Instantiate EnterInitialization ExitInitialization EnterEvent EnterStep DoStep Update Get Set GetClock SetClock "
-    "GetInterval GetShift Save Restore Free Terminate FreeInstance"
+    "GetInterval GetShift Save Restore Free Terminate FreeInstance Batch Serialize Deserialize"
 ).split()
 TYPES = "Int8 UInt8 Int16 UInt16 Int32 UInt32 Int64 UInt64 Boolean Enumeration".split()
 STATUSES = "OK Warning Discard Error Fatal".split()
@@ -56,8 +57,8 @@ class Host:
         except BrokenPipeError:
             pass  # there will be no reply either
 
-    def receive(self):
-        return self.child.stdout.read(FRAME.size)
+    def receive(self, length=FRAME.size):
+        return self.child.stdout.read(length)
 
     def exchange(self, kind, type=0, reference=0, first=0, second=0, texts=b""):
         """The 24 bytes that answer a call; fewer where the link broke."""
@@ -346,6 +347,9 @@ NO_FRAMES = (
     ("a type of DoStep", FRAME.pack(6, 1, 0, 0, 0, 0, 1)),
     ("flags of a call", FRAME.pack(6, 0, 1, 0, 0, 0, 1)),
     ("byte 3", FRAME.pack(6, 0, 0, 1, 0, 0, 1)),
+    ("a reference of Serialize", FRAME.pack(20, 0, 0, 0, 1, 0, 0)),
+    ("a type of Deserialize", FRAME.pack(21, 5, 0, 0, 0, 0, 1)),
+    ("the kind 22", FRAME.pack(22, 0, 0, 0, 0, 0, 0)),
     ("a reference of DoStep", FRAME.pack(6, 0, 0, 0, 1, 0, 1)),
     ("a number of ExitInitialization", FRAME.pack(3, 0, 0, 0, 0, 1, 0)),
     ("a second number of Set", FRAME.pack(9, 5, 0, 0, 1, 1, 1)),
@@ -421,6 +425,61 @@ def drive_odd(program, directory, resolution):
         expect("after it", host.end(), (b"", 0))
 
 
+def drive_states(program, directory, resolution):
+    """A state that is saved behind a step goes on in another instance; other bytes are refused, and cut ones end the host."""
+    int32 = TYPES.index("Int32") + 1
+    token = Description(directory).token
+
+    def start():
+        host = Host(program, directory, resolution)
+        host.instantiate("fmu", token)
+        return host
+
+    def count(host):
+        return number_of(int32, host.ask("Get", type=int32, reference=2)[2])
+
+    first = start()
+    first.ask("EnterInitialization", first=0, second=30)
+    first.ask("ExitInitialization")
+    first.ask("DoStep", first=0, second=10)
+    first.ask("Save")
+    length = first.ask("Serialize")[1]
+    state = first.receive(length)
+    expect("the bytes of the state", len(state), length)
+    first.ask("DoStep", first=10, second=10)
+    told = count(first)
+    expect("again", (first.ask("Serialize")[1], first.receive(length)), (length, state))
+    first.ask("Free")
+    first.ask("Terminate")
+    first.ask("FreeInstance")
+    expect("after FreeInstance", first.end(), (b"", 0))
+
+    host = start()
+    host.ask("Deserialize", reference=length, first=10, second=30, texts=state)
+    host.ask("Restore")
+    host.ask("Free")
+    before = count(host)
+    host.ask("DoStep", first=10, second=10)
+    expect("the count", (before * 2, count(host)), (told, told))
+    host.ask("Terminate")
+    host.ask("FreeInstance")
+    expect("after a resumed run", host.end(), (b"", 0))
+
+    for bad in (b"", state[:-1], state + b"\0", b"\0" * 5000):
+        host = start()
+        data = host.exchange("Deserialize", reference=len(bad), first=10, second=30, texts=bad)
+        expect(f"{len(bad)} bytes", data.hex(), FRAME.pack(21, 3, 0, 0, 0, 0, 0).hex())
+        host.ask("FreeInstance")
+        expect("after it", host.end(), (b"", 0))
+    for came in (0, 1, length - 1):
+        host = start()
+        host.send(FRAME.pack(21, 0, 0, 0, length, 10, 30) + state[:came])
+        expect(f"{came} bytes of a state", host.end(), (b"", 1))
+    host = start()
+    host.send(FRAME.pack(21, 0, 0, 0, 2**32 - 1, 10, 30) + state)
+    expect("a length near 2^32", host.end(), (b"", 1))
+
+
 def drive_batches(program, directory, resolution):
     """Parameters are set in one batch and read in others, up to the first reply that isn't good."""
     host = Host(program, directory, resolution)
@@ -463,6 +522,8 @@ def main(words):
             drive_waker(*words[1:3], int(words[3]))
         elif len(words) == 4 and words[0] == "--batches":
             drive_batches(*words[1:])
+        elif len(words) == 4 and words[0] == "--states":
+            drive_states(*words[1:])
         elif len(words) == 4 and words[0] == "--odd":
             drive_odd(*words[1:])
         elif len(words) == 5:

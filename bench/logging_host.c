@@ -12,7 +12,7 @@
 #include <sys/wait.h>
 #include <unistd.h>
 
-enum { INSTANTIATE = 1, FRAME = 24 };
+enum { INSTANTIATE = 1, SERIALIZE = 20, DESERIALIZE = 21, FRAME = 24 };
 
 static int read_all(int file, unsigned char *bytes, size_t count)
 {
@@ -31,12 +31,30 @@ static int write_all(int file, const unsigned char *bytes, size_t count)
     return write(file, bytes, count) == (ssize_t)count;
 }
 
-static uint64_t number_at(const unsigned char *frame, int place)
+static uint64_t number_at(const unsigned char *frame, int place, int size)
 {
     uint64_t number = 0;
-    for (int i = 0; i < 8; i++)
+    for (int i = 0; i < size; i++)
         number = number << 8 | frame[place + i];
     return number;
+}
+
+/* Hands on so many bytes. */
+static int hand_on(int from, int to, uint64_t rest)
+{
+    unsigned char byte[1];
+    for (; rest > 0; rest--)
+        if (!read_all(from, byte, 1) || !write_all(to, byte, 1))
+            return 0;
+    return 1;
+}
+
+/* How many bytes stand behind the frame of a call. */
+static uint64_t behind(const unsigned char *call)
+{
+    if (call[0] == INSTANTIATE)
+        return number_at(call, 8, 8) + number_at(call, 16, 8);
+    return call[0] == DESERIALIZE ? number_at(call, 4, 4) : 0;
 }
 
 int main(int count, char **words)
@@ -63,16 +81,15 @@ int main(int count, char **words)
     close(replies[1]);
     fprintf(log, "%ld\n", (long)host);
     fflush(log);
-    unsigned char frame[FRAME], text[1];
+    unsigned char frame[FRAME];
     int is_on = 1;
     while (is_on && read_all(STDIN_FILENO, frame, FRAME)) {
         fprintf(log, "%d\n", frame[0]);
         fflush(log);
-        is_on = write_all(calls[1], frame, FRAME);
-        if (frame[0] == INSTANTIATE)
-            for (uint64_t rest = number_at(frame, 8) + number_at(frame, 16); is_on && rest > 0; rest--)
-                is_on = read_all(STDIN_FILENO, text, 1) && write_all(calls[1], text, 1);
+        is_on = write_all(calls[1], frame, FRAME) && hand_on(STDIN_FILENO, calls[1], behind(frame));
         is_on = is_on && read_all(replies[0], frame, FRAME) && write_all(STDOUT_FILENO, frame, FRAME);
+        if (frame[0] == SERIALIZE)
+            is_on = is_on && hand_on(replies[0], STDOUT_FILENO, number_at(frame, 4, 4));
     }
     close(calls[1]);
     waitpid(host, NULL, 0);

@@ -27,6 +27,7 @@ typedef uint32_t fmi3UInt32;
 typedef int64_t fmi3Int64;
 typedef uint64_t fmi3UInt64;
 typedef bool fmi3Boolean;
+typedef uint8_t fmi3Byte;
 typedef char fmi3Char;
 typedef const fmi3Char *fmi3String;
 typedef bool fmi3Clock;
@@ -104,6 +105,11 @@ FMI3_GET_AND_SET(Boolean)
 FMI3_FUNCTION(fmi3Status, GetFMUState, fmi3Instance instance, fmi3FMUState *FMUState)
 FMI3_FUNCTION(fmi3Status, SetFMUState, fmi3Instance instance, fmi3FMUState FMUState)
 FMI3_FUNCTION(fmi3Status, FreeFMUState, fmi3Instance instance, fmi3FMUState *FMUState)
+FMI3_FUNCTION(fmi3Status, SerializedFMUStateSize, fmi3Instance instance, fmi3FMUState FMUState, size_t *size)
+FMI3_FUNCTION(fmi3Status, SerializeFMUState, fmi3Instance instance, fmi3FMUState FMUState,
+              fmi3Byte serializedState[], size_t size)
+FMI3_FUNCTION(fmi3Status, DeserializeFMUState, fmi3Instance instance, const fmi3Byte serializedState[], size_t size,
+              fmi3FMUState *FMUState)
 
 /* Clocks (2.2.8 and 2.2.9) */
 

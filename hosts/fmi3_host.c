@@ -12,8 +12,8 @@
  * bits of a Float64 or a Float32: the FMU is asked for these, and set to them. `tools/ssp reals` writes such files.
  *
  * What doesn't work is told on standard error, and the call is answered with Error: no library or two of them, a
- * function that the library doesn't have, the end of a step, an interval or a shift that is no count. A next event time
- * that is none goes up to the next count, which is told once. What the FMU writes on standard output goes to standard
+ * function that the library doesn't have, the end of a step, an interval or a shift that is no count, a state of more than
+ * 2^20 bytes. A next event time that is none goes up to the next count, which is told once. What the FMU writes on standard output goes to standard
  * error, line by line. An FMU that crashes ends its host.
  *
  *     FMI3_HOST_LOG=1         the FMU is to log
@@ -51,7 +51,8 @@
 
 enum kind {
     INSTANTIATE = 1, ENTER_INITIALIZATION, EXIT_INITIALIZATION, ENTER_EVENT, ENTER_STEP, DO_STEP, UPDATE, GET, SET,
-    GET_CLOCK, SET_CLOCK, GET_INTERVAL, GET_SHIFT, SAVE, RESTORE, FREE, TERMINATE, FREE_INSTANCE
+    GET_CLOCK, SET_CLOCK, GET_INTERVAL, GET_SHIFT, SAVE, RESTORE, FREE, TERMINATE, FREE_INSTANCE,
+    SERIALIZE = 20, DESERIALIZE
 };
 
 enum type { INT8 = 1, UINT8, INT16, UINT16, INT32, UINT32, INT64, UINT64, BOOLEAN, ENUMERATION };
@@ -70,6 +71,7 @@ enum { BATCH = 19, MOST_CALLS = 64 };
 
 #define FRAME_LENGTH 24
 #define LONGEST_TEXT (UINT64_C(1) << 24)
+#define LONGEST_STATE (UINT64_C(1) << 20)
 #define MOST_COUNTS (UINT64_C(1) << 62)
 
 struct call {
@@ -83,6 +85,9 @@ struct call {
 /* The texts of Instantiate, each with a 0 after it. They are kept, since there is one Instantiate. */
 static char *name, *token;
 
+/* The bytes of a state: those that came with the last Deserialize, or that go with the reply to a Serialize. */
+static unsigned char *state;
+
 struct reply {
     fmi3Status status;
     int flags;
@@ -94,7 +99,7 @@ struct reply {
 /* Which fields of a call its kind uses. All others are 0. */
 static const struct layout {
     bool type, reference, first, second;
-} layouts[FREE_INSTANCE + 1] = {
+} layouts[DESERIALIZE + 1] = {
     [INSTANTIATE] = {false, true, true, true},
     [ENTER_INITIALIZATION] = {false, false, true, true},
     [DO_STEP] = {false, false, true, true},
@@ -104,6 +109,7 @@ static const struct layout {
     [SET_CLOCK] = {false, true, false, false},
     [GET_INTERVAL] = {false, true, false, false},
     [GET_SHIFT] = {false, true, false, false},
+    [DESERIALIZE] = {false, true, true, true},
 };
 
 static uint64_t read_number(const unsigned char *bytes, int length)
@@ -149,6 +155,23 @@ static char *read_text(FILE *calls, uint64_t length)
     return text;
 }
 
+/* Reads so many bytes of a state; false where the input ends before, or there is no memory. There is room as they come. */
+static bool read_state(FILE *calls, size_t length)
+{
+    size_t came = 0, room = 4096;
+    for (;;) {
+        unsigned char *grown = realloc(state, room);
+        if (grown == NULL)
+            return false;
+        state = grown;
+        size_t wanted = length < room ? length : room;
+        came += fread(state + came, 1, wanted - came, calls);
+        if (came < wanted || came == length)
+            return came == length;
+        room *= 2;
+    }
+}
+
 enum input { A_FRAME, THE_END, NO_FRAME };
 
 /* What comes in one frame: a call, or a batch of calls, all of which read variables or all of which set them. */
@@ -167,7 +190,7 @@ static bool take_call(const unsigned char *bytes, struct call *call)
     call->first = read_number(bytes + 8, 8);
     call->second = read_number(bytes + 16, 8);
 
-    if (call->kind < INSTANTIATE || call->kind > FREE_INSTANCE)
+    if (call->kind < INSTANTIATE || call->kind > DESERIALIZE || call->kind == BATCH)
         return false;
     const struct layout *layout = &layouts[call->kind];
     if ((!layout->type && call->type != 0) || bytes[2] != 0 || bytes[3] != 0)
@@ -223,6 +246,8 @@ static enum input read_frame(FILE *calls, struct frame *frame)
         if (token == NULL)
             return NO_FRAME;
     }
+    if (call->kind == DESERIALIZE && !read_state(calls, call->reference))
+        return NO_FRAME;
     return A_FRAME;
 }
 
@@ -245,7 +270,7 @@ static void put_reply(unsigned char *bytes, int kind, const struct reply *reply)
     }
 }
 
-/* So many replies to a frame, in one piece. */
+/* So many replies to a frame, in one piece, and the bytes that follow a good one to Serialize. */
 static bool write_replies(FILE *replies, const struct frame *frame, const struct reply *given, int count)
 {
     unsigned char bytes[FRAME_LENGTH * (MOST_CALLS + 1)] = {BATCH};
@@ -254,7 +279,10 @@ static bool write_replies(FILE *replies, const struct frame *frame, const struct
         put_reply(bytes + FRAME_LENGTH * (i + 1), frame->calls[i].kind, &given[i]);
     size_t skipped = frame->is_batch ? 0 : FRAME_LENGTH;
     size_t length = (size_t)FRAME_LENGTH * (size_t)(count + 1) - skipped;
-    return fwrite(bytes + skipped, 1, length, replies) == length && fflush(replies) == 0;
+    bool has_state = !frame->is_batch && frame->calls[0].kind == SERIALIZE && is_good(given[0].status);
+    size_t followed = has_state ? given[0].qualifier : 0;
+    return fwrite(bytes + skipped, 1, length, replies) == length &&
+        (followed == 0 || fwrite(state, 1, followed, replies) == followed) && fflush(replies) == 0;
 }
 
 /* ---- The FMU */
@@ -281,7 +309,8 @@ static fmi3Status complain(const char *what, const char *about)
     use(SetBoolean) use(SetFloat32) use(SetFloat64) \
     use(GetClock) use(SetClock) \
     use(GetIntervalDecimal) use(GetIntervalFraction) use(GetShiftDecimal) use(GetShiftFraction) \
-    use(GetFMUState) use(SetFMUState) use(FreeFMUState)
+    use(GetFMUState) use(SetFMUState) use(FreeFMUState) \
+    use(SerializedFMUStateSize) use(SerializeFMUState) use(DeserializeFMUState)
 
 /* The functions that the library has; NULL for each other one. */
 static struct {
@@ -800,6 +829,36 @@ static fmi3Status free_saved(void)
     return status;
 }
 
+/* fmi3SerializedFMUStateSize and fmi3SerializeFMUState (2.2.6): the bytes of the state that is saved. */
+static fmi3Status serialize(struct reply *reply)
+{
+    size_t size = 0;
+    NEEDS(SerializedFMUStateSize);
+    NEEDS(SerializeFMUState);
+    if (saved_state == NULL)
+        return complain("no state is saved", "");
+    fmi3Status status = fmu.SerializedFMUStateSize(instance, saved_state, &size);
+    if (!is_good(status))
+        return status;
+    if (size > LONGEST_STATE)
+        return complain("a state has more than 2^20 bytes", "");
+    unsigned char *room = realloc(state, size + 1);
+    if (room == NULL)
+        return complain("no memory for the bytes of a state", "");
+    state = room;
+    fmi3Status written = fmu.SerializeFMUState(instance, saved_state, state, size);
+    reply->qualifier = (uint32_t)size;
+    return written == fmi3OK ? status : written;
+}
+
+/* fmi3DeserializeFMUState (2.2.6): the bytes that came are the state that is saved. */
+static fmi3Status deserialize(size_t size)
+{
+    NEEDS(DeserializeFMUState);
+    return saved_state == NULL ? fmu.DeserializeFMUState(instance, state, size, &saved_state)
+                               : complain("a state is saved already", "");
+}
+
 /* fmi3FreeInstance (2.3) has no status. */
 static fmi3Status free_instance(void)
 {
@@ -834,6 +893,8 @@ static fmi3Status answer(const struct call *call, struct reply *reply)
     case SAVE: return save();
     case RESTORE: return restore();
     case FREE: return free_saved();
+    case SERIALIZE: return serialize(reply);
+    case DESERIALIZE: return deserialize(call->reference);
     case TERMINATE: CHANGE(Terminate)
     default: return free_instance();
     }

@@ -43,7 +43,9 @@ enum kind {
     RESTORE = 15,
     FREE = 16,
     TERMINATE = 17,
-    FREE_INSTANCE = 18
+    FREE_INSTANCE = 18,
+    SERIALIZE = 20,
+    DESERIALIZE = 21
 };
 
 enum status { OK = 0, WARNING = 1, DISCARD = 2, ERROR = 3, FATAL = 4 };
@@ -66,12 +68,16 @@ enum { BATCH = 19, MOST_CALLS = 64 };
 #define FRAME_LENGTH 24
 #define LONGEST_TEXT (UINT64_C(1) << 24)
 
+/* The bytes of a state of the model. */
+#define STATE_LENGTH 24
+
 struct call {
     int kind;
     int type;
     uint32_t reference;
     uint64_t first;
     uint64_t second;
+    unsigned char state[STATE_LENGTH]; /* of Deserialize, where so many bytes follow it */
 };
 
 /* From the status DISCARD on everything after the status has to be 0. */
@@ -81,6 +87,7 @@ struct reply {
     uint32_t qualifier;
     uint64_t first;
     uint64_t second;
+    unsigned char state[STATE_LENGTH]; /* the qualifier of Serialize tells how many of these bytes follow the reply */
 };
 
 /* Which fields of a call its kind uses. All others are 0. */
@@ -88,7 +95,7 @@ struct layout {
     bool type, reference, first, second;
 };
 
-static const struct layout layouts[FREE_INSTANCE + 1] = {
+static const struct layout layouts[DESERIALIZE + 1] = {
     [INSTANTIATE] = {false, true, true, true},
     [ENTER_INITIALIZATION] = {false, false, true, true},
     [DO_STEP] = {false, false, true, true},
@@ -98,6 +105,7 @@ static const struct layout layouts[FREE_INSTANCE + 1] = {
     [SET_CLOCK] = {false, true, false, false},
     [GET_INTERVAL] = {false, true, false, false},
     [GET_SHIFT] = {false, true, false, false},
+    [DESERIALIZE] = {false, true, true, true},
 };
 
 /* A number whose most significant byte comes first. */
@@ -154,6 +162,12 @@ static bool skip_text(uint64_t length)
     return length == 0;
 }
 
+/* Reads so many bytes of a state, and keeps those of one that may be the model's. */
+static bool read_state(uint32_t length, unsigned char *state)
+{
+    return length == STATE_LENGTH ? fread(state, 1, length, stdin) == length : skip_text(length);
+}
+
 /* Takes the call of 24 bytes; false where they are none. */
 static bool take_call(const unsigned char *bytes, struct call *call)
 {
@@ -163,7 +177,7 @@ static bool take_call(const unsigned char *bytes, struct call *call)
     call->first = read_number(bytes + 8, 8);
     call->second = read_number(bytes + 16, 8);
 
-    if (call->kind < INSTANTIATE || call->kind > FREE_INSTANCE)
+    if (call->kind < INSTANTIATE || call->kind > DESERIALIZE || call->kind == BATCH)
         return false;
     const struct layout *layout = &layouts[call->kind];
     if ((!layout->type && call->type != 0) || bytes[2] != 0 || bytes[3] != 0)
@@ -216,6 +230,8 @@ static enum input read_frame(struct frame *frame)
         return NO_FRAME;
     if (call->kind == INSTANTIATE && (!skip_text(call->first) || !skip_text(call->second)))
         return NO_FRAME;
+    if (call->kind == DESERIALIZE && !read_state(call->reference, call->state))
+        return NO_FRAME;
     frame->is_batch = false;
     frame->count = 1;
     return A_FRAME;
@@ -233,8 +249,8 @@ static void put_reply(unsigned char *bytes, int kind, const struct reply *reply)
 }
 
 /*
- * Writes so many replies to a frame on standard output: to a batch with a head that counts them. ssprun sends the next
- * frame only after them, so they leave at once.
+ * Writes so many replies to a frame on standard output: to a batch with a head that counts them, to Serialize with the
+ * bytes of the state. ssprun sends the next frame only after them, so they leave at once.
  */
 static bool write_replies(const struct frame *frame, const struct reply *given, int count)
 {
@@ -244,7 +260,9 @@ static bool write_replies(const struct frame *frame, const struct reply *given, 
         put_reply(bytes + FRAME_LENGTH * (i + 1), frame->calls[i].kind, &given[i]);
     size_t skipped = frame->is_batch ? 0 : FRAME_LENGTH;
     size_t length = (size_t)FRAME_LENGTH * (size_t)(count + 1) - skipped;
-    return fwrite(bytes + skipped, 1, length, stdout) == length && fflush(stdout) == 0;
+    size_t followed = frame->calls[0].kind == SERIALIZE ? given[0].qualifier : 0;
+    return fwrite(bytes + skipped, 1, length, stdout) == length &&
+        fwrite(given[0].state, 1, followed, stdout) == followed && fflush(stdout) == 0;
 }
 
 /* ---- The model: each step adds `inc` to a count, and `y` shows it */
@@ -261,12 +279,12 @@ struct counter {
     uint64_t inc;
     uint64_t long_step;
     uint64_t count;
-    uint64_t saved_count;
+    unsigned char saved[STATE_LENGTH];
     bool is_saved;
 };
 
-static const struct reply done = {OK, 0, 0, 0, 0};
-static const struct reply refused = {ERROR, 0, 0, 0, 0};
+static const struct reply done = {.status = OK};
+static const struct reply refused = {.status = ERROR};
 
 /* All times are counts, of which a second has R. This model knows no time but the size of its step. */
 static struct reply do_step(struct counter *counter, uint64_t point, uint64_t size)
@@ -304,12 +322,14 @@ static struct reply set(struct counter *counter, uint32_t reference, uint64_t wo
     }
 }
 
-/* One state can be saved. The parameters stay as they are once steps are made, so the count is all of it. */
+/* One state can be saved, as bytes: the count and both parameters. */
 static struct reply save(struct counter *counter)
 {
     if (counter->is_saved)
         return refused;
-    counter->saved_count = counter->count;
+    write_number(counter->saved, 8, counter->count);
+    write_number(counter->saved + 8, 8, counter->inc);
+    write_number(counter->saved + 16, 8, counter->long_step);
     counter->is_saved = true;
     return done;
 }
@@ -318,7 +338,29 @@ static struct reply restore(struct counter *counter)
 {
     if (!counter->is_saved)
         return refused;
-    counter->count = counter->saved_count;
+    counter->count = read_number(counter->saved, 8);
+    counter->inc = read_number(counter->saved + 8, 8);
+    counter->long_step = read_number(counter->saved + 16, 8);
+    return done;
+}
+
+static struct reply serialize(const struct counter *counter)
+{
+    struct reply reply = done;
+    if (!counter->is_saved)
+        return refused;
+    reply.qualifier = STATE_LENGTH;
+    memcpy(reply.state, counter->saved, STATE_LENGTH);
+    return reply;
+}
+
+/* What another instance gave is saved here. */
+static struct reply deserialize(struct counter *counter, const struct call *call)
+{
+    if (counter->is_saved || call->reference != STATE_LENGTH)
+        return refused;
+    memcpy(counter->saved, call->state, STATE_LENGTH);
+    counter->is_saved = true;
     return done;
 }
 
@@ -348,6 +390,8 @@ static struct reply answer(struct counter *counter, const struct call *call)
     case SAVE: return save(counter);
     case RESTORE: return restore(counter);
     case FREE: return free_saved(counter);
+    case SERIALIZE: return serialize(counter);
+    case DESERIALIZE: return deserialize(counter, call);
 
     /* It has no clocks. */
     case GET_CLOCK: case SET_CLOCK: case GET_INTERVAL: case GET_SHIFT: return refused;
@@ -438,7 +482,7 @@ int main(int count, char **words)
         fprintf(stderr, "counter_host: can't read %s/modelDescription.xml\n", words[1]);
         return 3;
     }
-    struct counter counter = {0, 0, 0, 0, false};
+    struct counter counter = {.count = 0};
     counter.inc = find_start(description, INC);
     counter.long_step = find_start(description, LONG);
     free(description);

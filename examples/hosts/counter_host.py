@@ -43,6 +43,8 @@ class Kind(IntEnum):
     FREE = 16
     TERMINATE = 17
     FREE_INSTANCE = 18
+    SERIALIZE = 20
+    DESERIALIZE = 21
 
 
 class Status(IntEnum):
@@ -94,6 +96,7 @@ USED_FIELDS = {
     Kind.SET_CLOCK: {"reference"},
     Kind.GET_INTERVAL: {"reference"},
     Kind.GET_SHIFT: {"reference"},
+    Kind.DESERIALIZE: {"reference", "first", "second"},
 }
 
 LONGEST_TEXT = 2**24
@@ -111,6 +114,7 @@ class Call(NamedTuple):
     second: int
     name: str = ""
     token: str = ""
+    state: bytes = b""
 
 
 def value_of(type_number, word):
@@ -135,10 +139,16 @@ def read_bytes(stream, length):
     return data
 
 
-def read_text(stream, length):
+def read_behind(stream, length):
+    """So many bytes that follow the beginning of a frame."""
     data = read_bytes(stream, length)
     if len(data) < length:
         raise NoFrame("the input ends inside a frame")
+    return data
+
+
+def read_text(stream, length):
+    data = read_behind(stream, length)
     try:
         return data.decode("utf-8")
     except UnicodeDecodeError as error:
@@ -190,6 +200,8 @@ def read_frame(stream):
     if data[0] == BATCH:
         return read_batch(stream, data)
     call = take_call(data)
+    if call.kind == Kind.DESERIALIZE:
+        return call._replace(state=read_behind(stream, call.reference))
     if call.kind != Kind.INSTANTIATE:
         return call
     return call._replace(name=read_text(stream, call.first), token=read_text(stream, call.second))
@@ -225,10 +237,21 @@ class Counter:
     def __init__(self, starts):
         self.parameters = {self.INC: starts.get(self.INC, 0), self.LONG: starts.get(self.LONG, 0)}
         self.count = 0
-        self.saved_count = None
+        self.saved = None
+
+    # A state: the words of the count and of both parameters, as bytes.
+    STATE = struct.Struct(">QQQ")
+
+    def state(self):
+        return self.STATE.pack(*map(word_of, (self.count, self.parameters[self.INC], self.parameters[self.LONG])))
+
+    def set_state(self, state):
+        count, inc, long = self.STATE.unpack(state)
+        self.count = count
+        self.parameters = {self.INC: value_of(7, inc), self.LONG: value_of(7, long)}
 
     def answer(self, call):
-        """Does what a call asks for, and gives the frame of the reply."""
+        """Does what a call asks for, and gives the frame of the reply, with the bytes that follow it."""
         refused = reply(call.kind, Status.ERROR)
 
         if call.kind == Kind.DO_STEP:
@@ -257,22 +280,27 @@ class Counter:
             self.parameters[call.reference] = value_of(call.type, call.first)
             return reply(call.kind)
 
-        # One state can be saved. The parameters stay as they are once steps are made, so the count is all of it.
+        # One state can be saved: the model's own, or one whose bytes another instance gave.
         if call.kind == Kind.SAVE:
-            if self.saved_count is not None:
+            if self.saved is not None:
                 return refused
-            self.saved_count = self.count
+            self.saved = self.state()
             return reply(call.kind)
-        if call.kind == Kind.RESTORE:
-            if self.saved_count is None:
+        if call.kind == Kind.DESERIALIZE:
+            if self.saved is not None or len(call.state) != self.STATE.size:
                 return refused
-            self.count = self.saved_count
+            self.saved = call.state
+            return reply(call.kind)
+        if call.kind in (Kind.RESTORE, Kind.FREE, Kind.SERIALIZE) and self.saved is None:
+            return refused
+        if call.kind == Kind.RESTORE:
+            self.set_state(self.saved)
             return reply(call.kind)
         if call.kind == Kind.FREE:
-            if self.saved_count is None:
-                return refused
-            self.saved_count = None
+            self.saved = None
             return reply(call.kind)
+        if call.kind == Kind.SERIALIZE:
+            return reply(call.kind, qualifier=len(self.saved)) + self.saved
 
         # It has no clocks.
         if call.kind in (Kind.GET_CLOCK, Kind.SET_CLOCK, Kind.GET_INTERVAL, Kind.GET_SHIFT):

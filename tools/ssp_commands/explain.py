@@ -26,7 +26,16 @@ LINES = (
         "Look at DIR and at the `source` of the component or the binding: a component lies in DIR/SOURCE, unpacked.",
     ),
     (r"read (?P<file>\S+)", "This file is there, or something in its place, and can't be read.", "See whether it may be read."),
-    (r"big (?P<file>\S+)", "This file has more than 16 MiB, a limit of the program.", "Take out what isn't needed, or split it."),
+    (
+        r"big (?P<file>\S+)",
+        "This file has more than 16 MiB, or a checkpoint more than 512 MiB, a limit of the program.",
+        "Take out what isn't needed, or split it.",
+    ),
+    (
+        r"checkpoint (?P<file>\S+) (?P<byte>\d+)",
+        "This file holds no checkpoint of that system: byte {byte}, counted from 0, shows it, or the file ends there.",
+        "Look whether it was written whole, by `checkpoint` of the same system in the same state of its files (docs/TWO_PARTS.md).",
+    ),
     (
         r"unknown (?P<component>\S+)",
         "No machine that is part of the program has the model identifier of this component.",

@@ -13,31 +13,34 @@ BEGIN {
     options["check"] = "resolution"
     options["trace-check"] = ""
     options["bench"] = "workers"
+    options["checkpoint"] = "at " run
+    options["resume"] = "workers link host"
     needed["one"] = needed["run"] = "resolution step stop"
+    needed["checkpoint"] = "at resolution step stop"
     needed["check"] = "resolution"
-    positionals["one"] = positionals["run"] = positionals["check"] = "DIR"
-    positionals["trace-check"] = "DIR FILE"
+    positionals["one"] = positionals["run"] = positionals["checkpoint"] = positionals["check"] = "DIR"
+    positionals["trace-check"] = positionals["resume"] = "DIR FILE"
     positionals["bench"] = "SEED N"
     least_of["resolution"] = least_of["step"] = least_of["workers"] = least_of["max-iterations"] = least_of["link"] = "1"
-    least_of["stop"] = least_of["start"] = least_of["SEED"] = "0"
+    least_of["stop"] = least_of["start"] = least_of["at"] = least_of["SEED"] = "0"
     least_of["N"] = "1"
-    most_of["resolution"] = most_of["step"] = most_of["stop"] = most_of["start"] = most
+    most_of["resolution"] = most_of["step"] = most_of["stop"] = most_of["start"] = most_of["at"] = most
     most_of["workers"] = "64"
     most_of["link"] = "2"
     most_of["SEED"] = "2147483647"
     most_of["N"] = "256"
     most_of["max-iterations"] = "10000"
     is["resolution"] = "counts a second"
-    is["step"] = is["stop"] = is["start"] = "counts"
+    is["step"] = is["stop"] = is["start"] = is["at"] = "counts"
     is["workers"] = "workers"
     is["SEED"] = "what the system is drawn by"
     is["N"] = "components"
     is["max-iterations"] = "instants at a point"
     is["link"] = "the version of the link"
 
-    if (ARGC < 2) fault("a command is missing: one, run, check, trace-check or bench")
+    if (ARGC < 2) fault("a command is missing: one, run, checkpoint, resume, check, trace-check or bench")
     command = ARGV[1]
-    if (!(command in options)) fault("`" command "` is no command; there are one, run, check, trace-check and bench")
+    if (!(command in options)) fault("`" command "` is no command; there are one, run, checkpoint, resume, check, trace-check and bench")
     read_words()
     count = split(positionals[command], names, " ")
     if (found < count) fault(names[found + 1] " is missing: " about[names[found + 1]])
@@ -45,6 +48,10 @@ BEGIN {
     for (i = 1; i <= count; i++) if (!(names[i] in value)) fault("--" names[i] " is missing: " wanted(names[i]))
     if ("start" in value && is_less(value["stop"], value["start"]))
         fault("--start " value["start"] " is above --stop " value["stop"])
+    if ("at" in value && "start" in value && is_less(value["at"], value["start"]))
+        fault("--at " value["at"] " is below --start " value["start"])
+    if ("at" in value && !is_less(value["at"], value["stop"]))
+        fault("--at " value["at"] " isn't below --stop " value["stop"])
     print places
     exit 0
 }
@@ -58,7 +65,7 @@ function fault(text) {
 # The positionals and options after the command.
 function read_words(   i, word, name, at) {
     about["DIR"] = "the folder of the system, or of the FMU"
-    about["FILE"] = "the file of a trace"
+    about["FILE"] = command == "resume" ? "the file of a checkpoint" : "the file of a trace"
     about["SEED"] = wanted("SEED")
     about["N"] = wanted("N")
     for (i = 2; i < ARGC; i++) {

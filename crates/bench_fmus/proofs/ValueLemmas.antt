@@ -81,12 +81,12 @@ written_map [] f g reference value each = refl
 written_map (v ∷ vs) f g reference value each =
     ap (λ (x : ℤ). x ∷ map g vs) (each 0 v refl) ∙ ap (λ (xs : List ℤ). (if v.reference == reference then value else f v) ∷ xs) (written_map vs f g reference value (λ k. each (suc k)))
 
-set_here : (values : List ℤ) (k : ℕ) (value : ℤ) → k < length values → slice_get (set values k value) k ≡ Some value
+pub set_here : (values : List ℤ) (k : ℕ) (value : ℤ) → k < length values → slice_get (set values k value) k ≡ Some value
 set_here [] k value within = absurd (omega arith)
 set_here (x ∷ xs) zero value within = refl
 set_here (x ∷ xs) (suc k) value within = set_here xs k value (omega arith)
 
-set_there : (values : List ℤ) (k j : ℕ) (value : ℤ) → (k ≡ j → ⊥) → slice_get (set values k value) j ≡ slice_get values j
+pub set_there : (values : List ℤ) (k j : ℕ) (value : ℤ) → (k ≡ j → ⊥) → slice_get (set values k value) j ≡ slice_get values j
 set_there [] k j value apart = refl
 set_there (x ∷ xs) zero zero value apart = absurd (apart refl)
 set_there (x ∷ xs) zero (suc j) value apart = refl

@@ -1,98 +1,25 @@
--- What the built-in machines have in common: the numbers of a state, the values under references, and the machine that a behaviour makes.
-use Rattle.std.specs.Prelude.{ℕ, ◌+◌, ◌==◌, ℤ, pos, ◌+ℤ◌, int_lt, Bool, true, false, List, [], ◌∷◌, slice_index_or, filter, map, Option, Some, None, unwrap_or, if◌then◌else◌}
-use Rattle.std.specs.Ordering.{int_eq}
+-- What the built-in machines have in common: the machine that a behaviour makes.
+use Rattle.std.specs.Prelude.{ℕ, ◌+◌, ◌==◌, ◌^◌, ◌&&◌, ℤ, pos, nat_le, not, Bool, true, false, List, filter, map, Option, Some, None, is_some, unwrap_or, if◌then◌else◌}
 use Rattle.clock_fraction.specs.declared.fraction.Fraction.{Fraction}
 use Rattle.value_types.specs.Shape.{is_at, is_declared}
 use Rattle.value_types.specs.Values.{word_of}
 use Rattle.value_types.specs.declared.values.PortType.TheVariants.{Clock}
 use Rattle.value_types.specs.declared.shape.Variable.{Variable}
 use Rattle.value_types.specs.declared.shape.Shape.{Shape}
+use Rattle.fmi_calls.specs.declared.call.BadStatus.TheVariants.{Error}
 use Rattle.fmi_calls.specs.declared.call.Call.{Call}
 use Rattle.fmi_calls.specs.declared.call.Call.TheVariants as C
 use Rattle.fmi_calls.specs.declared.call.Content.{Content}
 use Rattle.fmi_calls.specs.declared.call.Content.TheVariants as A
 use Rattle.fmi_calls.specs.declared.call.Interval.{Interval}
-use Rattle.fmi_calls.specs.declared.call.Reply.TheVariants.{Done}
-use Rattle.fmu_peer.specs.Machine.{Machine, MachineState, mark_after, value_at}
+use Rattle.fmi_calls.specs.declared.call.Kind.TheVariants as K
+use Rattle.fmi_calls.specs.declared.call.Reply.{Reply}
+use Rattle.fmi_calls.specs.declared.call.Reply.TheVariants.{Done, Refused}
+use Rattle.fmu_peer.specs.Machine.{Machine, MachineState, SavedMachine, mark_after}
 use Rattle.fmi_calls.specs.Permission.{is_input_clock}
-use Rattle.bench_fmus.specs.Wrapping.{count_of, wrapped, wrapped_int64}
-
--- ---- a state
-
--- the mark of Initialization Mode, a value that is held, a count, the point of time, and whether what happens once has happened
-pub record Numbers : Type 0 where
-  pub mark : ℤ
-  pub held : ℤ
-  pub count : ℤ
-  pub point : ℤ
-  pub fired : ℤ
-
--- the numbers as a state has them
-abbrev pub listed : Numbers → List ℤ
-listed n = n.mark ∷ n.held ∷ n.count ∷ n.point ∷ n.fired ∷ []
-
--- the numbers that a state has; one that is missing is 0
-abbrev pub numbers_in : List ℤ → Numbers
-numbers_in xs = record {
-  mark = slice_index_or xs 0 (pos 0);
-  held = slice_index_or xs 1 (pos 0);
-  count = slice_index_or xs 2 (pos 0);
-  point = slice_index_or xs 3 (pos 0);
-  fired = slice_index_or xs 4 (pos 0);
-}
-
--- before the first call
-abbrev pub at_first : Numbers
-at_first = record { mark = pos 0; held = pos 0; count = pos 0; point = pos 0; fired = pos 0 }
-
--- the count goes on by one
-abbrev pub one_more : Numbers → Numbers
-one_more n = record n { count = wrapped_int64 (n.count +ℤ pos 1) }
-
--- the state is in Initialization Mode
-abbrev pub is_in_initialization : Numbers → Bool
-is_in_initialization n = int_lt (pos 0) n.mark
-
--- what happens once has happened
-abbrev pub has_fired : Numbers → Bool
-has_fired n = int_lt (pos 0) n.fired
-
--- a variable's first value
-abbrev pub start_of : Variable → ℤ
-start_of v = unwrap_or v.start (pos 0)
-
--- the value under a reference, or 0 where no variable has it
-abbrev pub value_of : List Variable → List ℤ → ℕ → ℤ
-value_of variables values reference = unwrap_or (value_at variables values reference) (pos 0)
-
--- the Clock under a reference is active
-abbrev pub is_ticking : List Variable → List ℤ → ℕ → Bool
-is_ticking variables values reference = int_eq (value_of variables values reference) (pos 1)
-
--- a fraction of a second, by the counts under two references
-abbrev pub fraction_at : List Variable → List ℤ → ℕ → ℕ → Fraction
-fraction_at variables values counter resolution = record {
-  counter = count_of (value_of variables values counter);
-  resolution = count_of (value_of variables values resolution);
-}
-
--- what is told of no fraction: all of it is 0
-abbrev pub no_fraction : Fraction
-no_fraction = record { counter = 0; resolution = 0 }
-
--- the values as the references have them: of several variables with one reference each has the first one's
-abbrev pub spread : List Variable → List ℤ → List ℤ
-spread variables values = map (λ (v : Variable). value_of variables values v.reference) variables
-
--- the first state
-abbrev pub first_state : List Variable → MachineState
-first_state variables = record {
-  numbers = listed at_first;
-  values = spread variables (map start_of variables);
-  slot = None;
-}
-
--- ---- a machine
+use Rattle.bench_fmus.specs.Wrapping.{wrapped}
+use Rattle.bench_fmus.specs.Packed.{packed, packed_size, unpacked}
+pub use Rattle.bench_fmus.specs.State.{Numbers, at_first, first_state, fraction_at, has_fired, is_in_initialization, is_ticking, listed, no_fraction, numbers_in, one_more, spread, start_of, value_of}
 
 -- how a machine behaves: what a reference shows, where a step from a point of a size ends early, whether a step of a size asks to end the simulation, whether an Update asks for another, the event time that it asks for, the interval and the shift of the Clock under a reference, and the numbers after a call, mark and point aside; each by the numbers and the values
 pub record Behaviour : Type 0 where
@@ -126,7 +53,7 @@ abbrev pub step_content : Bool → Bool → ℕ → Option ℕ → Content
 step_content has_event_mode terminate bound None = A.DoStep false terminate false bound
 step_content has_event_mode terminate bound (Some end) = A.DoStep has_event_mode terminate true end
 
--- what a reply carries
+-- what a good reply carries
 abbrev pub content_of : Behaviour → Shape → Numbers → List ℤ → Call → Content
 content_of b shape n values (C.DoStep at size) =
     step_content shape.has_event_mode (b.asks_to_end shape.variables values size) (at + size)
@@ -154,6 +81,8 @@ content_of b shape n values C.Restore = A.Restore
 content_of b shape n values C.Free = A.Free
 content_of b shape n values C.Terminate = A.Terminate
 content_of b shape n values C.FreeInstance = A.FreeInstance
+content_of b shape n values C.Serialize = A.Serialize (packed_size shape.variables)
+content_of b shape n values (C.Deserialize length point stop) = A.Deserialize
 
 -- time begins with EnterInitialization, and goes on to the end of each step
 abbrev pub point_after : Behaviour → Shape → ℤ → List ℤ → Call → ℤ
@@ -169,12 +98,33 @@ numbers_after b shape n values call = record (b.changed shape n values call) {
   point = point_after b shape n.point values call;
 }
 
+-- a state that is serialized has to be saved, and its bytes may not pass 2^20
+abbrev pub is_packable : Shape → Option SavedMachine → Bool
+is_packable shape slot = is_some slot && nat_le (packed_size shape.variables) (2 ^ 20)
+
+-- the call is answered by Error
+abbrev pub is_refused : Shape → Option SavedMachine → Call → Bool
+is_refused shape slot C.Serialize = not (is_packable shape slot)
+is_refused shape slot _ = false
+
+abbrev pub reply_of : Behaviour → Shape → MachineState → Call → Reply
+reply_of b shape s call =
+    if is_refused shape s.slot call then Refused K.Serialize Error
+    else Done false (content_of b shape (numbers_in s.numbers) s.values call)
+
+-- the reply to a Deserialize: bytes that aren't those of a state are answered by Error
+abbrev pub reply_to_bytes : Option SavedMachine → Reply
+reply_to_bytes (Some kept) = Done false A.Deserialize
+reply_to_bytes None = Refused K.Deserialize Error
+
 abbrev pub machine_of : Behaviour → Shape → Machine
 machine_of b shape = record {
   references = map (λ (v : Variable). v.reference) shape.variables;
   clocks = map (λ (v : Variable). v.reference) (filter is_input_clock shape.variables);
   first = first_state shape.variables;
   initializing = λ numbers. is_in_initialization (numbers_in numbers);
-  look = λ s call. Done false (content_of b shape (numbers_in s.numbers) s.values call);
+  look = reply_of b shape;
   change = λ s call. listed (numbers_after b shape (numbers_in s.numbers) s.values call);
+  packing = record { pack = packed shape.variables; unpack = unpacked shape.variables };
+  look_at = λ s call bytes. reply_to_bytes (unpacked shape.variables bytes);
 }

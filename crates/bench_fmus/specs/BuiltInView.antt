@@ -28,6 +28,12 @@ built_in_reply b call =
     (machine_of (behaviour_of b.model) b.book.shape).look
     (state_in b.book.shape.variables b.state) call
 
+-- what it answers to a Deserialize of these bytes
+abbrev pub built_in_reply_at : BuiltIn → Call → List ℕ → Reply
+built_in_reply_at b call bytes =
+    (machine_of (behaviour_of b.model) b.book.shape).look_at
+    (state_in b.book.shape.variables b.state) call bytes
+
 pub fewer_views : (peers : List BuiltIn) (n : ℕ) → length peers ≤ n →
     length (map built_in_view peers) ≤ n
 fewer_views peers n fewer = rw length-map fewer

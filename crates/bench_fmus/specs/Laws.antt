@@ -1,8 +1,8 @@
 -- The built-in machines meet the laws of a peer.
 use Rattle.std.proofs.Common.{◌≡◌, ℕ, zero, suc, ◌<◌, ◌==◌, Bool, true, false, List, [], ◌∷◌, length, Option, Some, None, IsSomeAnd, ℤ, pos, ◌*ℤ◌, unwrap_or, option_and_then, if◌then◌else◌, refl, sym, ap, ap₂, ◌∙◌, subst, arith}
 use Rattle.std.specs.List.{slice_get}
-use Rattle.std.specs.Option.{option_map_or}
-use Rattle.std.specs.Prelude.{◌&&◌, not}
+use Rattle.std.specs.Option.{option_map, option_map_or}
+use Rattle.std.specs.Prelude.{◌&&◌, int_lt, not, IsSome}
 use Rattle.std.proofs.lemmas.Bool.{eqb-true}
 use Rattle.std.proofs.lemmas.List.{length-map}
 use Rattle.std.proofs.lemmas.Option.{same_Some}
@@ -14,11 +14,15 @@ use Rattle.value_types.proofs.CallerLemmas.{find_placed, placed_within}
 use Rattle.fmi_calls.specs.declared.call.Call.{Call}
 use Rattle.fmi_calls.specs.declared.call.Call.TheVariants as C
 use Rattle.fmi_calls.specs.declared.call.Content.TheVariants as A
-use Rattle.fmi_calls.specs.declared.call.Reply.TheVariants.{Done}
-use Rattle.fmu_peer.specs.Machine.{IgnoresSlot, IsLawful, IsMachineOf, MachineState, changes_mode}
+use Rattle.fmi_calls.specs.declared.call.BadStatus.TheVariants.{Error}
+use Rattle.fmi_calls.specs.declared.call.Kind.TheVariants as K
+use Rattle.fmi_calls.specs.declared.call.Reply.TheVariants.{Done, Refused}
+use Rattle.fmi_calls.specs.KindFacts.{keeps_state}
+use Rattle.fmu_peer.specs.Machine.{IgnoresSlot, IsLawful, IsMachineOf, MachineState, SavedMachine, UnpacksWell, changes_mode, is_discard}
 use Rattle.bench_fmus.specs.declared.model.Model.{Model}
 use Rattle.bench_fmus.specs.declared.model.Model.TheVariants.{Counter, Gain, Sampler, Alarm, Timer, Relay, Settle, Pulse, Waker}
-use Rattle.bench_fmus.specs.BuiltIn.{Behaviour, Numbers, count_at, is_declared_at, is_in_initialization, machine_of, numbers_after, numbers_in, seen_by, value_of}
+use Rattle.bench_fmus.specs.BuiltIn.{Behaviour, Numbers, content_of, count_at, is_declared_at, is_in_initialization, is_refused, listed, machine_of, numbers_after, numbers_in, reply_of, reply_to_bytes, seen_by, spread, value_of}
+use Rattle.bench_fmus.specs.Packed.{CanStand, read_numbers, unpacked}
 use Rattle.bench_fmus.specs.Counter.{counter}
 use Rattle.bench_fmus.specs.Gain.{factor, gain, product}
 use Rattle.bench_fmus.specs.Sampler.{sampler}
@@ -62,6 +66,28 @@ keeps_mark b shape s C.Restore other = refl
 keeps_mark b shape s C.Free other = refl
 keeps_mark b shape s C.Terminate other = refl
 keeps_mark b shape s C.FreeInstance other = refl
+keeps_mark b shape s C.Serialize other = refl
+keeps_mark b shape s (C.Deserialize length point stop) other = refl
+
+-- no call but Serialize is refused: none that changes the mode
+mode_refused : (shape : Shape) (slot : Option SavedMachine) (call : Call) →
+    changes_mode call ≡ true → is_refused shape slot call ≡ false
+mode_refused shape slot C.Serialize changes = absurd (cc)
+mode_refused shape slot call changes = refl
+
+-- and none but those that save, restore and free a state
+plain_refused : (shape : Shape) (slot : Option SavedMachine) (call : Call) →
+    keeps_state call ≡ false → is_refused shape slot call ≡ false
+plain_refused shape slot C.Serialize other = absurd (cc)
+plain_refused shape slot call other = refl
+
+-- a call that isn't refused gets a good reply
+pub not_refused : (b : Behaviour) (shape : Shape) (s : MachineState) (call : Call) →
+    is_refused shape s.slot call ≡ false → reply_of b shape s call ≡
+    Done false (content_of b shape (numbers_in s.numbers) s.values call)
+not_refused b shape s call is =
+    ap (λ (q : Bool). if q then Refused K.Serialize Error
+    else Done false (content_of b shape (numbers_in s.numbers) s.values call)) is
 
 pub machine_is : (b : Behaviour) (shape : Shape) → IsMachineOf shape (machine_of b shape)
 machine_is b shape = record {
@@ -73,7 +99,8 @@ machine_is b shape = record {
   enters = λ s start stop. refl;
   exits = λ s. refl;
   keeps = keeps_mark b shape;
-  undiscarded = λ s call changes. refl;
+  undiscarded = λ s call changes.
+      ap is_discard (not_refused b shape s call (mode_refused shape s.slot call changes));
 }
 
 pub is_machine : (model : Model) (shape : Shape) →
@@ -83,7 +110,56 @@ is_machine model shape = machine_is (behaviour_of model) shape
 pub answers_alike : (model : Model) (shape : Shape) →
     IgnoresSlot (machine_of (behaviour_of model) shape)
 answers_alike model shape =
-    record { looks = λ call s slot other. refl; changes = λ call s slot other. refl }
+    record {
+      looks = λ call s slot other.
+          let b : Behaviour = behaviour_of model in
+          not_refused b shape (record s { slot = slot }) call
+          (plain_refused shape slot call other) ∙
+          sym (not_refused b shape s call (plain_refused shape s.slot call other));
+      changes = λ call s slot other. refl;
+    }
+
+-- ---- states as bytes
+
+-- what is read is outside Initialization Mode
+read_outside : (read : Option Numbers) (variables : List Variable)
+    (rest : Option (List ℤ)) (kept : SavedMachine) →
+    ((n : Numbers) → read ≡ Some n → n.mark ≡ pos 0) →
+    option_and_then (λ (n : Numbers). option_map (λ (values : List ℤ).
+    record { numbers = listed n; values = spread variables values }) rest) read ≡ Some kept →
+    is_in_initialization (numbers_in kept.numbers) ≡ false
+read_outside None variables rest kept outside is = absurd (cc)
+read_outside (Some n) variables None kept outside is = absurd (cc)
+read_outside (Some n) variables (Some values) kept outside is =
+    ap (λ (k : SavedMachine). is_in_initialization (numbers_in k.numbers))
+    (sym (same_Some _ kept is)) ∙ ap (λ (x : ℤ). int_lt (pos 0) x) (outside n refl)
+
+marked_none : (bad : Bool) (o : Numbers) (n : Numbers) → o.mark ≡ pos 0 →
+    (if bad then None else Some o) ≡ Some n → n.mark ≡ pos 0
+marked_none true o n mark is = absurd (cc)
+marked_none false o n mark is =
+    ap (λ (m : Numbers). m.mark) (sym (same_Some o n is)) ∙ mark
+
+filled : (o : Option SavedMachine) (is_warning : Bool) →
+    reply_to_bytes o ≡ Done is_warning A.Deserialize → IsSome o
+filled (Some kept) is_warning is = refl
+filled None is_warning is = absurd (cc)
+
+pub unpacks_well : (model : Model) (shape : Shape) →
+    UnpacksWell (machine_of (behaviour_of model) shape)
+unpacks_well model shape = record {
+  outside = λ bytes kept is.
+      read_outside (read_numbers bytes) shape.variables _ kept
+      (λ n read. marked_none _ _ n refl read) is;
+  fills = λ s call bytes is_warning is. filled (unpacked shape.variables bytes) is_warning is;
+}
+
+-- a state that a machine can have in Step Mode is the one that its bytes are read back as
+abbrev pub StatesReadBack : Type 0
+StatesReadBack = (model : Model) (shape : Shape) (kept : SavedMachine) →
+    CanStand shape.variables kept →
+    (machine_of (behaviour_of model) shape).packing.unpack
+    ((machine_of (behaviour_of model) shape).packing.pack kept) ≡ Some kept
 
 -- ---- what outputs show
 
@@ -201,6 +277,8 @@ own_is_lawful b shape own C.Restore output s xs ys looked found mode agree = ref
 own_is_lawful b shape own C.Free output s xs ys looked found mode agree = refl
 own_is_lawful b shape own C.Terminate output s xs ys looked found mode agree = refl
 own_is_lawful b shape own C.FreeInstance output s xs ys looked found mode agree = refl
+own_is_lawful b shape own C.Serialize output s xs ys looked found mode agree = refl
+own_is_lawful b shape own (C.Deserialize length point stop) output s xs ys looked found mode agree = refl
 
 -- ---- each machine
 

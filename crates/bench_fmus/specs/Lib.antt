@@ -1,4 +1,6 @@
 pub mod Wrapping
+pub mod State
+pub mod Packed
 pub mod BuiltIn
 pub mod Counter
 pub mod Gain

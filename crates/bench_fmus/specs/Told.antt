@@ -10,7 +10,8 @@ use Rattle.bench_fmus.specs.declared.origin.Origin as code
 use Rattle.bench_fmus.specs.declared.built_in_state.Numbers as numbers
 use Rattle.bench_fmus.specs.declared.built_in_state.BuiltInState.{BuiltInState}
 use Rattle.bench_fmus.specs.declared.saved_state.SavedState.{SavedState}
-use Rattle.bench_fmus.specs.BuiltIn.{Numbers, listed, spread}
+use Rattle.bench_fmus.specs.Packed.{ordered}
+use Rattle.bench_fmus.specs.State.{Numbers, listed, spread}
 
 -- the exchanges in a talk's room
 abbrev pub talk_in : Option TalkRoom → Option (List Exchange)
@@ -35,13 +36,14 @@ told n = record {
   fired = number_of_flag n.has_fired;
 }
 
--- what Save kept, where a state is saved
+-- what Save kept, or bytes were read back as
+abbrev pub saved_in : List Variable → SavedState → SavedMachine
+saved_in variables s =
+    record { numbers = listed (told s.numbers); values = spread variables s.values.items }
+
+-- the same, where a state is saved
 abbrev pub slot_in : List Variable → SavedState → Option SavedMachine
-slot_in variables s =
-    if s.is_full then Some (record {
-      numbers = listed (told s.numbers);
-      values = spread variables s.values.items;
-    }) else None
+slot_in variables s = if s.is_full then Some (saved_in variables s) else None
 
 abbrev pub values_in : List Variable → BuiltInState → List ℤ
 values_in variables s = spread variables s.values.items
@@ -53,7 +55,8 @@ state_in variables s = record {
   slot = slot_in variables s.saved;
 }
 
--- there is a value for each variable, and room to save the values
+-- there is a value for each variable, and room to save the values, and the order of references is that of the shape
 pub record HasRoom (shape : Shape) (s : BuiltInState) : Type 0 where
   pub values : length s.values.items ≡ length shape.variables
   pub saved : length s.saved.values.items ≡ length shape.variables
+  pub order : s.order.items ≡ ordered shape.variables

@@ -1,4 +1,4 @@
-ghost use Rattle.std.specs.Prelude.{◌≡◌, IfOk, option_map};
+ghost use Rattle.std.specs.Prelude.{◌≡◌, ◌≤◌, ◌^◌, IfOk, [], false, length, option_map, vec_capacity};
 ghost use Rattle.fmi_calls.specs.Permission.{Permitted};
 ghost use Rattle.fmu_peer.specs.Machine.{IsInPhase};
 ghost use Rattle.bench_fmus.specs.BuiltIn.{first_state, machine_of};
@@ -68,10 +68,11 @@ impl BuiltIn {
 
 impl Peer for BuiltIn {
     ghost use Rattle.std.specs.Prelude.{if◌then◌else◌, Ok, Err};
-    ghost use Rattle.fmu_peer.specs.View.{Asked};
+    ghost use Rattle.fmi_calls.specs.declared.call.Call.{Call};
+    ghost use Rattle.fmu_peer.specs.View.{Asked, AskedWith, IsDeserialize, Serializes, carries_bytes};
     ghost use Rattle.fmu_peer.specs.Book.{fills_next};
-    ghost use Rattle.bench_fmus.specs.BuiltInView.{built_in_reply, built_in_view};
-    ghost use Rattle.bench_fmus.specs.Laws.{answers_alike, is_lawful, is_machine};
+    ghost use Rattle.bench_fmus.specs.BuiltInView.{built_in_reply, built_in_reply_at, built_in_view};
+    ghost use Rattle.bench_fmus.specs.Laws.{answers_alike, is_lawful, is_machine, unpacks_well};
 
     ghost view = { built_in_view };
 
@@ -80,6 +81,8 @@ impl Peer for BuiltIn {
     ghost in_phase = { λ b. b.in_phase };
 
     ghost ignores_slot = { λ b. answers_alike b.model b.book.shape };
+
+    ghost unpacks = { λ b. unpacks_well b.model b.book.shape };
 
     ghost lawful = { λ b. is_lawful b.model b.book.shape };
 
@@ -92,7 +95,8 @@ impl Peer for BuiltIn {
     }
 
     fn call(&mut self, call: &Call) -> Result<Reply, PeerFault>
-        requires { Permitted self.old.book.shape self.old.book.phase call.now }
+        requires permitted { Permitted self.old.book.shape self.old.book.phase call.now }
+        requires plain { carries_bytes call.now ≡ false }
         ensures asked { Asked (built_in_view self.old) call.now result (built_in_view self.new) }
         ensures answers { result ≡
             (if fills_next self.old.book.talk then Err PeerFault.Failed else Ok
@@ -102,14 +106,46 @@ impl Peer for BuiltIn {
     {
         let book = &self.book;
         let model = self.model;
-        let content = self.state.content(model, &book.shape, &book.phase, call);
+        let reply = self.state.reply(model, &book.shape, &book.phase, call);
         self.state.change(model, &book.shape, &book.phase, call);
-        self.book.keep(
-            call,
-            Ok(Reply::Done {
-                is_warning: false,
-                content,
-            }),
-        )
+        self.book.keep(call, Ok(reply))
+    }
+
+    fn serialize(&mut self, into: &mut Vec<u8>) -> Result<Reply, PeerFault>
+        requires permitted { Permitted self.old.book.shape self.old.book.phase Call.Serialize }
+        requires empty { into.old.items ≡ [] }
+        requires room { 2 ^ 20 ≤ vec_capacity into.old }
+        ensures asked { Asked (built_in_view self.old) Call.Serialize result
+            (built_in_view self.new) }
+        ensures bytes { Serializes (built_in_view self.old) result into.new.items }
+        ensures room { vec_capacity into.old ≤ vec_capacity into.new }
+        ensures answers { result ≡
+            (if fills_next self.old.book.talk then Err PeerFault.Failed else Ok
+            (built_in_reply self.old Call.Serialize)) }
+        ensures talk { option_map (λ t. t.room) self.new.book.talk ≡
+            option_map (λ t. t.room) self.old.book.talk }
+    {
+        let book = &self.book;
+        let call = Call::Serialize;
+        let reply = self
+            .state
+            .reply(self.model, &book.shape, &book.phase, &call);
+        self.state.serialize(&book.shape, into);
+        self.book.keep(&call, Ok(reply))
+    }
+
+    fn deserialize(&mut self, call: &Call, bytes: &[u8]) -> Result<Reply, PeerFault>
+        requires permitted { Permitted self.old.book.shape self.old.book.phase call.now }
+        requires length { IsDeserialize call.now (length bytes.now) }
+        ensures asked { AskedWith (built_in_view self.old) call.now bytes.now result
+            (built_in_view self.new) }
+        ensures answers { result ≡
+            (if fills_next self.old.book.talk then Err PeerFault.Failed else Ok
+            (built_in_reply_at self.old call.now bytes.now)) }
+        ensures room { option_map (λ t. t.room) self.new.book.talk ≡
+            option_map (λ t. t.room) self.old.book.talk }
+    {
+        let reply = self.state.deserialize(&self.book.shape, bytes);
+        self.book.keep(call, Ok(reply))
     }
 }

@@ -1,15 +1,16 @@
-ghost use Rattle.std.specs.Prelude.{◌≡◌, ◌+◌, ◌<◌, ◌≤◌, IfOk, false, filter, if◌then◌else◌, int_lt, length, map, pos, set, slice_get, true, unwrap_or};
+ghost use Rattle.std.specs.Prelude.{◌≡◌, ◌+◌, ◌<◌, ◌≤◌, ◌^◌, [], IfOk, false, filter, if◌then◌else◌, int_lt, length, map, pos, set, slice_get, true, unwrap_or, vec_capacity};
 ghost use Rattle.std.specs.Option.{option_map_or};
 ghost use Rattle.fmi_calls.specs.Permission.{Permitted, is_input_clock};
 ghost use Rattle.fmu_peer.specs.Machine.{after, all_written, mark_after, written, zero_at};
 ghost use Rattle.value_types.specs.Shape.{dependency_at, is_known};
-ghost use Rattle.bench_fmus.specs.BuiltIn.{no_fraction, spread, start_of, step_content};
+ghost use Rattle.bench_fmus.specs.BuiltIn.{no_fraction, spread, start_of, step_content, value_of};
 ghost use Rattle.bench_fmus.specs.Told.{number_of_flag};
 
+use crate::packed::{fits_bytes, order_of, pack, packed_size};
 use crate::wrap::{count_of, wrapped_word, wrapping_sum};
 use crate::{Model, SavedState};
 use clock_fraction::Fraction;
-use fmi_calls::{Call, Content, Phase};
+use fmi_calls::{BadStatus, Call, Content, Kind, Phase, Reply};
 use std::alloc::{AllocError, Global};
 use value_types::{ByReference, Dependency, Knowns, PortType, Shape, Variable};
 
@@ -62,12 +63,15 @@ pub struct BuiltInState {
     pub numbers: Numbers,
     pub values: Vec<i128>,
     pub saved: SavedState,
+    /// the references with the places of their variables, in order
+    pub order: Vec<(u32, usize)>,
 }
 
 impl BuiltInState {
-    ghost use Rattle.bench_fmus.specs.BuiltIn.{content_of, count_at, first_state, fraction_at, is_declared_at, is_ticking, machine_of, numbers_after, point_after, seen_by, value_of};
+    ghost use Rattle.bench_fmus.specs.BuiltIn.{content_of, count_at, first_state, fraction_at, is_declared_at, is_packable, is_refused, is_ticking, machine_of, numbers_after, point_after, reply_of, reply_to_bytes, seen_by};
+    ghost use Rattle.bench_fmus.specs.Packed.{packed, unpacked};
     ghost use Rattle.bench_fmus.specs.Models.{behaviour_of};
-    ghost use Rattle.bench_fmus.specs.Told.{HasRoom, state_in, told, values_in};
+    ghost use Rattle.bench_fmus.specs.Told.{HasRoom, saved_in, slot_in, state_in, told, values_in};
 
     /// The state before the first call.
     pub fn at_first(alloc: Global, shape: &Shape) -> Result<BuiltInState, AllocError>
@@ -79,18 +83,15 @@ impl BuiltInState {
             numbers: Numbers::at_first(),
             values: first_values(alloc, shape.variables.as_slice())?,
             saved: SavedState::none(alloc, shape.variables.len())?,
+            order: order_of(alloc, shape.variables.as_slice())?,
         })
     }
 
     /// The value under a reference, or 0 where no variable has it.
-    #[tactic(auto, using(crate::proofs::ValueLemmas::value_of_missing))]
     pub(crate) fn value(&self, variables: &ByReference<Variable>, reference: u32) -> i128
         ensures { result ≡ value_of variables.now (values_in variables.now self.now) reference }
     {
-        match variables.place_of(reference) {
-            Some(place) => number_at(self.values.as_slice(), place),
-            None => 0,
-        }
+        value_under(variables, self.values.as_slice(), reference)
     }
 
     /// Whether the Clock under a reference is active.
@@ -152,9 +153,48 @@ impl BuiltInState {
         }
     }
 
-    /// What a good reply to a call carries.
-    pub(crate) fn content(&self, model: Model, shape: &Shape, phase: &Phase, call: &Call) -> Content
+    // Whether the state that is saved can be serialized: there is one, and its bytes are few enough.
+    fn is_packable(&self, shape: &Shape) -> bool
+        ensures { result ≡ is_packable shape.now (slot_in shape.now.variables self.now.saved) }
+    {
+        self.saved.is_full && fits_bytes(shape.variables.as_slice())
+    }
+
+    // Whether a call is answered by Error.
+    fn is_refused(&self, shape: &Shape, call: &Call) -> bool
+        ensures { result ≡ is_refused shape.now (slot_in shape.now.variables self.now.saved)
+            call.now }
+    {
+        match call {
+            Call::Serialize => !self.is_packable(shape),
+            _ => false,
+        }
+    }
+
+    /// The reply to a call.
+    pub(crate) fn reply(&self, model: Model, shape: &Shape, phase: &Phase, call: &Call) -> Reply
         requires { Permitted shape.now phase.now call.now }
+        ensures { result ≡ reply_of (behaviour_of model) shape.now
+            (state_in shape.now.variables self.now) call.now }
+    {
+        if self.is_refused(shape, call) {
+            Reply::Refused {
+                kind: Kind::Serialize,
+                status: BadStatus::Error,
+            }
+        } else {
+            Reply::Done {
+                is_warning: false,
+                content: self.content(model, shape, phase, call),
+            }
+        }
+    }
+
+    // What a good reply to a call carries.
+    fn content(&self, model: Model, shape: &Shape, phase: &Phase, call: &Call) -> Content
+        requires permitted { Permitted shape.now phase.now call.now }
+        requires answered { is_refused shape.now (slot_in shape.now.variables self.now.saved)
+            call.now ≡ false }
         ensures { result ≡ content_of (behaviour_of model) shape.now (told self.now.numbers)
             (values_in shape.now.variables self.now) call.now }
     {
@@ -194,6 +234,10 @@ impl BuiltInState {
             Call::Free => Content::Free,
             Call::Terminate => Content::Terminate,
             Call::FreeInstance => Content::FreeInstance,
+            Call::Serialize => Content::Serialize {
+                length: packed_size(shape.variables.as_slice()),
+            },
+            Call::Deserialize { .. } => Content::Deserialize,
         }
     }
 
@@ -238,7 +282,9 @@ impl BuiltInState {
             Call::Get { .. }
             | Call::GetClock { .. }
             | Call::GetInterval { .. }
-            | Call::GetShift { .. } => {}
+            | Call::GetShift { .. }
+            | Call::Serialize
+            | Call::Deserialize { .. } => {}
             Call::SetClock { reference } => {
                 write_value(&shape.variables, &mut self.values, reference, 1);
             }
@@ -267,6 +313,46 @@ impl BuiltInState {
         }
     }
 
+    /// Puts the bytes of the state that is saved into the room, where it can be serialized.
+    pub(crate) fn serialize(&self, shape: &Shape, into: &mut Vec<u8>)
+        requires state { HasRoom shape.now self.now }
+        requires empty { into.old.items ≡ [] }
+        requires room { 2 ^ 20 ≤ vec_capacity into.old }
+        ensures bytes { into.new.items ≡
+            (if is_packable shape.now (slot_in shape.now.variables self.now.saved)
+            then packed shape.now.variables (saved_in shape.now.variables self.now.saved)
+            else []) }
+        ensures room { vec_capacity into.old ≤ vec_capacity into.new }
+    {
+        if self.is_packable(shape) {
+            pack(&shape.variables, self.order.as_slice(), &self.saved, into);
+        }
+    }
+
+    /// Fills the slot with the state of these bytes, where they are one's, and empties it where they aren't.
+    pub(crate) fn deserialize(&mut self, shape: &Shape, bytes: &[u8]) -> Reply
+        requires { HasRoom shape.now self.old }
+        ensures reply { result ≡ reply_to_bytes (unpacked shape.now.variables bytes.now) }
+        ensures state { state_in shape.now.variables self.new ≡ record
+            (state_in shape.now.variables self.old)
+            { slot = unpacked shape.now.variables bytes.now } }
+        ensures room { HasRoom shape.now self.new }
+    {
+        self.saved
+            .unpack(&shape.variables, self.order.as_slice(), bytes);
+        if self.saved.is_full {
+            Reply::Done {
+                is_warning: false,
+                content: Content::Deserialize,
+            }
+        } else {
+            Reply::Refused {
+                kind: Kind::Deserialize,
+                status: BadStatus::Error,
+            }
+        }
+    }
+
     fn save(&mut self)
         requires { length self.old.saved.values.items ≡ length self.old.values.items }
         ensures full { self.new.saved.is_full ≡ true }
@@ -274,6 +360,7 @@ impl BuiltInState {
             (self.new.saved.values.items ≡ self.old.values.items) }
         ensures same { (self.new.numbers ≡ self.old.numbers) ×
             (self.new.values.items ≡ self.old.values.items) }
+        ensures order { self.new.order.items ≡ self.old.order.items }
     {
         self.saved.is_full = true;
         self.saved.numbers = self.numbers;
@@ -288,6 +375,7 @@ impl BuiltInState {
             (if self.old.saved.is_full then self.old.saved.values.items else
             self.old.values.items) }
         ensures same { self.new.saved ≡ self.old.saved }
+        ensures order { self.new.order.items ≡ self.old.order.items }
     {
         if self.saved.is_full {
             self.numbers = self.saved.numbers;
@@ -337,6 +425,21 @@ fn step_end(_stop: u64, at: u64, size: u64) -> u64
     ensures { result ≡ at + size }
 {
     at + size
+}
+
+/// The value under a reference, or 0 where no variable has it.
+#[tactic(auto, using(crate::proofs::ValueLemmas::value_of_missing))]
+pub(crate) fn value_under(
+    variables: &ByReference<Variable>,
+    values: &[i128],
+    reference: u32,
+) -> i128
+    ensures { result ≡ value_of variables.now (spread variables.now values.now) reference }
+{
+    match variables.place_of(reference) {
+        Some(place) => number_at(values, place),
+        None => 0,
+    }
 }
 
 fn number_at(values: &[i128], place: usize) -> i128
@@ -390,7 +493,8 @@ fn is_input_clock(variable: &Variable) -> bool
     variable.is_input_port() && variable.is_clock()
 }
 
-fn put(values: &mut [i128], place: usize, value: i128)
+/// Puts a value at a place.
+pub(crate) fn put(values: &mut [i128], place: usize, value: i128)
     requires { place < length values.old }
     ensures { values.new ≡ set values.old place value }
 {

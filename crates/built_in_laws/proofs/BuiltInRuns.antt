@@ -53,6 +53,8 @@ answers b shape ends s C.Restore may untimed = refl
 answers b shape ends s C.Free may untimed = refl
 answers b shape ends s C.Terminate may untimed = absurd may
 answers b shape ends s C.FreeInstance may untimed = absurd may
+answers b shape ends s C.Serialize may untimed = absurd may
+answers b shape ends s (C.Deserialize length point stop) may untimed = absurd may
 
 pub answer_well : BuiltInsAnswerWell
 answer_well shape m is = subst (WellButTimings shape) (sym is.is) (λ s call valued may untimed. answers (behaviour_of is.model) shape (ends_right is.model shape) s call may untimed)

@@ -26,18 +26,18 @@ references_of variables = map (λ (v : Variable). v.reference) variables
 
 -- ---- where a reference is found
 
-record IsPlaced (variables : List Variable) (reference k : ℕ) (v : Variable) : Type 0 where
-  place : place_of variables reference ≡ Some k
-  at : slice_get variables k ≡ Some v
-  found : variable_at variables reference ≡ Some v
-  has : v.reference ≡ reference
+pub record IsPlaced (variables : List Variable) (reference k : ℕ) (v : Variable) : Type 0 where
+  pub place : place_of variables reference ≡ Some k
+  pub at : slice_get variables k ≡ Some v
+  pub found : variable_at variables reference ≡ Some v
+  pub has : v.reference ≡ reference
 
 -- nowhere, or at the place of the first variable that has it
-data IsFound (variables : List Variable) (reference : ℕ) : Type 0 where
+pub data IsFound (variables : List Variable) (reference : ℕ) : Type 0 where
   Nowhere : place_of variables reference ≡ None → variable_at variables reference ≡ None → IsFound variables reference
   At : (k : ℕ) (v : Variable) → IsPlaced variables reference k v → IsFound variables reference
 
-is_found : (variables : List Variable) (reference : ℕ) → IsFound variables reference
+pub is_found : (variables : List Variable) (reference : ℕ) → IsFound variables reference
 is_found variables reference = by (place_of variables reference) refl
   where
     at : (k : ℕ) → place_of variables reference ≡ Some k → (o : Option Variable) → slice_get variables k ≡ o → IsFound variables reference

@@ -3,3 +3,5 @@ mod Timings
 mod Keeping
 mod AlongRun
 mod BuiltInRuns
+mod Ranges
+mod Bytes

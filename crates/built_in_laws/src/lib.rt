@@ -3,4 +3,4 @@
 
 mod laws;
 
-pub use laws::built_in_runs;
+pub use laws::{built_in_runs, built_ins_read_back};

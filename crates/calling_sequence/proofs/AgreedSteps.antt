@@ -31,9 +31,9 @@ use Rattle.rollback.specs.StepsBy.{Done, FreesBadly, SavesBadly, StepsBadly, Ste
 use Rattle.calling_sequence.specs.declared.experiment.Experiment.{Experiment}
 use Rattle.calling_sequence.specs.declared.run_end.RunEnd.TheVariants as E
 use Rattle.calling_sequence.specs.Calls.{first_unfit, saving}
-use Rattle.calling_sequence.specs.Course.{Agreed as AgreedAt, Agreeing, Course, Departing, Frees, LeadsTo, On, Place, Saved, Saves, Short, Spot, Stopping, Way, part_at, shown}
-use Rattle.calling_sequence.specs.Ends.{AtShort, Badly, Finishes, Well, end_of_step}
-use Rattle.calling_sequence.specs.Goes.{Crosses, stepped_to}
+use Rattle.calling_sequence.specs.Course.{Agreed as AgreedAt, Agreeing, CourseIn, Departing, Extent, Frees, IsWithin, LeadsTo, MayLeave, On, Place, Saved, Saves, Short, Spot, Stopping, Way, part_at, shown}
+use Rattle.calling_sequence.specs.Ends.{AtShort, Badly, FinishesIn, Well, end_of_step}
+use Rattle.calling_sequence.specs.Goes.{StepsFrom, stepped_to}
 use Rattle.calling_sequence.specs.Parts.{AllAgree, Does}
 use Rattle.calling_sequence.specs.Place.{IsDeparting, IsStepping}
 use Rattle.calling_sequence.specs.Ready.{Ready}
@@ -47,36 +47,36 @@ use Rattle.calling_sequence.proofs.Staying.{AreOfStep, IsOfStep, agreement_of_st
 -- ---- where it leads the run
 
 -- a part after which no instant stands
-part_on : (e : Experiment) (p q : Place) (values : List (Option ℤ)) (front more : List Sent) (is : List Instant) → Does e.system (part_at e.system e.bound e.plan p) values more → LeadsTo e.system e.plan p values more q → shown q ≡ [] → Course e.system e.bound e.plan p front is → Course e.system e.bound e.plan q (front ++ more) is
-part_on e p q values front more is does leads quiet course =
-    subst (λ (l : List Instant). Course e.system e.bound e.plan q (front ++ more) l) (ap (λ (l : List Instant). is ++ l) quiet ∙ append-nil is) (On p q values front more is course does leads)
+part_on : (e : Experiment) (extent : Extent) (p q : Place) (values : List (Option ℤ)) (front more : List Sent) (is : List Instant) → Does e.system (part_at e.system e.bound e.plan p) values more → LeadsTo e.system e.plan p values more q → IsWithin extent q → shown q ≡ [] → CourseIn e.system e.bound e.plan extent p front is → CourseIn e.system e.bound e.plan extent q (front ++ more) is
+part_on e extent p q values front more is does leads within quiet course =
+    subst (λ (l : List Instant). CourseIn e.system e.bound e.plan extent q (front ++ more) l) (ap (λ (l : List Instant). is ++ l) quiet ∙ append-nil is) (On p q values front more is course does leads within)
 
-module _ (e : Experiment) (s : Spot) (bound : ℕ) where
+module _ (e : Experiment) (extent : Extent) (s : Spot) (may : MayLeave extent s.t) (bound : ℕ) where
   abbrev w : Way
   w = record { s = s; to = bound }
 
   abbrev Comes : Place → List Sent → Type 0
-  Comes q more = (front : List Sent) (is : List Instant) → Course e.system e.bound e.plan (Departing w) front is → Course e.system e.bound e.plan q (front ++ more) is
+  Comes q more = (front : List Sent) (is : List Instant) → CourseIn e.system e.bound e.plan extent (Departing w) front is → CourseIn e.system e.bound e.plan extent q (front ++ more) is
 
   abbrev Steps : List Sent → Result Agreed StepEnd → Type 0
   Steps log r = StepsBy s.t e.plan.step bound (shapes_of e.system) log r
 
   -- the states were saved
   saved_on : (saves : List Sent) → IsAnswered (shapes_of e.system) (saving e.system) saves → Comes (Saved w) saves
-  saved_on saves a front is course = part_on e (Departing w) (Saved w) [] front saves is a (Saves w [] saves) refl course
+  saved_on saves a front is course = part_on e extent (Departing w) (Saved w) [] front saves is a (Saves w [] saves) tt refl course
 
   -- they were, and all came to one point
   agreed_on : (saves agreed : List Sent) (m : ℕ) → IsAnswered (shapes_of e.system) (saving e.system) saves → AllAgree e.system s.t e.plan.step bound agreed (Meets m) →
       Comes (AgreedAt w m (some_ask_from 0 (shapes_of e.system) agreed)) (saves ++ agreed)
   agreed_on saves agreed m a agrees front is course =
       let q = AgreedAt w m (some_ask_from 0 (shapes_of e.system) agreed) in
-      subst (λ (l : List Sent). Course e.system e.bound e.plan q l is) (append_assoc front saves agreed)
-      (part_on e (Saved w) q [] (front ++ saves) agreed is (Meets m, tt, agrees) (Agreeing w [] agreed m (some_ask_from 0 (shapes_of e.system) agreed) agrees refl) refl (saved_on saves a front is course))
+      subst (λ (l : List Sent). CourseIn e.system e.bound e.plan extent q l is) (append_assoc front saves agreed)
+      (part_on e extent (Saved w) q [] (front ++ saves) agreed is (Meets m, tt, agrees) (Agreeing w [] agreed m (some_ask_from 0 (shapes_of e.system) agreed) agrees refl) tt refl (saved_on saves a front is course))
 
   short_on : (saves agreed : List Sent) (i end : ℕ) → IsAnswered (shapes_of e.system) (saving e.system) saves → AllAgree e.system s.t e.plan.step bound agreed (Unfit i end) → Comes (Short w i end) (saves ++ agreed)
   short_on saves agreed i end a agrees front is course =
-      subst (λ (l : List Sent). Course e.system e.bound e.plan (Short w i end) l is) (append_assoc front saves agreed)
-      (part_on e (Saved w) (Short w i end) [] (front ++ saves) agreed is (Unfit i end, tt, agrees) (Stopping w [] agreed i end agrees) refl (saved_on saves a front is course))
+      subst (λ (l : List Sent). CourseIn e.system e.bound e.plan extent (Short w i end) l is) (append_assoc front saves agreed)
+      (part_on e extent (Saved w) (Short w i end) [] (front ++ saves) agreed is (Unfit i end, tt, agrees) (Stopping w [] agreed i end agrees) tt refl (saved_on saves a front is course))
 
   -- a step that is made
   pub lands : (agreed : Agreed) (log : List Sent) → Steps log (Ok agreed) → Comes (stepped_to s agreed) log
@@ -90,13 +90,13 @@ module _ (e : Experiment) (s : Spot) (bound : ℕ) where
       let same : record { point = m; asked = asked } ≡ agreed = cc in
       let whole : front ++ log ≡ (front ++ (saves.saves ++ saves.agreed)) ++ frees =
       ap (λ (l : List Sent). front ++ l) (saves.log_is ∙ sym (append_assoc saves.saves saves.agreed frees)) ∙ sym (append_assoc front (saves.saves ++ saves.agreed) frees) in
-      subst (λ (a : Agreed). Course e.system e.bound e.plan (stepped_to s a) (front ++ log) is_shown) same
-      (subst (λ (l : List Sent). Course e.system e.bound e.plan (stepped_to s (record { point = m; asked = asked })) l is_shown) (sym whole)
-      (part_on e (AgreedAt w m asked) (stepped_to s (record { point = m; asked = asked })) [] (front ++ (saves.saves ++ saves.agreed)) frees is_shown freed (Frees w m asked [] frees) refl
+      subst (λ (a : Agreed). CourseIn e.system e.bound e.plan extent (stepped_to s a) (front ++ log) is_shown) same
+      (subst (λ (l : List Sent). CourseIn e.system e.bound e.plan extent (stepped_to s (record { point = m; asked = asked })) l is_shown) (sym whole)
+      (part_on e extent (AgreedAt w m asked) (stepped_to s (record { point = m; asked = asked })) [] (front ++ (saves.saves ++ saves.agreed)) frees is_shown freed (Frees w m asked [] frees) tt refl
       (agreed_on saves.saves saves.agreed m saves.saved saves.agrees front is_shown course)))
 
   abbrev Ends : StepEnd → List Sent → Type 0
-  Ends end log = (front : List Sent) (is : List Instant) → Course e.system e.bound e.plan (Departing w) front is → Finishes e.system e.bound e.plan (end_of_step end) s.t (front ++ log) is
+  Ends end log = (front : List Sent) (is : List Instant) → CourseIn e.system e.bound e.plan extent (Departing w) front is → FinishesIn e.system e.bound e.plan extent (end_of_step end) s.t (front ++ log) is
 
   ends_as : (end other : StepEnd) (log : List Sent) → (let r : Result Agreed StepEnd = Err end in r ≡ Err other) → Ends other log → Ends end log
   ends_as end other log is h = let same : other ≡ end = cc in subst (λ (x : StepEnd). Ends x log) same h
@@ -106,17 +106,17 @@ module _ (e : Experiment) (s : Spot) (bound : ℕ) where
   stops fit end log (Unfitted i unfit none is) = let fits = unfit_is e.system e.plan s.t (bound - s.t) ∙ fit in absurd (cc)
   stops fit end log (SavesBadly bad fits fails is) = ends_as end (Bad bad) log is (λ front shown_is course. Badly (Departing w) bad front log shown_is course fails)
   stops fit end log (StopsShort i to saves is) = ends_as end (FixedStep (record { 0 = i }) s.t to) log is (λ front shown_is course.
-      subst (λ (l : List Sent). Finishes e.system e.bound e.plan (E.FixedStep (record { 0 = i }) s.t to) s.t (front ++ l) shown_is) (sym (saves.log_is ∙ ap (λ (l : List Sent). saves.saves ++ l) (append-nil saves.agreed)))
-      (Well (Short w i to) (E.FixedStep (record { 0 = i }) s.t to) (front ++ (saves.saves ++ saves.agreed)) shown_is (short_on saves.saves saves.agreed i to saves.saved saves.agrees front shown_is course) (AtShort w (record { 0 = i }) to)))
+      subst (λ (l : List Sent). FinishesIn e.system e.bound e.plan extent (E.FixedStep (record { 0 = i }) s.t to) s.t (front ++ l) shown_is) (sym (saves.log_is ∙ ap (λ (l : List Sent). saves.saves ++ l) (append-nil saves.agreed)))
+      (Well (Short w i to) (E.FixedStep (record { 0 = i }) s.t to) (front ++ (saves.saves ++ saves.agreed)) shown_is (short_on saves.saves saves.agreed i to saves.saved saves.agrees front shown_is course) (AtShort w (record { 0 = i }) to) may))
   stops fit end log (StepsBadly bad saves is) = ends_as end (Bad bad) log is (λ front shown_is course.
-      subst (λ (l : List Sent). Finishes e.system e.bound e.plan (E.Bad bad) s.t l shown_is)
+      subst (λ (l : List Sent). FinishesIn e.system e.bound e.plan extent (E.Bad bad) s.t l shown_is)
       (append_assoc front saves.saves saves.agreed ∙ sym (ap (λ (l : List Sent). front ++ l) (saves.log_is ∙ ap (λ (l : List Sent). saves.saves ++ l) (append-nil saves.agreed))))
       (Badly (Saved w) bad (front ++ saves.saves) saves.agreed shown_is (saved_on saves.saves saves.saved front shown_is course) saves.agrees))
   stops fit end log (FreesBadly bad m frees saves fails is) = ends_as end (Bad bad) log is (λ front shown_is course.
       let asked = some_ask_from 0 (shapes_of e.system) saves.agreed in
       let whole : front ++ log ≡ (front ++ (saves.saves ++ saves.agreed)) ++ frees =
       ap (λ (l : List Sent). front ++ l) (saves.log_is ∙ sym (append_assoc saves.saves saves.agreed frees)) ∙ sym (append_assoc front (saves.saves ++ saves.agreed) frees) in
-      subst (λ (l : List Sent). Finishes e.system e.bound e.plan (E.Bad bad) s.t l shown_is) (sym whole)
+      subst (λ (l : List Sent). FinishesIn e.system e.bound e.plan extent (E.Bad bad) s.t l shown_is) (sym whole)
       (Badly (AgreedAt w m asked) bad (front ++ (saves.saves ++ saves.agreed)) frees shown_is (agreed_on saves.saves saves.agreed m saves.saved saves.agrees front shown_is course) fails))
   stops fit end log (Done m frees saves freed is) = absurd (cc)
 
@@ -250,8 +250,8 @@ module _ {L : Type 0} {g : _} (view : L → View) (e : Experiment) (t : ℕ) (ol
     steps_as : (r : Result Agreed StepEnd) → (o : StepsOver view t e.plan.step bound olds news r) → StepsBy t e.plan.step bound (shapes_of e.system) o.log r
     steps_as r o = subst (λ (ss : List Shape). StepsBy t e.plan.step bound ss o.log r) ready.shapes_are o.steps
 
-    pub crosses_well : (agreed : Agreed) → StepsOver view t e.plan.step bound olds news (Ok agreed) → Crosses e start (stepped_to s) (instances view olds) (instances view news) count count (Ok agreed)
-    crosses_well agreed o = λ v starts before h. on_far e starts before start (instances view olds) (instances view news) v count h o.log o.told (stepped_to s agreed) (lands e here bound agreed o.log (steps_as (Ok agreed) o))
+    pub crosses_well : (agreed : Agreed) → StepsOver view t e.plan.step bound olds news (Ok agreed) → StepsFrom e t start (stepped_to s) (instances view olds) (instances view news) count count (Ok agreed)
+    crosses_well agreed o = λ v starts past may h. on_far e starts past start (instances view olds) (instances view news) v count h o.log o.told (stepped_to s agreed) (lands e past.extent here may bound agreed o.log (steps_as (Ok agreed) o))
 
-    pub crosses_badly : first_unfit e.system e.plan (bound - t) ≡ None → (end : StepEnd) → StepsOver view t e.plan.step bound olds news (Err end) → Crosses {T = Agreed} e start (stepped_to s) (instances view olds) (instances view news) count count (Err (record { end = end_of_step end; point = t }))
-    crosses_badly fit end o = λ v starts before h. off_far e starts before start (instances view olds) (instances view news) v count h o.log o.told (end_of_step end) t (stops e here bound fit end o.log (steps_as (Err end) o))
+    pub crosses_badly : first_unfit e.system e.plan (bound - t) ≡ None → (end : StepEnd) → StepsOver view t e.plan.step bound olds news (Err end) → StepsFrom {T = Agreed} e t start (stepped_to s) (instances view olds) (instances view news) count count (Err (record { end = end_of_step end; point = t }))
+    crosses_badly fit end o = λ v starts past may h. off_far e starts past start (instances view olds) (instances view news) v count h o.log o.told (end_of_step end) t (stops e past.extent here may bound fit end o.log (steps_as (Err end) o))

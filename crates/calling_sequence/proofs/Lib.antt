@@ -11,3 +11,12 @@ pub mod Stages
 mod Staying
 mod AgreedSteps
 pub mod Ways
+mod InTurn
+mod KeptStates
+mod Held
+mod Restoring
+mod Ended
+mod Putting
+mod Checkpoints
+mod Resumed
+mod ResumedStands

@@ -246,7 +246,7 @@ begins system plan table t n is_first values known starts stands first = record 
 }
 
 -- the buffers at the end of a step to at most its bound
-pub timed_behind : (e : Experiment) (t n to m : ℕ) (b : Buffers) → IsPlan e.plan → AreTimed e t (n + 1) false b → is_some_armed t (timers_in b.schedule) ≡ false → IsBoundOf e.plan (timers_in b.schedule) b.schedule.events t to → t < m → m ≤ to → AreTimed e m 0 true b
+pub timed_behind : (e : Experiment) (t n to m : ℕ) (b : Buffers) → IsPlan e.plan → AreTimed e t n false b → is_some_armed t (timers_in b.schedule) ≡ false → IsBoundOf e.plan (timers_in b.schedule) b.schedule.events t to → t < m → m ≤ to → AreTimed e m 0 true b
 timed_behind e t n to m b plan h none bound later within = record {
   starts = h.starts;
   stops = h.stops;

@@ -1,11 +1,12 @@
 -- Where the instances stand after the last Updates of a point, and what the values are that were found.
 use Rattle.std.proofs.Common.{◌≡◌, ℕ, ◌<◌, Bool, true, false, List, [], ◌∷◌, Option, Some, None, Ok, refl, sym, ap, ◌∙◌, subst, arith, length, get_or, map, replicate, zero, suc}
 use Rattle.std.specs.Int.{w128}
-use Rattle.std.specs.Prelude.{All, ℤ, ◌||◌, FitsSigned, IfSome, slice_get}
+use Rattle.std.specs.Prelude.{All, ℤ, ◌||◌, FitsSigned, IfSome, if◌then◌else◌, slice_get}
 use Rattle.std.proofs.lemmas.Int.{ints}
 use Rattle.std.proofs.lemmas.List.{get_or_default}
 use Rattle.std.proofs.lemmas.List.Elements.{All-cons, All-nil}
 use Rattle.std.proofs.lemmas.Option.{slice_get-get_or}
+use Rattle.value_types.specs.declared.shape.Shape.{Shape}
 use Rattle.value_types.specs.declared.values.PortType.{PortType}
 use Rattle.value_types.specs.declared.values.PortType.TheVariants as T
 use Rattle.value_types.specs.Values.{Fits}
@@ -19,11 +20,12 @@ use Rattle.run_model.specs.Machines.{AreFitting}
 use Rattle.system_model.specs.Values.{value}
 use Rattle.slot_calls.specs.Carried.{IsWide}
 use Rattle.slot_calls.specs.Log.{Sent}
-use Rattle.slot_calls.specs.Stage.{Stage, has_events, shapes}
+use Rattle.slot_calls.specs.Stage.{Stage, has_events, shapes, shapes_of}
 use Rattle.event_iteration.specs.declared.updates.Updated.{Updated}
 use Rattle.event_iteration.specs.Initialization.{no_values}
-use Rattle.event_iteration.specs.Updates.{answer_passes, any_answer, updated_by, updating}
+use Rattle.event_iteration.specs.Updates.{answer_passes, any_answer, events_told, first_event, other_answers, updated_by, updating}
 use Rattle.calling_sequence.specs.Place.{IsSettled, IsTaking}
+use Rattle.calling_sequence.specs.Ready.{HaveModes}
 use Rattle.calling_sequence.proofs.Chains.{stage_passing}
 use Rattle.calling_sequence.proofs.Phases.{IsLast, update_settles, update_stays_settled}
 use Rattle.calling_sequence.proofs.Sizes.{there_is}
@@ -91,3 +93,17 @@ none_at (port ∷ ports) (suc p) = none_at ports p
 
 pub none_fit : (system : System) (values : List (Option ℤ)) → values ≡ no_values system → AreFitting system values
 none_fit system values is p port at = subst (λ (o : Option ℤ). IfSome o (Fits port.kind)) (sym (ap (λ (vs : List (Option ℤ)). value vs p) is ∙ none_at system.ports p)) tt
+
+-- ---- event times
+
+mode_told : (t : ℕ) (s : Shape) (ss : List Shape) (log : List Sent) → HaveModes ss (events_told t ss (other_answers log)) → HaveModes ss (events_told t ss log) → (b : Bool) → has_events s ≡ b →
+    HaveModes (s ∷ ss) (if b then first_event t log ∷ events_told t ss (other_answers log) else None ∷ events_told t ss log)
+mode_told t s ss log asked unasked true is = ((λ none. absurd (let wrong : true ≡ false = sym is ∙ none in cc)), asked)
+mode_told t s ss log asked unasked false is = ((λ none. refl), unasked)
+
+modes_told : (t : ℕ) (ss : List Shape) (log : List Sent) → HaveModes ss (events_told t ss log)
+modes_told t [] log = tt
+modes_told t (s ∷ ss) log = mode_told t s ss log (modes_told t ss (other_answers log)) (modes_told t ss log) (has_events s) refl
+
+pub told_modes : (t : ℕ) (system : System) (olds : List Instance) → shapes olds ≡ shapes_of system → (log : List Sent) (events : List (Option ℕ)) → events ≡ events_told t (shapes olds) log → HaveModes (shapes_of system) events
+told_modes t system olds fits log events is = subst (λ (es : List (Option ℕ)). HaveModes (shapes_of system) es) (sym (is ∙ ap (λ (ss : List Shape). events_told t ss log) fits)) (modes_told t (shapes_of system) log)

@@ -57,6 +57,27 @@ saving system = to_saved C.Save (shapes_of system)
 abbrev pub freeing : System → List Asking
 freeing system = to_saved C.Free (shapes_of system)
 
+-- where a run is held each state is saved, put as bytes and freed, one component after another
+abbrev pub keeping_from : ℕ → List Shape → List Asking
+keeping_from i [] = []
+keeping_from i (shape ∷ shapes) =
+    record { component = i; call = C.Save } ∷ record { component = i; call = C.Serialize } ∷
+    record { component = i; call = C.Free } ∷ keeping_from (i + 1) shapes
+
+abbrev pub keeping : System → List Asking
+keeping system = keeping_from 0 (shapes_of system)
+
+-- where it is resumed at a point each state is taken in, gone back to and freed, one component after another; the states have these lengths
+abbrev pub restoring_from : ℕ → (point stop : ℕ) → List ℕ → List Asking
+restoring_from i point stop [] = []
+restoring_from i point stop (size ∷ sizes) =
+    record { component = i; call = C.Deserialize size point stop } ∷
+    record { component = i; call = C.Restore } ∷ record { component = i; call = C.Free } ∷
+    restoring_from (i + 1) point stop sizes
+
+abbrev pub restoring : (point stop : ℕ) → List ℕ → List Asking
+restoring point stop sizes = restoring_from 0 point stop sizes
+
 -- ---- steps
 
 -- the least component that takes no step of this size: without variable steps an FMU takes that of the plan alone

@@ -1,5 +1,5 @@
 -- The run of a system by its plan, for any replies, part by part (FMI 3.0, 4.2.1: the calling sequence of Co-Simulation).
-use Rattle.std.specs.Prelude.{◌≡◌, ℕ, suc, ℤ, ◌==◌, ◌||◌, Bool, true, false, List, [], ◌∷◌, ◌++◌, Option, length}
+use Rattle.std.specs.Prelude.{◌≡◌, ℕ, suc, ℤ, ◌<◌, ◌==◌, ◌||◌, Bool, true, false, List, [], ◌∷◌, ◌++◌, Option, length}
 use Rattle.std.specs.List.{list_any}
 use Rattle.system_model.specs.declared.bound.Bound.{Bound}
 use Rattle.system_model.specs.declared.plan.Plan.{Plan}
@@ -64,6 +64,8 @@ pub data Place : Type 0 where
   Agreed : (w : Way) (point : ℕ) (asked : Bool) → Place
   -- after a step, at the point that all reached, where the states were freed
   Stepped : (s : Spot) (asked : Bool) → Place
+  -- where a run is resumed: each was led back to its state, and is in Step Mode at a point that is done
+  Restored : (s : Spot) → Place
 
 -- what is sent from there
 abbrev pub part_at : System → Bound → Plan → Place → Part
@@ -86,6 +88,7 @@ part_at system bound plan (Short w component end) = Calls []
 part_at system bound plan (Agreed w point asked) = Round (freeing system)
 part_at system bound plan (Stepped s true) = Calls []
 part_at system bound plan (Stepped s false) = Calls (entering_event system)
+part_at system bound plan (Restored s) = Calls []
 
 -- ---- from place to place
 
@@ -161,18 +164,50 @@ pub data LeadsTo (system : System) (plan : Plan) : Place → List (Option ℤ) �
   Arrives : (s : Spot) (values : List (Option ℤ)) (log : List Sent) (ticks : ℕ → Bool) →
       Begins system plan (record s { n = 0 }) ticks →
       LeadsTo system plan (Stepped s false) values log (Before (record s { n = 0 }) ticks)
+  -- the first step of a run that is resumed begins in Step Mode
+  Resumes : (w : Way) (values : List (Option ℤ)) (log : List Sent) →
+      IsStep system plan w.s.timers w.s.events w.s.t w.to →
+      LeadsTo system plan (Restored w.s) values log (Left w)
 
 -- the instant that follows the part which leads there
 abbrev pub shown : Place → List Instant
 shown (Seen s again asked) = record { t = s.t; n = s.n; values = s.values } ∷ []
 shown p = []
 
+-- ---- how much of a run is gone through
+
+-- all of it; up to the first point from this one on that is done and before the stop, where it is held; or from there on, where it is resumed
+pub data Extent : Type 0 where
+  Whole : Extent
+  UpToHeld : (at : ℕ) → Extent
+  FromHeld : (s : Spot) → Extent
+
+-- from instances that were made, or from those that were led back to their states
+abbrev pub first_of : Extent → Place
+first_of Whole = Made
+first_of (UpToHeld at) = Made
+first_of (FromHeld s) = Restored s
+
+-- a step may begin at the point: a run that is held makes none from where it is
+abbrev pub MayLeave : Extent → ℕ → Type 0
+MayLeave Whole t = Unit {0}
+MayLeave (UpToHeld at) t = t < at
+MayLeave (FromHeld s) t = Unit {0}
+
+abbrev pub IsWithin : Extent → Place → Type 0
+IsWithin extent (Leaving w) = MayLeave extent w.s.t
+IsWithin extent p = Unit {0}
+
 -- by this log a run came to a place, after these instants
-pub data Course (system : System) (bound : Bound) (plan : Plan) : Place → List Sent →
-    List Instant → Type 0 where
-  AtFirst : Course system bound plan Made [] []
+pub data CourseIn (system : System) (bound : Bound) (plan : Plan) (extent : Extent) : Place →
+    List Sent → List Instant → Type 0 where
+  AtFirst : CourseIn system bound plan extent (first_of extent) [] []
   On : (p q : Place) (values : List (Option ℤ)) (front more : List Sent) (is : List Instant) →
-      Course system bound plan p front is →
+      CourseIn system bound plan extent p front is →
       Does system (part_at system bound plan p) values more →
-      LeadsTo system plan p values more q →
-      Course system bound plan q (front ++ more) (is ++ shown q)
+      LeadsTo system plan p values more q → IsWithin extent q →
+      CourseIn system bound plan extent q (front ++ more) (is ++ shown q)
+
+-- of a whole run
+abbrev pub Course : System → Bound → Plan → Place → List Sent → List Instant → Type 0
+Course system bound plan p log is = CourseIn system bound plan Whole p log is

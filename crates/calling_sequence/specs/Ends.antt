@@ -9,6 +9,8 @@ use Rattle.system_model.specs.declared.plan.EndKind.{EndKind}
 use Rattle.system_model.specs.declared.plan.EndKind.TheVariants as K
 use Rattle.system_model.specs.declared.system.System.{System}
 use Rattle.system_model.specs.Text.{Instant, end_text, header_text, instant_text}
+use Rattle.run_model.specs.Run.{Timer}
+use Rattle.calling_sequence.specs.declared.ending.Ending.{Ending}
 use Rattle.calling_sequence.specs.declared.run_end.RunEnd.{RunEnd}
 use Rattle.calling_sequence.specs.declared.run_end.RunEnd.TheVariants as E
 use Rattle.run_model.specs.Equations.{is_bad}
@@ -20,7 +22,7 @@ use Rattle.rollback.specs.declared.step_end.StepEnd.{StepEnd}
 use Rattle.rollback.specs.declared.step_end.StepEnd.TheVariants.{Bad, FixedStep}
 use Rattle.slot_calls.specs.Log.{Sent, Told}
 use Rattle.calling_sequence.specs.Calls.{IsBoundOf, first_unfit}
-use Rattle.calling_sequence.specs.Course.{Agreed, Before, Configured, Course, Departing, Entered, Found, Left, Leaving, Made, Place, Read, Rearmed, Saved, Seen, Short, Spot, Stepped, Timed, Way, part_at, shown}
+use Rattle.calling_sequence.specs.Course.{Agreed, Before, Configured, CourseIn, Departing, Entered, Extent, Found, FromHeld, Left, Leaving, Made, MayLeave, Place, Read, Rearmed, Restored, Saved, Seen, Short, Spot, Stepped, Timed, UpToHeld, Way, Whole, part_at, shown}
 use Rattle.calling_sequence.specs.Parts.{Falls}
 use Rattle.calling_sequence.specs.Puts.{CutsPiece, with_pieces}
 
@@ -44,6 +46,7 @@ point_of plan (Saved w) = w.s.t
 point_of plan (Short w component end) = w.s.t
 point_of plan (Agreed w point asked) = w.s.t
 point_of plan (Stepped s asked) = s.t
+point_of plan (Restored s) = s.t
 
 -- at this place a run ends so, but for a bad answer
 pub data EndsAt (system : System) (plan : Plan) : RunEnd → Place → Type 0 where
@@ -59,6 +62,11 @@ pub data EndsAt (system : System) (plan : Plan) : RunEnd → Place → Type 0 wh
   Unfit : (s : Spot) (component : CompId) (end : ℕ) → IsBoundOf plan s.timers s.events s.t end →
       first_unfit system plan (end - s.t) ≡ Some component.0 →
       EndsAt system plan (E.FixedStep component s.t end) (Seen s false false)
+  -- the same where the run was resumed there
+  UnfitAtFirst : (s : Spot) (component : CompId) (end : ℕ) →
+      IsBoundOf plan s.timers s.events s.t end →
+      first_unfit system plan (end - s.t) ≡ Some component.0 →
+      EndsAt system plan (E.FixedStep component s.t end) (Restored s)
   -- and so is that of the one which it would be asked for next, on the way to an agreement
   AtShort : (w : Way) (component : CompId) (end : ℕ) →
       EndsAt system plan (E.FixedStep component w.s.t end) (Short w component.0 end)
@@ -70,15 +78,35 @@ pub data EndsAt (system : System) (plan : Plan) : RunEnd → Place → Type 0 wh
       IsFirstLost (is_bad s.values) system.ports s.values lost →
       EndsAt system plan (E.Range lost s.t) (Read s)
 
+-- a step from a point isn't made, and so the run ends there
+pub record LacksStep (system : System) (plan : Plan) (timers : List Timer)
+    (events : List (Option ℕ)) (t : ℕ) (ending : Ending) : Type 0 where
+  pub component : CompId
+  pub to : ℕ
+  pub bound : IsBoundOf plan timers events t to
+  pub unfit : first_unfit system plan (to - t) ≡ Some component.0
+  pub ending_is : ending ≡ record { end = E.FixedStep component t to; point = t }
+
+-- a run that is held doesn't end for the size of a step from where it is
+abbrev pub MayEnd : Extent → RunEnd → Type 0
+MayEnd extent (E.FixedStep component t end) = MayLeave extent t
+MayEnd extent end = Unit {0}
+
 -- with this log and after these instants a run ends so, and its end line names the point: at a place, or by the first bad answer of the part that is sent from one
-pub data Finishes (system : System) (bound : Bound) (plan : Plan) : RunEnd → ℕ → List Sent →
-    List Instant → Type 0 where
+pub data FinishesIn (system : System) (bound : Bound) (plan : Plan) (extent : Extent) : RunEnd →
+    ℕ → List Sent → List Instant → Type 0 where
   Well : (p : Place) (end : RunEnd) (log : List Sent) (is : List Instant) →
-      Course system bound plan p log is → EndsAt system plan end p →
-      Finishes system bound plan end (point_of plan p) log is
+      CourseIn system bound plan extent p log is → EndsAt system plan end p → MayEnd extent end →
+      FinishesIn system bound plan extent end (point_of plan p) log is
   Badly : (p : Place) (bad : BadAnswer) (front more : List Sent) (is : List Instant) →
-      Course system bound plan p front is → Falls system (part_at system bound plan p) bad more →
-      Finishes system bound plan (E.Bad bad) (point_of plan p) (front ++ more) is
+      CourseIn system bound plan extent p front is →
+      Falls system (part_at system bound plan p) bad more →
+      FinishesIn system bound plan extent (E.Bad bad) (point_of plan p) (front ++ more) is
+
+-- a whole run
+abbrev pub Finishes : System → Bound → Plan → RunEnd → ℕ → List Sent → List Instant → Type 0
+Finishes system bound plan end point log is =
+    FinishesIn system bound plan Whole end point log is
 
 -- but for a bad answer or a put that failed
 abbrev pub ends_well : RunEnd → Bool
@@ -87,6 +115,7 @@ ends_well (E.Asked at) = true
 ends_well (E.EventLimit at) = true
 ends_well (E.FixedStep component at end) = true
 ends_well (E.Range lost at) = true
+ends_well (E.Held at) = true
 ends_well (E.Bad bad) = false
 ends_well E.WriteFault = false
 
@@ -97,13 +126,25 @@ end_of_step (Bad bad) = E.Bad bad
 
 -- ---- what is put
 
--- the kind of the end line
+-- nothing is put of the instants of a run that is held
+abbrev pub puts_instants : Extent → Bool
+puts_instants Whole = true
+puts_instants (UpToHeld at) = false
+puts_instants (FromHeld s) = true
+
+abbrev pub counted_in : Extent → List Instant → ℕ
+counted_in Whole is = length is
+counted_in (UpToHeld at) is = 0
+counted_in (FromHeld s) is = length is
+
+-- the kind of the end line; none is put where a run is held
 abbrev pub kind_of_end : RunEnd → EndKind
 kind_of_end E.Stop = K.Stop
 kind_of_end (E.Asked at) = K.Asked
 kind_of_end (E.EventLimit at) = K.Limit
 kind_of_end (E.FixedStep component at end) = K.Fixed
 kind_of_end (E.Range lost at) = K.Range
+kind_of_end (E.Held at) = K.Stop
 kind_of_end (E.Bad bad) = K.Fault
 kind_of_end E.WriteFault = K.Fault
 
@@ -117,63 +158,103 @@ text_of i = instant_text i.t i.n i.values
 abbrev pub pieces_of : System → Plan → List Instant → List (List ℕ)
 pieces_of system plan is = header_of system plan ∷ map text_of is
 
+-- the header is that of a whole run alone
+abbrev pub pieces_in : System → Plan → Extent → List Instant → List (List ℕ)
+pieces_in system plan Whole is = pieces_of system plan is
+pieces_in system plan (UpToHeld at) is = []
+pieces_in system plan (FromHeld s) is = map text_of is
+
 -- and one for the end line
+abbrev pub text_pieces : System → Plan → Extent → List Instant → EndKind → ℕ → List (List ℕ)
+text_pieces system plan extent is kind point =
+    pieces_in system plan extent is ++ end_text kind point ∷ []
+
 abbrev pub trace_pieces : System → Plan → List Instant → EndKind → ℕ → List (List ℕ)
 trace_pieces system plan is kind point = pieces_of system plan is ++ end_text kind point ∷ []
 
 -- the piece that is put next, and those before it
-pub data Awaits (system : System) (bound : Bound) (plan : Plan) : List Sent → List Instant →
-    List (List ℕ) → List ℕ → Type 0 where
+pub data AwaitsIn (system : System) (bound : Bound) (plan : Plan) : Extent → List Sent →
+    List Instant → List (List ℕ) → List ℕ → Type 0 where
   -- the header, before any call
-  Header : Awaits system bound plan [] [] [] (header_of system plan)
+  Header : AwaitsIn system bound plan Whole [] [] [] (header_of system plan)
   -- an instant, whose Updates are the last calls
-  Shown : (p : Place) (log : List Sent) (is : List Instant) (i : Instant) → shown p ≡ i ∷ [] →
-      Course system bound plan p log (is ++ i ∷ []) →
-      Awaits system bound plan log is (pieces_of system plan is) (text_of i)
+  Shown : (extent : Extent) (p : Place) (log : List Sent) (is : List Instant) (i : Instant) →
+      puts_instants extent ≡ true → shown p ≡ i ∷ [] →
+      CourseIn system bound plan extent p log (is ++ i ∷ []) →
+      AwaitsIn system bound plan extent log is (pieces_in system plan extent is) (text_of i)
   -- the end line, where the run came to its end
-  EndLine : (end : RunEnd) (point : ℕ) (log : List Sent) (is : List Instant) →
-      Finishes system bound plan end point log is →
-      Awaits system bound plan log is (pieces_of system plan is)
+  EndLine : (extent : Extent) (end : RunEnd) (point : ℕ) (log : List Sent) (is : List Instant) →
+      FinishesIn system bound plan extent end point log is →
+      AwaitsIn system bound plan extent log is (pieces_in system plan extent is)
       (end_text (kind_of_end end) point)
 
 -- a put failed, and nothing was put after it
-pub record PutFails (system : System) (bound : Bound) (plan : Plan) (log : List Sent)
-    (is : List Instant) (before after : SinkView) : Type 0 where
+pub record PutFailsIn (system : System) (bound : Bound) (plan : Plan) (extent : Extent)
+    (log : List Sent) (is : List Instant) (before after : SinkView) : Type 0 where
   pub pieces : List (List ℕ)
   pub piece : List ℕ
-  pub awaits : Awaits system bound plan log is pieces piece
+  pub awaits : AwaitsIn system bound plan extent log is pieces piece
   pub cuts : CutsPiece (with_pieces before pieces) piece after
 
 -- the run came to this end, and its whole text was put
-abbrev pub PutsWhole : System → Bound → Plan → List Sent → List Instant → RunEnd →
+abbrev pub PutsAll : System → Bound → Plan → Extent → List Sent → List Instant → RunEnd →
     SinkView → SinkView → Type 0
-PutsWhole system bound plan log is end before after =
-    (point : ℕ) × Finishes system bound plan end point log is ×
-    (after ≡ with_pieces before (trace_pieces system plan is (kind_of_end end) point))
+PutsAll system bound plan extent log is end before after =
+    (point : ℕ) × FinishesIn system bound plan extent end point log is ×
+    (after ≡ with_pieces before (text_pieces system plan extent is (kind_of_end end) point))
 
--- with this log and after these instants a run ended so, with all that was put
-abbrev pub EndsBy : System → Bound → Plan → List Sent → List Instant → RunEnd →
+-- with this log and after these instants a run ended so, with all that was put; one that isn't held
+abbrev pub EndsIn : System → Bound → Plan → Extent → List Sent → List Instant → RunEnd →
     SinkView → SinkView → Type 0
-EndsBy system bound plan log is E.Stop before after =
-    PutsWhole system bound plan log is E.Stop before after
-EndsBy system bound plan log is (E.Asked point) before after =
-    PutsWhole system bound plan log is (E.Asked point) before after
-EndsBy system bound plan log is (E.EventLimit point) before after =
-    PutsWhole system bound plan log is (E.EventLimit point) before after
-EndsBy system bound plan log is (E.FixedStep component at end) before after =
-    PutsWhole system bound plan log is (E.FixedStep component at end) before after
-EndsBy system bound plan log is (E.Range lost point) before after =
-    PutsWhole system bound plan log is (E.Range lost point) before after
-EndsBy system bound plan log is (E.Bad bad) before after =
-    PutsWhole system bound plan log is (E.Bad bad) before after
-EndsBy system bound plan log is E.WriteFault before after =
-    PutFails system bound plan log is before after
+EndsIn system bound plan extent log is E.Stop before after =
+    PutsAll system bound plan extent log is E.Stop before after
+EndsIn system bound plan extent log is (E.Asked point) before after =
+    PutsAll system bound plan extent log is (E.Asked point) before after
+EndsIn system bound plan extent log is (E.EventLimit point) before after =
+    PutsAll system bound plan extent log is (E.EventLimit point) before after
+EndsIn system bound plan extent log is (E.FixedStep component at end) before after =
+    PutsAll system bound plan extent log is (E.FixedStep component at end) before after
+EndsIn system bound plan extent log is (E.Range lost point) before after =
+    PutsAll system bound plan extent log is (E.Range lost point) before after
+EndsIn system bound plan extent log is (E.Held point) before after = ⊥
+EndsIn system bound plan extent log is (E.Bad bad) before after =
+    PutsAll system bound plan extent log is (E.Bad bad) before after
+EndsIn system bound plan extent log is E.WriteFault before after =
+    PutFailsIn system bound plan extent log is before after
 
--- a run over slots
-pub record RunsSlots (system : System) (bound : Bound) (plan : Plan) (olds news : List Instance)
-    (before after : SinkView) (counted : ℕ) (end : RunEnd) : Type 0 where
+-- over slots
+pub record RunsIn (system : System) (bound : Bound) (plan : Plan) (extent : Extent)
+    (olds news : List Instance) (before after : SinkView) (counted : ℕ)
+    (end : RunEnd) : Type 0 where
   pub log : List Sent
   pub is : List Instant
   pub told : Told log olds news
-  pub ends : EndsBy system bound plan log is end before after
-  pub counted_is : counted ≡ length is
+  pub ends : EndsIn system bound plan extent log is end before after
+  pub counted_is : counted ≡ counted_in extent is
+
+-- ---- a whole run
+
+abbrev pub Awaits : System → Bound → Plan → List Sent → List Instant → List (List ℕ) → List ℕ →
+    Type 0
+Awaits system bound plan log is pieces piece =
+    AwaitsIn system bound plan Whole log is pieces piece
+
+abbrev pub PutFails : System → Bound → Plan → List Sent → List Instant → SinkView → SinkView →
+    Type 0
+PutFails system bound plan log is before after =
+    PutFailsIn system bound plan Whole log is before after
+
+abbrev pub PutsWhole : System → Bound → Plan → List Sent → List Instant → RunEnd →
+    SinkView → SinkView → Type 0
+PutsWhole system bound plan log is end before after =
+    PutsAll system bound plan Whole log is end before after
+
+abbrev pub EndsBy : System → Bound → Plan → List Sent → List Instant → RunEnd →
+    SinkView → SinkView → Type 0
+EndsBy system bound plan log is end before after =
+    EndsIn system bound plan Whole log is end before after
+
+abbrev pub RunsSlots : System → Bound → Plan → List Instance → List Instance → SinkView →
+    SinkView → ℕ → RunEnd → Type 0
+RunsSlots system bound plan olds news before after counted end =
+    RunsIn system bound plan Whole olds news before after counted end

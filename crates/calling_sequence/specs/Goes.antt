@@ -1,5 +1,5 @@
 -- What a stage of a run is to it: it leads the run from one place to the next, or to an end.
-use Rattle.std.specs.Prelude.{ℕ, List, Result, Ok, Err}
+use Rattle.std.specs.Prelude.{◌≡◌, ◌<◌, ℕ, Bool, false, List, Result, Ok, Err}
 use Rattle.sim_base.specs.Sink.{SinkView}
 use Rattle.fmu_peer.specs.CloseAll.{Instance}
 use Rattle.event_iteration.specs.Clocks.{is_due_at, timers_in}
@@ -12,9 +12,9 @@ use Rattle.calling_sequence.specs.declared.ending.Break.{Break}
 use Rattle.calling_sequence.specs.declared.ending.Break.TheVariants as B
 use Rattle.calling_sequence.specs.declared.ending.Ending.{Ending}
 use Rattle.calling_sequence.specs.declared.run_end.RunEnd.TheVariants as E
-use Rattle.calling_sequence.specs.Course.{Before, Place, Seen, Spot, Stepped, Timed, Way}
-use Rattle.calling_sequence.specs.Ends.{RunsSlots, point_of}
-use Rattle.calling_sequence.specs.Here.{Follows, Here}
+use Rattle.calling_sequence.specs.Course.{Before, Extent, MayLeave, Place, Seen, Spot, Stepped, Timed, Way}
+use Rattle.calling_sequence.specs.Ends.{RunsIn, point_of, puts_instants}
+use Rattle.calling_sequence.specs.Here.{Follows, Here, Past}
 
 -- ---- places, by what the code holds
 
@@ -49,15 +49,15 @@ stepped_to s agreed = Stepped (record s { t = agreed.point; n = 0 }) agreed.aske
 abbrev pub Onward : Experiment → (p q : Place) → (mids news : List Instance) →
     (present after : SinkView) → (count counted : ℕ) → Type 0
 Onward e p q mids news present after count counted =
-    (olds : List Instance) (before : SinkView) → Here e olds before p mids present count →
-    Here e olds before q news after counted
+    (olds : List Instance) (past : Past) → Here e olds past p mids present count →
+    Here e olds past q news after counted
 
 -- it comes to this end
 abbrev pub Comes : Experiment → Place → Ending → (mids news : List Instance) →
     (present after : SinkView) → (count counted : ℕ) → Type 0
 Comes e p ending mids news present after count counted =
-    (olds : List Instance) (before : SinkView) → Here e olds before p mids present count →
-    Follows e olds before ending news after counted
+    (olds : List Instance) (past : Past) → Here e olds past p mids present count →
+    Follows e past.extent olds past.sink ending news after counted
 
 -- a stage that puts nothing: from the one place to the other, which its value tells, or to the end by a bad answer
 abbrev pub Goes : {T : Type 0} → Experiment → Place → (T → Place) → (mids news : List Instance) →
@@ -76,27 +76,59 @@ Crosses e p q mids news count counted (Ok x) =
 Crosses e p q mids news count counted (Err ending) =
     (v : SinkView) → Comes e p ending mids news v v count counted
 
--- the run breaks off so
-abbrev pub Breaks : Experiment → Place → (mids news : List Instance) → (present after : SinkView) →
-    (count counted : ℕ) → Break → Type 0
-Breaks e p mids news present after count counted (B.Ends ending) =
-    Comes e p ending mids news present after count counted
-Breaks e p mids news present after count counted B.Write =
-    (olds : List Instance) (before : SinkView) → Here e olds before p mids present count →
-    RunsSlots e.system e.bound e.plan olds news before after counted E.WriteFault
+-- the same of a step from a point
+abbrev pub StepsFrom : {T : Type 0} → Experiment → (t : ℕ) → Place → (T → Place) →
+    (mids news : List Instance) → (count counted : ℕ) → Result T Ending → Type 0
+StepsFrom e t p q mids news count counted (Ok x) =
+    (v : SinkView) (olds : List Instance) (past : Past) → MayLeave past.extent t →
+    Here e olds past p mids v count → Here e olds past (q x) news v counted
+StepsFrom e t p q mids news count counted (Err ending) =
+    (v : SinkView) (olds : List Instance) (past : Past) → MayLeave past.extent t →
+    Here e olds past p mids v count →
+    Follows e past.extent olds past.sink ending news v counted
 
--- a stage that may put instants
-abbrev pub Puts : {T : Type 0} → Experiment → Place → (T → Place) → (mids news : List Instance) →
-    (present after : SinkView) → (count counted : ℕ) → Result T Break → Type 0
-Puts e p q mids news present after count counted (Ok x) =
-    Onward e p (q x) mids news present after count counted
-Puts e p q mids news present after count counted (Err b) =
-    Breaks e p mids news present after count counted b
+-- it breaks off so
+abbrev pub BreaksOff : Experiment → (olds : List Instance) → Past → (news : List Instance) →
+    (after : SinkView) → (counted : ℕ) → Break → Type 0
+BreaksOff e olds past news after counted (B.Ends ending) =
+    Follows e past.extent olds past.sink ending news after counted
+BreaksOff e olds past news after counted B.Write =
+    RunsIn e.system e.bound e.plan past.extent olds news past.sink after counted E.WriteFault
 
--- and one that leads to the end
-abbrev pub Arrives : Experiment → Place → (mids news : List Instance) → (present after : SinkView) →
-    (count counted : ℕ) → Result Ending Break → Type 0
-Arrives e p mids news present after count counted (Ok ending) =
-    Comes e p ending mids news present after count counted
-Arrives e p mids news present after count counted (Err b) =
-    Breaks e p mids news present after count counted b
+-- ---- instants that may be put
+
+-- a stage that takes an instant, and puts it or doesn't
+abbrev pub Puts : {T : Type 0} → Experiment → (puts : Bool) → Place → (T → Place) →
+    (mids news : List Instance) → (present after : SinkView) → (count counted : ℕ) →
+    Result T Break → Type 0
+Puts e puts p q mids news present after count counted (Ok x) =
+    (olds : List Instance) (past : Past) → puts_instants past.extent ≡ puts →
+    Here e olds past p mids present count → Here e olds past (q x) news after counted
+Puts e puts p q mids news present after count counted (Err b) =
+    (olds : List Instance) (past : Past) → puts_instants past.extent ≡ puts →
+    Here e olds past p mids present count → BreaksOff e olds past news after counted b
+
+-- its instants are put or aren't, and steps begin at each point below the limit
+pub record GoesUpTo (extent : Extent) (puts : Bool) (limit : ℕ) : Type 0 where
+  pub puts_them : puts_instants extent ≡ puts
+  pub leaves : (t : ℕ) → t < limit → MayLeave extent t
+
+-- a stage that takes all instants from a place on, up to a point where the run is held, or to the end
+abbrev pub ComesTo : Experiment → (puts : Bool) → (limit : ℕ) → Place → Buffers →
+    (mids news : List Instance) → (present after : SinkView) → (count counted : ℕ) →
+    Result ℕ Break → Type 0
+ComesTo e puts limit p b mids news present after count counted (Ok t) =
+    (olds : List Instance) (past : Past) → GoesUpTo past.extent puts limit →
+    Here e olds past p mids present count →
+    (n : ℕ) × Here e olds past (Seen (spot t n b) false false) news after counted
+ComesTo e puts limit p b mids news present after count counted (Err broken) =
+    (olds : List Instance) (past : Past) → GoesUpTo past.extent puts limit →
+    Here e olds past p mids present count → BreaksOff e olds past news after counted broken
+
+-- the same to the end alone
+abbrev pub Breaks : Experiment → (puts : Bool) → (limit : ℕ) → Place →
+    (mids news : List Instance) → (present after : SinkView) → (count counted : ℕ) → Break →
+    Type 0
+Breaks e puts limit p mids news present after count counted broken =
+    (olds : List Instance) (past : Past) → GoesUpTo past.extent puts limit →
+    Here e olds past p mids present count → BreaksOff e olds past news after counted broken

@@ -1,5 +1,5 @@
 -- A run over slots as it stands at a place, and how it comes to its end.
-use Rattle.std.specs.Prelude.{◌≡◌, ◌⊎◌, ◌≤◌, ℕ, List, length, Result, Ok, Err}
+use Rattle.std.specs.Prelude.{◌≡◌, ◌⊎◌, ◌≤◌, ℕ, List, length}
 use Rattle.sim_base.specs.Sink.{SinkView, with_piece}
 use Rattle.fmu_peer.specs.CloseAll.{Instance}
 use Rattle.system_model.specs.declared.plan.EndKind.{EndKind}
@@ -12,29 +12,34 @@ use Rattle.calling_sequence.specs.declared.ending.Break.TheVariants as B
 use Rattle.calling_sequence.specs.declared.ending.Ending.{Ending}
 use Rattle.calling_sequence.specs.declared.run_end.RunEnd.{RunEnd}
 use Rattle.calling_sequence.specs.declared.run_end.RunEnd.TheVariants as E
-use Rattle.calling_sequence.specs.Course.{Course, Place}
-use Rattle.calling_sequence.specs.Ends.{Finishes, kind_of_end, pieces_of}
+use Rattle.calling_sequence.specs.Course.{CourseIn, Extent, Place}
+use Rattle.calling_sequence.specs.Ends.{FinishesIn, counted_in, kind_of_end, pieces_in}
 use Rattle.calling_sequence.specs.Puts.{CutsPiece, with_pieces}
 
+-- how a run began: the sink before it, and how much of it is gone through
+pub record Past : Type 0 where
+  pub sink : SinkView
+  pub extent : Extent
+
 -- what was called and what was put on the way to a place
-pub record Here (e : Experiment) (olds : List Instance) (before : SinkView) (p : Place)
+pub record Here (e : Experiment) (olds : List Instance) (past : Past) (p : Place)
     (news : List Instance) (after : SinkView) (count : ℕ) : Type 0 where
   pub log : List Sent
   pub is : List Instant
   pub told : Told log olds news
-  pub course : Course e.system e.bound e.plan p log is
-  pub put : after ≡ with_pieces before (pieces_of e.system e.plan is)
-  pub counted : count ≡ length is
+  pub course : CourseIn e.system e.bound e.plan past.extent p log is
+  pub put : after ≡ with_pieces past.sink (pieces_in e.system e.plan past.extent is)
+  pub counted : count ≡ counted_in past.extent is
 
 -- and on the way to an end, but for its end line
-pub record Follows (e : Experiment) (olds : List Instance) (before : SinkView) (ending : Ending)
-    (news : List Instance) (after : SinkView) (count : ℕ) : Type 0 where
+pub record Follows (e : Experiment) (extent : Extent) (olds : List Instance) (before : SinkView)
+    (ending : Ending) (news : List Instance) (after : SinkView) (count : ℕ) : Type 0 where
   pub log : List Sent
   pub is : List Instant
   pub told : Told log olds news
-  pub finishes : Finishes e.system e.bound e.plan ending.end ending.point log is
-  pub put : after ≡ with_pieces before (pieces_of e.system e.plan is)
-  pub counted : count ≡ length is
+  pub finishes : FinishesIn e.system e.bound e.plan extent ending.end ending.point log is
+  pub put : after ≡ with_pieces before (pieces_in e.system e.plan extent is)
+  pub counted : count ≡ counted_in extent is
 
 -- ---- the end line
 
@@ -51,7 +56,6 @@ PutsEnd ending end before after =
     (end_text (kind_of_end ending.end) ending.point) after)
 
 -- and it isn't put after a put that failed
-abbrev pub Concludes : Result Ending Break → RunEnd → SinkView → SinkView → Type 0
-Concludes (Ok ending) end before after = PutsEnd ending end before after
-Concludes (Err (B.Ends ending)) end before after = PutsEnd ending end before after
-Concludes (Err B.Write) end before after = (end ≡ E.WriteFault) × (after ≡ before)
+abbrev pub Concludes : Break → RunEnd → SinkView → SinkView → Type 0
+Concludes (B.Ends ending) end before after = PutsEnd ending end before after
+Concludes B.Write end before after = (end ≡ E.WriteFault) × (after ≡ before)

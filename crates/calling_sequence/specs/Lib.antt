@@ -8,3 +8,4 @@ pub mod Ends
 pub mod Ready
 pub mod Here
 pub mod Goes
+pub mod Holding

@@ -1,18 +1,56 @@
-ghost use Rattle.std.specs.Prelude.{◌≡◌, ◌≤◌, ◌<◌, ◌^◌, None, [], false, IfSome, All, length, not, option_map, position};
+ghost use Rattle.std.specs.Prelude.{◌≡◌, ◌≤◌, ◌<◌, ◌^◌, None, [], false, IfSome, IfOk, IfErr, All, length, not, option_map, position};
 ghost use Rattle.run_model.specs.Steps.{IsBound};
 ghost use Rattle.event_iteration.specs.Clocks.{IsNextFrom, timers_in};
 ghost use Rattle.event_iteration.specs.Intervals.{is_some_armed};
 ghost use Rattle.event_iteration.specs.Updates.{AreLater};
-ghost use Rattle.calling_sequence.specs.Calls.{first_unfit};
+ghost use Rattle.calling_sequence.specs.Calls.{IsStep, first_unfit};
+ghost use Rattle.calling_sequence.specs.Ends.{LacksStep};
 ghost use Rattle.system_model.specs.Plans.{IsPlan};
 
+use crate::{Ending, Experiment, RunEnd};
 use sim_base::CompId;
 use system_model::{Component, Plan, System};
 use tick_schedule::{Schedule, plain};
 
-/// The bound of the step from a point before the stop that is done, in counts: the next grid point, the next tick, the next
-/// event time or the stop.
-pub(crate) fn next_bound(plan: &Plan, schedule: &Schedule, t: u64) -> u64
+/// The bound of the step from a point before the stop that is done, or how the run ends there: where a component takes no step
+/// of that size.
+pub(crate) fn bound_from(
+    experiment: &Experiment,
+    schedule: &Schedule,
+    t: u64,
+) -> Result<u64, Ending>
+    requires plan { IsPlan experiment.now.plan }
+    requires few { length experiment.now.system.components ≤ 2 ^ 32 }
+    requires begun { experiment.now.plan.start ≤ t }
+    requires before { t < experiment.now.plan.stop }
+    requires table { (schedule.now.start ≡ experiment.now.plan.start) ×
+        (schedule.now.stop ≡ experiment.now.plan.stop) }
+    requires next { All (IsNextFrom schedule.now.start t false) schedule.now.clocks }
+    requires done { is_some_armed t (timers_in schedule.now) ≡ false }
+    requires later { AreLater t schedule.now.events }
+    ensures step { IfOk result (IsStep experiment.now.system experiment.now.plan
+        (timers_in schedule.now) schedule.now.events t) }
+    ensures unfit { IfErr result (LacksStep experiment.now.system experiment.now.plan
+        (timers_in schedule.now) schedule.now.events t) }
+{
+    let plan = &experiment.plan;
+    let bound = next_bound(plan, schedule, t);
+    match first_unfit(&experiment.system, plan, bound - t) {
+        Some(component) => Err(Ending {
+            end: RunEnd::FixedStep {
+                component,
+                at: t,
+                end: bound,
+            },
+            point: t,
+        }),
+        None => Ok(bound),
+    }
+}
+
+// The bound of the step from a point before the stop that is done, in counts: the next grid point, the next tick, the next
+// event time or the stop.
+fn next_bound(plan: &Plan, schedule: &Schedule, t: u64) -> u64
     requires plan { IsPlan plan.now }
     requires begun { plan.now.start ≤ t }
     requires before { t < plan.now.stop }
@@ -41,8 +79,8 @@ pub(crate) fn next_mark(plan: &Plan, t: u64) -> u64
     plan.stop.min(grid)
 }
 
-/// The least component that takes no step of this size.
-pub(crate) fn first_unfit(system: &System, plan: &Plan, size: u64) -> Option<CompId>
+// The least component that takes no step of this size.
+fn first_unfit(system: &System, plan: &Plan, size: u64) -> Option<CompId>
     requires { length system.now.components ≤ 2 ^ 32 }
     ensures { option_map (λ c. c.0) result ≡ first_unfit system.now plan.now size }
 {

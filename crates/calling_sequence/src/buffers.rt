@@ -1,11 +1,14 @@
 ghost use Rattle.std.specs.Prelude.{IfOk};
 ghost use Rattle.system_model.specs.Plans.{IsPlan};
-ghost use Rattle.calling_sequence.specs.Ready.{AreFresh};
+ghost use Rattle.calling_sequence.specs.Ready.{AreFresh, AreResumed, IsPlanOf};
+ghost use Rattle.system_checkpoint.specs.Spelling.{CanBeHeld};
 ghost use Rattle.system_model.specs.Sound.{IsSound};
 
 use crate::Experiment;
+use crate::resumption::{self, values_of};
 use event_iteration::{InitialReads, schedule_of};
 use std::alloc::{AllocError, Global};
+use system_checkpoint::Snapshot;
 use tick_schedule::Schedule;
 use trace_text::room_for;
 
@@ -46,6 +49,32 @@ impl Buffers {
             reads: InitialReads::of(alloc, system)?,
             schedule: schedule_of(alloc, system, plan.start, plan.stop)?,
             values: vec![in alloc; None; system.ports.len()]?,
+            text: vec![in alloc; 0u8; bytes]?,
+            instants: 0,
+        })
+    }
+
+    /// Those of a run that is resumed with what was held: the values and the Clocks stand where they did. It fails where
+    /// memory runs out.
+    pub fn resume(
+        alloc: Global,
+        experiment: &Experiment,
+        held: &Snapshot,
+    ) -> Result<Buffers, NoMemory>
+        requires sound { IsSound experiment.now.system }
+        requires plan { IsPlan experiment.now.plan }
+        requires can { CanBeHeld experiment.now.system held.now }
+        requires plan_of { IsPlanOf experiment.now.plan held.now }
+        ensures { IfOk result (AreResumed experiment.now held.now) }
+    {
+        let system = &experiment.system;
+        let Some(bytes) = room_for(system) else {
+            return Err(NoMemory);
+        };
+        Ok(Buffers {
+            reads: InitialReads::of(alloc, system)?,
+            schedule: resumption::schedule_of(alloc, experiment, held)?,
+            values: values_of(alloc, system.ports.as_slice(), held.words.as_slice())?,
             text: vec![in alloc; 0u8; bytes]?,
             instants: 0,
         })

@@ -11,7 +11,7 @@ pub struct Ending {
 /// What breaks a run off.
 #[derive(Clone, Copy, Debug, PartialEq, Eq)]
 pub enum Break {
-    /// An answer that isn't good, or a value that is lost: the end line may still be put.
+    /// The end of the run, whose end line is still to be put.
     Ends(Ending),
     /// A put that failed: nothing is put after it.
     Write,

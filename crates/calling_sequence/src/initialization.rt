@@ -1,6 +1,5 @@
-ghost use Rattle.std.specs.Prelude.{◌≡◌, ◌≤◌, ℕ, None, OnOk, false, true, length, replicate};
+ghost use Rattle.std.specs.Prelude.{◌≡◌, ℕ, None, OnOk, false, true, length, replicate};
 ghost use Rattle.std.specs.List.{list_any};
-ghost use Rattle.event_iteration.specs.Initialization.{AreReads};
 ghost use Rattle.event_iteration.specs.Clocks.{no_events};
 ghost use Rattle.run_model.specs.Initial.{is_bad_initially};
 ghost use Rattle.run_model.specs.Machines.{AreFitting};

@@ -1,4 +1,4 @@
-ghost use Rattle.std.specs.Prelude.{◌≡◌, ◌==◌, ◌<◌, ◌^◌, ◌+◌, ◌||◌, ℕ, false, OnOk, IfOk, All, length};
+ghost use Rattle.std.specs.Prelude.{◌≡◌, ◌==◌, ◌<◌, ◌+◌, ◌||◌, false, OnOk, IfOk, length};
 ghost use Rattle.std.specs.List.{list_any};
 ghost use Rattle.run_model.specs.Equations.{is_bad};
 ghost use Rattle.run_model.specs.Plain.{HasNoChanges};
@@ -7,10 +7,11 @@ ghost use Rattle.event_iteration.specs.Intervals.{TellsTicks, is_some_armed};
 ghost use Rattle.event_iteration.specs.Questions.{AreActive, modes};
 ghost use Rattle.event_iteration.specs.Updates.{AreLater};
 ghost use Rattle.slot_calls.specs.Slots.{instances};
+ghost use Rattle.slot_calls.specs.Stage.{shapes_of};
 ghost use Rattle.calling_sequence.specs.Course.{Read, Rearmed};
 ghost use Rattle.calling_sequence.specs.Goes.{Goes, Puts, before_instant, seen, spot};
 ghost use Rattle.calling_sequence.specs.Place.{IsAt, IsSettled, IsTaking};
-ghost use Rattle.calling_sequence.specs.Ready.{AreTimed, Ready};
+ghost use Rattle.calling_sequence.specs.Ready.{AreTimed, HaveModes, Ready};
 
 use crate::text::put_values;
 use crate::{BadAnswer, Break, Buffers, Ending, Experiment, RunEnd};
@@ -20,8 +21,8 @@ use sim_base::Sink;
 
 /// Takes the n-th instant at a point, up to the first answer that isn't good: it finds the values from those of the instant
 /// before, and where none is lost on its way to an input it asks each countdown Clock, and each changing one that ticked, for its
-/// interval and each FMU with event mode for what follows, and puts the instant. It is told whether another follows at the
-/// point, by an Update or by a Clock that is armed for it; the event times are those that the Updates ask for. `has_changes`
+/// interval and each FMU with event mode for what follows, and puts the instant, or doesn't. It is told whether another follows at
+/// the point, by an Update or by a Clock that is armed for it; the event times are those that the Updates ask for. `has_changes`
 /// tells whether some path of connections makes a change of values.
 pub(crate) fn take<L: Peer, O: Sink>(
     slots: &mut [Slot<L>],
@@ -30,6 +31,7 @@ pub(crate) fn take<L: Peer, O: Sink>(
     t: u64,
     n: u64,
     has_changes: bool,
+    puts: bool,
     out: &mut O,
 ) -> Result<Updated, Break>
     requires ready { Ready L.view experiment.now (IsAt t) slots.old }
@@ -43,8 +45,10 @@ pub(crate) fn take<L: Peer, O: Sink>(
     ensures unarmed { IfOk result (λ u. u.again ≡ false →
         is_some_armed t (timers_in buffers.new.schedule) ≡ false) }
     ensures later { OnOk result (AreLater t buffers.new.schedule.events) }
+    ensures modes { OnOk result (HaveModes (shapes_of experiment.now.system)
+        buffers.new.schedule.events) }
     ensures text { length buffers.new.text.items ≡ length buffers.old.text.items }
-    ensures puts { Puts experiment.now (before_instant t n buffers.old)
+    ensures puts { Puts experiment.now puts (before_instant t n buffers.old)
         (λ u. seen t n buffers.new u) (instances L.view slots.old) (instances L.view slots.new)
         (O.view out.old) (O.view out.new) buffers.old.instants buffers.new.instants result }
 {
@@ -72,7 +76,7 @@ pub(crate) fn take<L: Peer, O: Sink>(
             }));
         }
     };
-    show(slots, experiment, buffers, t, n, is_armed, out)
+    show(slots, experiment, buffers, t, n, is_armed, puts, out)
 }
 
 // Finds the values of the instant.
@@ -143,7 +147,7 @@ fn ask<L: Peer>(
     )
 }
 
-// Asks each FMU with event mode for what follows, which tells the event times, and puts the instant.
+// Asks each FMU with event mode for what follows, which tells the event times, and puts the instant, or doesn't.
 fn show<L: Peer, O: Sink>(
     slots: &mut [Slot<L>],
     experiment: &Experiment,
@@ -151,6 +155,7 @@ fn show<L: Peer, O: Sink>(
     t: u64,
     n: u64,
     is_armed: bool,
+    puts: bool,
     out: &mut O,
 ) -> Result<Updated, Break>
     requires ready { Ready L.view experiment.now (IsTaking t) slots.old }
@@ -164,8 +169,10 @@ fn show<L: Peer, O: Sink>(
     ensures unarmed { IfOk result (λ u. u.again ≡ false →
         is_some_armed t (timers_in buffers.new.schedule) ≡ false) }
     ensures later { OnOk result (AreLater t buffers.new.schedule.events) }
+    ensures modes { OnOk result (HaveModes (shapes_of experiment.now.system)
+        buffers.new.schedule.events) }
     ensures text { length buffers.new.text.items ≡ length buffers.old.text.items }
-    ensures puts { Puts experiment.now (Rearmed (spot t n buffers.old))
+    ensures puts { Puts experiment.now puts (Rearmed (spot t n buffers.old))
         (λ u. seen t n buffers.new u) (instances L.view slots.old) (instances L.view slots.new)
         (O.view out.old) (O.view out.new) buffers.old.instants buffers.new.instants result }
 {
@@ -178,6 +185,9 @@ fn show<L: Peer, O: Sink>(
             }));
         }
     };
+    if !puts {
+        return Ok(with_armed(updated, is_armed));
+    }
     match put_values(
         &experiment.system,
         t,

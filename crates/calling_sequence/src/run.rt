@@ -1,14 +1,14 @@
-ghost use Rattle.std.specs.Prelude.{◌≡◌, length};
+ghost use Rattle.std.specs.Prelude.{◌≡◌, ◌≤◌, ◌<◌, ℕ, IfOk, length, true};
 ghost use Rattle.slot_calls.specs.Slots.{instances};
 ghost use Rattle.calling_sequence.specs.Course.{Made};
 ghost use Rattle.calling_sequence.specs.Ends.{RunsSlots};
-ghost use Rattle.calling_sequence.specs.Goes.{Arrives};
-ghost use Rattle.calling_sequence.specs.Ready.{MayBegin};
+ghost use Rattle.calling_sequence.specs.Goes.{Breaks, ComesTo, before_instant};
+ghost use Rattle.calling_sequence.specs.Place.{IsAt, IsSettled};
+ghost use Rattle.calling_sequence.specs.Ready.{AreTimed, IsDone, MayBegin, Ready};
 
-use crate::bounds::{first_unfit, next_bound};
 use crate::initialization::initialize;
 use crate::instants::take;
-use crate::steps::{cross, enter_event};
+use crate::steps::step_on;
 use crate::text::{conclude, put_head};
 use crate::{Break, Buffers, Ending, Experiment, RunEnd};
 use event_iteration::has_changes;
@@ -46,8 +46,8 @@ pub fn run_slots<R: Threads + Sync, L: Peer, O: Sink>(
         Ok(()) => {}
         Err(_) => return RunEnd::WriteFault,
     }
-    let outcome = follow(rt, slots, experiment, buffers, out);
-    conclude(outcome, &mut buffers.text, out)
+    let broken = follow(rt, slots, experiment, buffers, out);
+    conclude(broken, &mut buffers.text, out)
 }
 
 // Runs instances that were made to the end of the run, and puts each instant.
@@ -57,79 +57,118 @@ fn follow<R: Threads + Sync, L: Peer, O: Sink>(
     experiment: &Experiment,
     buffers: &mut Buffers,
     out: &mut O,
-) -> Result<Ending, Break>
+) -> Break
     requires { MayBegin L.view experiment.now slots.old buffers.old }
     ensures text { length buffers.new.text.items ≡ length buffers.old.text.items }
-    ensures arrives { Arrives experiment.now Made (instances L.view slots.old)
-        (instances L.view slots.new) (O.view out.old) (O.view out.new) buffers.old.instants
-        buffers.new.instants result }
+    ensures breaks { Breaks experiment.now true experiment.now.plan.stop Made
+        (instances L.view slots.old) (instances L.view slots.new) (O.view out.old)
+        (O.view out.new) buffers.old.instants buffers.new.instants result }
 {
     let plan = &experiment.plan;
     match initialize(slots, experiment, buffers) {
         Ok(()) => {}
-        Err(ending) => return Ok(ending),
+        Err(ending) => return Break::Ends(ending),
     }
+    go_on(rt, slots, experiment, buffers, plan.start, out)
+}
+
+/// Takes the instants from a point on, with a step between one point and the next, to the end of the run, and puts each.
+pub(crate) fn go_on<R: Threads + Sync, L: Peer, O: Sink>(
+    rt: &R,
+    slots: &mut [Slot<L>],
+    experiment: &Experiment,
+    buffers: &mut Buffers,
+    from: u64,
+    out: &mut O,
+) -> Break
+    requires ready { Ready L.view experiment.now (IsAt from) slots.old }
+    requires timed { AreTimed experiment.now from 0 true buffers.old }
+    requires begun { experiment.now.plan.start ≤ from }
+    ensures text { length buffers.new.text.items ≡ length buffers.old.text.items }
+    ensures breaks { Breaks experiment.now true experiment.now.plan.stop
+        (before_instant from 0 buffers.old) (instances L.view slots.old)
+        (instances L.view slots.new) (O.view out.old) (O.view out.new) buffers.old.instants
+        buffers.new.instants result }
+{
+    match come_to(
+        rt,
+        slots,
+        experiment,
+        buffers,
+        from,
+        experiment.plan.stop,
+        true,
+        out,
+    ) {
+        Ok(_) => unreachable!(),
+        Err(broken) => broken,
+    }
+}
+
+/// Takes the instants from a point on, with a step between one point and the next, up to the first point from the limit on that
+/// is done and before the stop, or to the end of the run. Each instant is put, or none is.
+pub(crate) fn come_to<R: Threads + Sync, L: Peer, O: Sink>(
+    rt: &R,
+    slots: &mut [Slot<L>],
+    experiment: &Experiment,
+    buffers: &mut Buffers,
+    from: u64,
+    limit: u64,
+    puts: bool,
+    out: &mut O,
+) -> Result<u64, Break>
+    requires ready { Ready L.view experiment.now (IsAt from) slots.old }
+    requires timed { AreTimed experiment.now from 0 true buffers.old }
+    requires begun { experiment.now.plan.start ≤ from }
+    ensures text { length buffers.new.text.items ≡ length buffers.old.text.items }
+    ensures ready { IfOk result (λ t. Ready L.view experiment.now (IsSettled t) slots.new) }
+    ensures done { IfOk result (λ t. (n : ℕ) × IsDone experiment.now t n buffers.new) }
+    ensures reached { IfOk result (λ t. limit ≤ t) }
+    ensures early { IfOk result (λ t. t < experiment.now.plan.stop) }
+    ensures comes { ComesTo experiment.now puts limit (before_instant from 0 buffers.old)
+        buffers.new (instances L.view slots.old) (instances L.view slots.new) (O.view out.old)
+        (O.view out.new) buffers.old.instants buffers.new.instants result }
+{
+    let plan = &experiment.plan;
     let has_changes = has_changes(&experiment.system);
-    let mut t = plan.start;
+    let mut t = from;
     let mut n = 0;
     'instants: loop {
-        let updated = match take(slots, experiment, buffers, t, n, has_changes, out) {
+        let updated = match take(slots, experiment, buffers, t, n, has_changes, puts, out) {
             Ok(updated) => updated,
             Err(broken) => return Err(broken),
         };
         if updated.asked {
-            return Ok(Ending {
+            return Err(Break::Ends(Ending {
                 end: RunEnd::Asked { point: t },
                 point: t,
-            });
+            }));
         }
         if updated.again {
             n += 1;
             if n == plan.limit {
-                return Ok(Ending {
+                return Err(Break::Ends(Ending {
                     end: RunEnd::EventLimit { point: t },
                     point: t,
-                });
+                }));
             }
             continue;
         }
         if t == plan.stop {
-            return Ok(Ending {
+            return Err(Break::Ends(Ending {
                 end: RunEnd::Stop,
                 point: t,
-            });
+            }));
         }
-        let bound = next_bound(plan, &buffers.schedule, t);
-        if let Some(component) = first_unfit(&experiment.system, plan, bound - t) {
-            return Ok(Ending {
-                end: RunEnd::FixedStep {
-                    component,
-                    at: t,
-                    end: bound,
-                },
-                point: t,
-            });
+        if limit <= t {
+            return Ok(t);
         }
-        let agreed = match cross(rt, slots, experiment, buffers, t, n, bound) {
-            Ok(agreed) => agreed,
-            Err(ending) => return Ok(ending),
-        };
-        t = agreed.point;
-        n = 0;
-        if agreed.asked {
-            return Ok(Ending {
-                end: RunEnd::Asked { point: t },
-                point: t,
-            });
-        }
-        match enter_event(slots, experiment, t) {
-            Ok(()) => {}
-            Err(bad) => {
-                return Err(Break::Ends(Ending {
-                    end: RunEnd::Bad(bad),
-                    point: t,
-                }));
+        match step_on(rt, slots, experiment, buffers, t, n) {
+            Ok(point) => {
+                t = point;
+                n = 0;
             }
+            Err(ending) => return Err(Break::Ends(ending)),
         }
     }
 }

@@ -26,6 +26,10 @@ pub enum RunEnd {
         lost: LostValue,
         point: u64,
     },
+    /// at a point where the run is held, and its checkpoint was put
+    Held {
+        point: u64,
+    },
     /// by the first answer that isn't good
     Bad(BadAnswer),
     /// by a put that failed

@@ -73,17 +73,13 @@ pub(crate) fn put_values<O: Sink>(
 }
 
 /// Puts the end line, unless a put failed before.
-pub(crate) fn conclude<O: Sink>(
-    outcome: Result<Ending, Break>,
-    text: &mut [u8],
-    out: &mut O,
-) -> RunEnd
+pub(crate) fn conclude<O: Sink>(broken: Break, text: &mut [u8], out: &mut O) -> RunEnd
     requires { HoldsEnds (length text.old) }
-    ensures { Concludes outcome result (O.view out.old) (O.view out.new) }
+    ensures { Concludes broken result (O.view out.old) (O.view out.new) }
 {
-    match outcome {
-        Ok(ending) | Err(Break::Ends(ending)) => finish(ending, text, out),
-        Err(Break::Write) => RunEnd::WriteFault,
+    match broken {
+        Break::Ends(ending) => finish(ending, text, out),
+        Break::Write => RunEnd::WriteFault,
     }
 }
 
@@ -104,7 +100,7 @@ fn kind_of_end(end: RunEnd) -> EndKind
     ensures { result ≡ kind_of_end end }
 {
     match end {
-        RunEnd::Stop => EndKind::Stop,
+        RunEnd::Stop | RunEnd::Held { .. } => EndKind::Stop,
         RunEnd::Asked { .. } => EndKind::Asked,
         RunEnd::EventLimit { .. } => EndKind::Limit,
         RunEnd::FixedStep { .. } => EndKind::Fixed,

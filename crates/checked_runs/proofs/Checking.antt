@@ -51,10 +51,10 @@ alone one path answer h = elim (Contains-push_cases [] one (record { path = path
   | inr same ↦ ap (λ (read : ReadNote). read.answer) same
 ]
 
-heads : (x y : ReadNote) (xs ys : List ReadNote) → x ∷ xs ≡ y ∷ ys → x ≡ y
+pub heads : (x y : ReadNote) (xs ys : List ReadNote) → x ∷ xs ≡ y ∷ ys → x ≡ y
 heads x y xs ys e = cc
 
-tails : (x y : ReadNote) (xs ys : List ReadNote) → x ∷ xs ≡ y ∷ ys → xs ≡ ys
+pub tails : (x y : ReadNote) (xs ys : List ReadNote) → x ∷ xs ≡ y ∷ ys → xs ≡ ys
 tails x y xs ys e = cc
 
 pub record IsParted (first rest : List ReadNote) (read : ReadNote) (later : List ReadNote) : Type 0 where
@@ -88,7 +88,7 @@ last_unfailed : (reads : List ReadNote) (read : ReadNote) → AreUnfailed (reads
 last_unfailed reads read all =
     subst (λ (x : ReadNote). x.answer ≡ Err f.Failed → ⊥) (get_or_push reads read read (length reads) refl) (all (length reads) read (omega (arith, length_push reads read)))
 
-none_failed : (old mid new : FolderView) (some told : List ReadNote) (path : List ℕ) → mid ≡ with_reads old some → new ≡ with_read mid path (Err f.Failed) → new ≡ with_reads old told →
+pub none_failed : (old mid new : FolderView) (some told : List ReadNote) (path : List ℕ) → mid ≡ with_reads old some → new ≡ with_read mid path (Err f.Failed) → new ≡ with_reads old told →
     AreUnfailed told → ⊥
 none_failed old mid new some told path m failed is unfailed =
     let read = read_of path (Err f.Failed) in
@@ -97,7 +97,7 @@ none_failed old mid new some told path m failed is unfailed =
     append_cancel_left old.reads (some ++ read ∷ []) told (sym (append_assoc old.reads some (read ∷ [])) ∙ sym behind ∙ ap (λ (v : FolderView). v.reads) is) in
     last_unfailed some read (subst AreUnfailed (sym same) unfailed) refl
 
-both_read : (old mid new : FolderView) (some more : List ReadNote) → mid ≡ with_reads old some → new ≡ with_reads mid more → new ≡ with_reads old (some ++ more)
+pub both_read : (old mid new : FolderView) (some more : List ReadNote) → mid ≡ with_reads old some → new ≡ with_reads mid more → new ≡ with_reads old (some ++ more)
 both_read old mid new some more m n =
     n ∙ ap (λ (v : FolderView). with_reads v more) m ∙ ap (λ (reads : List ReadNote). record old { reads = reads }) (append_assoc old.reads some more)
 

@@ -1,1 +1,6 @@
 mod Checking
+mod Later
+mod SameFiles
+mod OneRun
+mod TwoParts
+mod BuiltIns

@@ -3,7 +3,7 @@ use Rattle.std.specs.Prelude.{ℕ, ◌≤◌, List, length, map, IfSome}
 use Rattle.std.proofs.Common.{subst, sym}
 use Rattle.std.proofs.lemmas.List.{length-map}
 use Rattle.std.specs.declared.snapshot.Snapshot.{Snapshot}
-use Rattle.fmu_peer.specs.Machine.{IgnoresSlot, IsLawful, IsMachineOf}
+use Rattle.fmu_peer.specs.Machine.{IgnoresSlot, IsLawful, IsMachineOf, UnpacksWell}
 use Rattle.fmu_peer.specs.View.{TellsItsPhase}
 use Rattle.bench_fmus.specs.Laws as laws
 use Rattle.std.specs.declared.process.pipes.ChildStdout.{ChildStdout}
@@ -28,6 +28,11 @@ pub ignores_slot : {W : Type 0} (view : W → WireView) (p : HostLink W) →
     IfSome (link_view view p).fixed.machine IgnoresSlot
 ignores_slot view (BuiltIn b) = laws.answers_alike b.value.model b.value.book.shape
 ignores_slot view (Child c) = tt
+
+pub unpacks_well : {W : Type 0} (view : W → WireView) (p : HostLink W) →
+    IfSome (link_view view p).fixed.machine UnpacksWell
+unpacks_well view (BuiltIn b) = laws.unpacks_well b.value.model b.value.book.shape
+unpacks_well view (Child c) = tt
 
 pub is_lawful : {W : Type 0} (view : W → WireView) (p : HostLink W) →
     IfSome (link_view view p).fixed.machine (IsLawful (link_view view p).fixed.shape)

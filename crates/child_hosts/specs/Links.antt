@@ -7,6 +7,7 @@ use Rattle.std.specs.declared.io.ErrorKind.{ErrorKind}
 use Rattle.std.specs.declared.io.ErrorKind.TheVariants.{OutOfMemory}
 use Rattle.value_types.specs.declared.shape.Shape.{Shape}
 use Rattle.fmi_calls.specs.declared.call.Call.{Call}
+use Rattle.fmi_calls.specs.declared.call.Call.TheVariants as C
 use Rattle.fmi_calls.specs.declared.call.Reply.{Reply}
 use Rattle.fmu_peer.specs.Book.{fills_next}
 use Rattle.fmu_peer.specs.declared.peer.PeerFault.{PeerFault}
@@ -18,11 +19,11 @@ use Rattle.fmu_peer.specs.Machine.{Machine}
 use Rattle.fmu_peer.specs.Start.{SpawnerView}
 use Rattle.fmu_peer.specs.View.{View}
 use Rattle.fmu_link.specs.Batches.{GoAsAgreed}
-use Rattle.fmu_link.specs.Exchange.{Exchanged}
+use Rattle.fmu_link.specs.Exchange.{Exchanged, ExchangedState, ExchangedWith}
 use Rattle.fmu_link.specs.Piped.{line_view, piped_view}
 use Rattle.fmu_link.specs.Wire.{WireView, wire_view}
 use Rattle.bench_fmus.specs.declared.built_in.BuiltIn.{BuiltIn as BuiltInFmu}
-use Rattle.bench_fmus.specs.BuiltInView.{built_in_reply, built_in_view}
+use Rattle.bench_fmus.specs.BuiltInView.{built_in_reply, built_in_reply_at, built_in_view}
 use Rattle.bench_fmus.specs.Models.{is_model, machine_named, model_named}
 use Rattle.command_line.specs.Line.{built_in_host}
 use Rattle.child_hosts.specs.declared.child_fmu.ChildFmu.{ChildFmu}
@@ -63,6 +64,14 @@ pub record AnswersItself (old : BuiltInFmu) (call : Call) (result : Result Reply
   pub room : option_map (λ (t : TalkRoom). t.room) new.book.talk ≡
       option_map (λ (t : TalkRoom). t.room) old.book.talk
 
+-- so it answers a Deserialize with these bytes
+pub record AnswersWith (old : BuiltInFmu) (call : Call) (state : List ℕ)
+    (result : Result Reply PeerFault) (new : BuiltInFmu) : Type 0 where
+  pub answer : result ≡ (if fills_next old.book.talk then Err PeerFailed else Ok
+      (built_in_reply_at old call state))
+  pub room : option_map (λ (t : TalkRoom). t.room) new.book.talk ≡
+      option_map (λ (t : TalkRoom). t.room) old.book.talk
+
 -- a built-in machine answers itself; a child is sent the call's frame on its wire, and what comes is the answer
 abbrev pub AnswersBy : {W : Type 0} → (W → WireView) → HostLink W → Call →
     Result Reply PeerFault → HostLink W → Type 0
@@ -83,6 +92,28 @@ AnswersManyBy view (Child old) calls replies result (Child new) =
     (line_view view new.value.peer) replies result
 AnswersManyBy view (BuiltIn old) calls replies result (Child new) = ⊥
 AnswersManyBy view (Child old) calls replies result (BuiltIn new) = ⊥
+
+-- a Serialize, with the bytes of the state: a child is sent its frame, and what comes after the answer are these bytes
+abbrev pub SerializesBy : {W : Type 0} → (W → WireView) → HostLink W →
+    Result Reply PeerFault → List ℕ → HostLink W → Type 0
+SerializesBy view (BuiltIn old) result state (BuiltIn new) =
+    AnswersItself old.value C.Serialize result new.value
+SerializesBy view (Child old) result state (Child new) =
+    ExchangedState old.value.peer.instance.name old.value.peer.instance.shape.token
+    (line_view view old.value.peer) (line_view view new.value.peer) result state
+SerializesBy view (BuiltIn old) result state (Child new) = ⊥
+SerializesBy view (Child old) result state (BuiltIn new) = ⊥
+
+-- a Deserialize: a child is sent the bytes after its frame
+abbrev pub AnswersWithBy : {W : Type 0} → (W → WireView) → HostLink W → Call → List ℕ →
+    Result Reply PeerFault → HostLink W → Type 0
+AnswersWithBy view (BuiltIn old) call state result (BuiltIn new) =
+    AnswersWith old.value call state result new.value
+AnswersWithBy view (Child old) call state result (Child new) =
+    ExchangedWith call state old.value.peer.instance.name old.value.peer.instance.shape.token
+    (line_view view old.value.peer) (line_view view new.value.peer) result
+AnswersWithBy view (BuiltIn old) call state result (Child new) = ⊥
+AnswersWithBy view (Child old) call state result (BuiltIn new) = ⊥
 
 -- it is a built-in machine that keeps no talk
 abbrev pub KeepsNoTalk : {W : Type 0} → HostLink W → Type 0

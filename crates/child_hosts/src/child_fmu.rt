@@ -1,12 +1,12 @@
-ghost use Rattle.std.specs.Prelude.{◌≡◌, ◌↔◌, ◌≤◌, ◌^◌, IfOk, IfErr, IsTrue, length};
+ghost use Rattle.std.specs.Prelude.{◌≡◌, ◌↔◌, ◌≤◌, ◌^◌, [], false, IfOk, IfErr, IsTrue, length, vec_capacity};
 ghost use Rattle.std.specs.IoError.{error_kind};
 ghost use Rattle.fmi_calls.specs.Permission.{Permitted};
 ghost use Rattle.fmi_calls.specs.declared.phase.InstanceState.TheVariants.{Gone};
 ghost use Rattle.fmu_link.specs.Batches.{GoAsAgreed};
-ghost use Rattle.fmu_link.specs.Exchange.{Exchanged};
+ghost use Rattle.fmu_link.specs.Exchange.{Exchanged, ExchangedState, ExchangedWith};
 ghost use Rattle.fmu_link.specs.Piped.{line_view};
 ghost use Rattle.fmu_peer.specs.Many.{AreOfOneSort, AskedMany, MayAskAll};
-ghost use Rattle.fmu_peer.specs.View.{Asked};
+ghost use Rattle.fmu_peer.specs.View.{Asked, AskedWith, IsDeserialize, Serializes, carries_bytes};
 ghost use Rattle.fmu_peer.specs.declared.spawner.StartFault.TheVariants.{Unknown};
 ghost use Rattle.child_hosts.specs.Links.{child_view, start_fault};
 
@@ -163,6 +163,8 @@ impl<W: Wire + Send> Peer for ChildFmu<W> {
 
     ghost ignores_slot = { λ c. tt };
 
+    ghost unpacks = { λ c. tt };
+
     ghost lawful = { λ c. tt };
 
     fn shape(&self) -> &Shape {
@@ -175,7 +177,9 @@ impl<W: Wire + Send> Peer for ChildFmu<W> {
 
     #[inline(never)]
     fn call(&mut self, call: &Call) -> Result<Reply, PeerFault>
-        requires { Permitted self.old.peer.instance.shape self.old.peer.instance.phase call.now }
+        requires permitted { Permitted self.old.peer.instance.shape self.old.peer.instance.phase
+            call.now }
+        requires plain { carries_bytes call.now ≡ false }
         ensures asked { Asked (child_view W.view self.old) call.now result
             (child_view W.view self.new) }
 
@@ -202,5 +206,40 @@ impl<W: Wire + Send> Peer for ChildFmu<W> {
             (line_view W.view self.old.peer) (line_view W.view self.new.peer) replies.new result }
     {
         self.peer.call_many(calls, replies)
+    }
+
+    #[inline(never)]
+    fn serialize(&mut self, into: &mut Vec<u8>) -> Result<Reply, PeerFault>
+        requires permitted { Permitted self.old.peer.instance.shape self.old.peer.instance.phase
+            Call.Serialize }
+        requires empty { into.old.items ≡ [] }
+        requires room { 2 ^ 20 ≤ vec_capacity into.old }
+        ensures asked { Asked (child_view W.view self.old) Call.Serialize result
+            (child_view W.view self.new) }
+        ensures bytes { Serializes (child_view W.view self.old) result into.new.items }
+        ensures room { vec_capacity into.old ≤ vec_capacity into.new }
+
+        // The bytes of the state come after the child's reply.
+        ensures exchanged { ExchangedState self.old.peer.instance.name
+            self.old.peer.instance.shape.token (line_view W.view self.old.peer)
+            (line_view W.view self.new.peer) result into.new.items }
+    {
+        self.peer.serialize(into)
+    }
+
+    #[inline(never)]
+    fn deserialize(&mut self, call: &Call, bytes: &[u8]) -> Result<Reply, PeerFault>
+        requires permitted { Permitted self.old.peer.instance.shape self.old.peer.instance.phase
+            call.now }
+        requires length { IsDeserialize call.now (length bytes.now) }
+        ensures asked { AskedWith (child_view W.view self.old) call.now bytes.now result
+            (child_view W.view self.new) }
+
+        // The child is sent the bytes after the call's frame.
+        ensures exchanged { ExchangedWith call.now bytes.now self.old.peer.instance.name
+            self.old.peer.instance.shape.token (line_view W.view self.old.peer)
+            (line_view W.view self.new.peer) result }
+    {
+        self.peer.deserialize(call, bytes)
     }
 }

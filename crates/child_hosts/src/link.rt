@@ -1,8 +1,8 @@
-ghost use Rattle.std.specs.Prelude.{◌≡◌, IsOk, length};
+ghost use Rattle.std.specs.Prelude.{◌≡◌, ◌≤◌, ◌^◌, [], false, IsOk, length, vec_capacity};
 ghost use Rattle.fmi_calls.specs.Permission.{Permitted};
 ghost use Rattle.fmu_peer.specs.Many.{AreOfOneSort, AskedMany, MayAskAll};
-ghost use Rattle.fmu_peer.specs.View.{Asked};
-ghost use Rattle.child_hosts.specs.Links.{AnswersBy, AnswersManyBy, KeepsNoTalk, link_view};
+ghost use Rattle.fmu_peer.specs.View.{Asked, AskedWith, IsDeserialize, Serializes, carries_bytes};
+ghost use Rattle.child_hosts.specs.Links.{AnswersBy, AnswersManyBy, AnswersWithBy, KeepsNoTalk, SerializesBy, link_view};
 
 use crate::ChildFmu;
 use bench_fmus::BuiltIn;
@@ -30,7 +30,7 @@ impl<W: Wire + Send + Drop> HostLink<W> {
 }
 
 impl<W: Wire + Send> Peer for HostLink<W> {
-    ghost use Rattle.child_hosts.specs.LinkLaws.{ignores_slot, is_in_phase, is_lawful, is_machine};
+    ghost use Rattle.child_hosts.specs.LinkLaws.{ignores_slot, is_in_phase, is_lawful, is_machine, unpacks_well};
 
     ghost view = { link_view W.view };
 
@@ -39,6 +39,8 @@ impl<W: Wire + Send> Peer for HostLink<W> {
     ghost in_phase = { is_in_phase W.view };
 
     ghost ignores_slot = { ignores_slot W.view };
+
+    ghost unpacks = { unpacks_well W.view };
 
     ghost lawful = { is_lawful W.view };
 
@@ -57,8 +59,9 @@ impl<W: Wire + Send> Peer for HostLink<W> {
     }
 
     fn call(&mut self, call: &Call) -> Result<Reply, PeerFault>
-        requires { Permitted (link_view W.view self.old).fixed.shape
+        requires permitted { Permitted (link_view W.view self.old).fixed.shape
             (link_view W.view self.old).phase call.now }
+        requires plain { carries_bytes call.now ≡ false }
         ensures asked { Asked (link_view W.view self.old) call.now result
             (link_view W.view self.new) }
         ensures answers { AnswersBy W.view self.old call.now result self.new }
@@ -85,6 +88,43 @@ impl<W: Wire + Send> Peer for HostLink<W> {
         match self {
             HostLink::BuiltIn(peer) => return peer.call_many(calls, replies),
             HostLink::Child(peer) => return peer.call_many(calls, replies),
+        }
+    }
+
+    fn serialize(&mut self, into: &mut Vec<u8>) -> Result<Reply, PeerFault>
+        requires permitted { Permitted (link_view W.view self.old).fixed.shape
+            (link_view W.view self.old).phase Call.Serialize }
+        requires empty { into.old.items ≡ [] }
+        requires room { 2 ^ 20 ≤ vec_capacity into.old }
+        ensures asked { Asked (link_view W.view self.old) Call.Serialize result
+            (link_view W.view self.new) }
+        ensures bytes { Serializes (link_view W.view self.old) result into.new.items }
+        ensures room { vec_capacity into.old ≤ vec_capacity into.new }
+        ensures answers { SerializesBy W.view self.old result into.new.items self.new }
+
+        // A built-in machine that keeps no talk never fails.
+        ensures steady { KeepsNoTalk self.old → IsOk result × KeepsNoTalk self.new }
+    {
+        match self {
+            HostLink::BuiltIn(peer) => return peer.serialize(into),
+            HostLink::Child(peer) => return peer.serialize(into),
+        }
+    }
+
+    fn deserialize(&mut self, call: &Call, bytes: &[u8]) -> Result<Reply, PeerFault>
+        requires permitted { Permitted (link_view W.view self.old).fixed.shape
+            (link_view W.view self.old).phase call.now }
+        requires length { IsDeserialize call.now (length bytes.now) }
+        ensures asked { AskedWith (link_view W.view self.old) call.now bytes.now result
+            (link_view W.view self.new) }
+        ensures answers { AnswersWithBy W.view self.old call.now bytes.now result self.new }
+
+        // A built-in machine that keeps no talk never fails.
+        ensures steady { KeepsNoTalk self.old → IsOk result × KeepsNoTalk self.new }
+    {
+        match self {
+            HostLink::BuiltIn(peer) => return peer.deserialize(call, bytes),
+            HostLink::Child(peer) => return peer.deserialize(call, bytes),
         }
     }
 }

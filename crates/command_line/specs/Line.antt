@@ -1,5 +1,6 @@
 -- The command lines of the program: `one DIR --resolution R --step H --stop T [--start S] [--workers W]
--- [--max-iterations N] [--link L] [--host PROGRAM]`, `run` with the same arguments after it, `check DIR --resolution R`, `trace-check DIR FILE`,
+-- [--max-iterations N] [--link L] [--host PROGRAM]`, `run` with the same arguments after it, `checkpoint` with these and `--at P`,
+-- `resume DIR FILE [--workers W] [--link L] [--host PROGRAM]`, `check DIR --resolution R`, `trace-check DIR FILE`,
 -- and `bench SEED N [--workers W]`.
 use Rattle.std.specs.Prelude.{◌≡◌, ℕ, ◌^◌, ◌<◌, ◌≤◌, Bool, true, false, List, [], ◌∷◌, map, find, Option, Some, None, if◌then◌else◌, codes, decimal, String, string_bytes}
 use Rattle.std.specs.Str.{bytes_eq}
@@ -9,11 +10,13 @@ use Rattle.system_model.specs.Plans.{IsPlan}
 use Rattle.command_line.specs.Words.{Word, Item, IsSpelled, has_each_once, is_among, positionals_of, value_of}
 use Rattle.command_line.specs.declared.words.BenchOptions.{BenchOptions}
 use Rattle.command_line.specs.declared.words.CheckOptions.{CheckOptions}
+use Rattle.command_line.specs.declared.words.CheckpointOptions.{CheckpointOptions}
 use Rattle.command_line.specs.declared.words.CommandLine.{CommandLine}
 use Rattle.command_line.specs.declared.words.CommandLine.TheVariants as R
 use Rattle.command_line.specs.declared.words.Options.{Options}
 use Rattle.command_line.specs.declared.words.Request.{Request}
 use Rattle.command_line.specs.declared.words.Request.TheVariants as Q
+use Rattle.command_line.specs.declared.words.ResumeOptions.{ResumeOptions}
 use Rattle.command_line.specs.declared.words.TraceOptions.{TraceOptions}
 
 -- ---- the table of the commands
@@ -103,6 +106,23 @@ one_row = directory_row (codes "one") run_options
 abbrev pub run_row : CommandRow
 run_row = directory_row (codes "run") run_options
 
+-- the point from which on a run may be held
+abbrev pub at_row : CountRow
+at_row = count_row (codes "at") 0 (2 ^ 62) None
+
+-- the run of a system up to a point where it is held
+abbrev pub checkpoint_row : CommandRow
+checkpoint_row = directory_row (codes "checkpoint") (CountOption at_row ∷ run_options)
+
+-- the rest of a run that was held
+abbrev pub resume_row : CommandRow
+resume_row = record {
+  name = codes "resume";
+  positionals = codes "DIR" ∷ codes "FILE" ∷ [];
+  options =
+      CountOption workers_row ∷ CountOption link_row ∷ TextOption host_row ∷ [];
+}
+
 -- the size of a system
 abbrev pub check_row : CommandRow
 check_row = directory_row (codes "check") (CountOption resolution_row ∷ [])
@@ -131,7 +151,8 @@ bench_row = record {
 }
 
 abbrev pub commands : List CommandRow
-commands = one_row ∷ run_row ∷ check_row ∷ trace_check_row ∷ bench_row ∷ []
+commands =
+    one_row ∷ run_row ∷ check_row ∷ trace_check_row ∷ bench_row ∷ checkpoint_row ∷ resume_row ∷ []
 
 -- ---- lines of a table
 
@@ -223,11 +244,26 @@ pub record BenchLine : Type 0 where
   pub components : ℕ
   pub workers : ℕ
 
+-- a line of a run that is to be held: the run, and the point from which on it may be
+pub record CheckpointLine : Type 0 where
+  pub run : RunLine
+  pub at : ℕ
+
+-- a line of the rest of a run that was held: the directory of the system, the file of the checkpoint, the host of the FMUs, the number of workers, and the version of the link
+pub record ResumeLine : Type 0 where
+  pub directory : List ℕ
+  pub file : List ℕ
+  pub host : List ℕ
+  pub workers : ℕ
+  pub link : ℕ
+
 -- a line of a command
 pub data Asked : Type 0 where
   OfSystem : Line → Asked
   OfTrace : TraceLine → Asked
   OfBench : BenchLine → Asked
+  OfCheckpoint : CheckpointLine → Asked
+  OfResume : ResumeLine → Asked
 
 -- the options give each count of the plan, which doesn't stop before it starts
 pub record GivesPlan (get : Lookup) (plan : Plan) : Type 0 where
@@ -264,6 +300,24 @@ AsksBench get line =
     Counts components_row (get components_row.name) line.components ×
     Counts workers_row (get workers_row.name) line.workers
 
+-- the point is one of the run's, before its stop
+abbrev pub IsBeforeStop : Plan → ℕ → Type 0
+IsBeforeStop plan at = (plan.start ≤ at) × (at < plan.stop)
+
+-- a line of a run that is to be held gives the run and the point, which is before the stop
+abbrev pub AsksCheckpoint : Lookup → CheckpointLine → Type 0
+AsksCheckpoint get line =
+    AsksRun get line.run × Counts at_row (get at_row.name) line.at ×
+    IsBeforeStop line.run.plan line.at
+
+-- a line of the rest of a run gives the directory, the file, the host, the workers and the link
+pub record AsksResume (get : Lookup) (line : ResumeLine) : Type 0 where
+  pub directory : get (codes "DIR") ≡ Some line.directory
+  pub file : get (codes "FILE") ≡ Some line.file
+  pub host : Gives host_row (get host_row.name) line.host
+  pub workers : Counts workers_row (get workers_row.name) line.workers
+  pub link : Counts link_row (get link_row.name) line.link
+
 -- what a line of each command asks for
 abbrev pub Asks : Word → Lookup → Asked → Type 0
 Asks name get (OfSystem (One line)) = (name ≡ one_row.name) × AsksRun get line
@@ -271,6 +325,8 @@ Asks name get (OfSystem (Run line)) = (name ≡ run_row.name) × AsksRun get lin
 Asks name get (OfSystem (Check line)) = (name ≡ check_row.name) × AsksCheck get line
 Asks name get (OfTrace line) = (name ≡ trace_check_row.name) × AsksTrace get line
 Asks name get (OfBench line) = (name ≡ bench_row.name) × AsksBench get line
+Asks name get (OfCheckpoint line) = (name ≡ checkpoint_row.name) × AsksCheckpoint get line
+Asks name get (OfResume line) = (name ≡ resume_row.name) × AsksResume get line
 
 -- the arguments are a command line that asks for this
 pub record IsAsked (words : List Word) (asked : Asked) : Type 0 where
@@ -287,6 +343,12 @@ IsTraceLine words line = IsAsked words (OfTrace line)
 
 abbrev pub IsBenchLine : List Word → BenchLine → Type 0
 IsBenchLine words line = IsAsked words (OfBench line)
+
+abbrev pub IsCheckpointLine : List Word → CheckpointLine → Type 0
+IsCheckpointLine words line = IsAsked words (OfCheckpoint line)
+
+abbrev pub IsResumeLine : List Word → ResumeLine → Type 0
+IsResumeLine words line = IsAsked words (OfResume line)
 
 abbrev pub directory_of : Line → List ℕ
 directory_of (One line) = line.directory
@@ -324,11 +386,22 @@ pub record AreFew (line : BenchLine) : Type 0 where
   pub components : (1 ≤ line.components) × (line.components ≤ 256)
   pub workers : (1 ≤ line.workers) × (line.workers ≤ 64)
 
+-- those of a run that is to be held, whose point is before the stop
+abbrev pub MayBeHeld : CheckpointLine → Type 0
+MayBeHeld line = IsWithin line.run.plan × IsBeforeStop line.run.plan line.at
+
+-- those of the rest of a run
+abbrev pub MayGoOn : ResumeLine → Type 0
+MayGoOn line =
+    ((1 ≤ line.workers) × (line.workers ≤ 64)) × (1 ≤ line.link) × (line.link ≤ 2)
+
 -- and so do those of any command
 abbrev pub IsWithinLimits : Asked → Type 0
 IsWithinLimits (OfSystem line) = KeepsLimits line
 IsWithinLimits (OfTrace line) = Unit {0}
 IsWithinLimits (OfBench line) = AreFew line
+IsWithinLimits (OfCheckpoint line) = MayBeHeld line
+IsWithinLimits (OfResume line) = MayGoOn line
 
 -- ---- arguments and options of the program
 
@@ -364,8 +437,25 @@ bench_of options =
       workers = options.workers;
     }
 
+-- the line of a run that is to be held that options tell
+abbrev pub checkpoint_of : CheckpointOptions → CheckpointLine
+checkpoint_of options = record { run = run_of options.run; at = options.at }
+
+-- the line of the rest of a run that options tell
+abbrev pub resume_of : ResumeOptions → ResumeLine
+resume_of options =
+    record {
+      directory = options.directory.now;
+      file = options.file.now;
+      host = options.host.now;
+      workers = options.workers;
+      link = options.link;
+    }
+
 -- the line that a request tells
 abbrev pub asked_of : Request → Asked
 asked_of (Q.System line) = OfSystem (line_of line)
 asked_of (Q.TraceCheck options) = OfTrace (trace_of options)
 asked_of (Q.Bench options) = OfBench (bench_of options)
+asked_of (Q.Checkpoint options) = OfCheckpoint (checkpoint_of options)
+asked_of (Q.Resume options) = OfResume (resume_of options)

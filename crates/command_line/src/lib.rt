@@ -11,6 +11,6 @@ mod words;
 pub use fault::WordsFault;
 pub use values::read_count;
 pub use words::{
-    BUILT_IN_HOST, BenchOptions, CheckOptions, CommandLine, Options, Request, TraceOptions,
-    read_words,
+    BUILT_IN_HOST, BenchOptions, CheckOptions, CheckpointOptions, CommandLine, Options, Request,
+    ResumeOptions, TraceOptions, read_words,
 };

@@ -1,7 +1,7 @@
 ghost use Rattle.std.specs.Prelude.{◌≡◌, ℕ, ◌≤◌, ◌^◌, IfOk, IfErr, IfSome, IsSomeAnd};
 ghost use Rattle.clap.specs.Words.{app_of, first_of, found_of, rows_of, subcommand_rows_of};
 ghost use Rattle.command_line.specs.App.{app_of_rows};
-ghost use Rattle.command_line.specs.Line.{AreFew, Asked, Asks, AsksBench, AsksCheck, AsksRun, AsksTrace, BenchLine, CheckLine, Counts, GivesPlan, IsAsked, IsLineOf, IsWithin, IsWithinLimits, Lookup, RunLine, TraceLine, asked_of, bench_of, check_of, commands, link_row, run_of, texts, trace_of, workers_row};
+ghost use Rattle.command_line.specs.Line.{AreFew, Asked, Asks, AsksBench, AsksCheck, AsksCheckpoint, AsksResume, AsksRun, AsksTrace, BenchLine, CheckLine, CheckpointLine, Counts, GivesPlan, IsAsked, IsLineOf, IsWithin, IsWithinLimits, Lookup, MayBeHeld, MayGoOn, ResumeLine, RunLine, TraceLine, asked_of, bench_of, check_of, checkpoint_of, commands, link_row, resume_of, run_of, texts, trace_of, workers_row};
 ghost use Rattle.command_line.specs.Table.{GivesLine, SubAsks};
 ghost use Rattle.command_line.specs.Words.{Word};
 ghost use Rattle.command_line.specs.declared.fault.WordsFault.TheVariants.{NoLine};
@@ -27,6 +27,22 @@ const RUN_OPTIONS: [&str; 8] = [
     "link",
     "host",
 ];
+
+// The options of a run that is to be held.
+const CHECKPOINT_OPTIONS: [&str; 9] = [
+    "at",
+    "resolution",
+    "step",
+    "stop",
+    "start",
+    "workers",
+    "max-iterations",
+    "link",
+    "host",
+];
+
+// The options of the rest of a run that was held.
+const RESUME_OPTIONS: [&str; 3] = ["workers", "link", "host"];
 
 /// The name of the host of the built-in machines, the default of `--host`.
 pub const BUILT_IN_HOST: &str = "builtin";
@@ -54,6 +70,10 @@ pub enum Request<'a> {
     TraceCheck(TraceOptions<'a>),
     /// to run a generated system
     Bench(BenchOptions),
+    /// to run a system up to a point where it is held
+    Checkpoint(CheckpointOptions<'a>),
+    /// to run the rest of a run that was held
+    Resume(ResumeOptions<'a>),
 }
 
 /// What the command line of a system or of one FMU asks for, by its command.
@@ -99,6 +119,24 @@ pub struct BenchOptions {
     pub workers: u32,
 }
 
+/// What `checkpoint` is asked for: the run, and the point from which on it may be held, a count before the stop.
+#[derive(Clone, Copy, Debug)]
+pub struct CheckpointOptions<'a> {
+    pub run: Options<'a>,
+    pub at: u64,
+}
+
+/// What `resume` is asked for: the directory of the system, the path of the checkpoint's file, the host of the FMUs, how
+/// many workers make the calls of a step, and the version of the link to hosts.
+#[derive(Clone, Copy, Debug)]
+pub struct ResumeOptions<'a> {
+    pub directory: &'a str,
+    pub file: &'a str,
+    pub host: &'a str,
+    pub workers: u32,
+    pub link: u32,
+}
+
 /// Reads the arguments of a command line, without the program's name.
 ///
 /// `NoLine` comes only where the arguments are no command line. `Memory` may come for any arguments.
@@ -140,7 +178,9 @@ fn make_command<'a>(alloc: Global) -> Result<Command<'a>, AllocError>
     let command = with_subcommand(alloc, command, "run", &["DIR"], &RUN_OPTIONS)?;
     let command = with_subcommand(alloc, command, "check", &["DIR"], &["resolution"])?;
     let command = with_subcommand(alloc, command, "trace-check", &["DIR", "FILE"], &[])?;
-    with_subcommand(alloc, command, "bench", &["SEED", "N"], &["workers"])
+    let command = with_subcommand(alloc, command, "bench", &["SEED", "N"], &["workers"])?;
+    let command = with_subcommand(alloc, command, "checkpoint", &["DIR"], &CHECKPOINT_OPTIONS)?;
+    with_subcommand(alloc, command, "resume", &["DIR", "FILE"], &RESUME_OPTIONS)
 }
 
 // The command that was matched, with its options.
@@ -171,6 +211,8 @@ fn read_command<'a>(name: &str, matches: &ArgMatches<'a>) -> Option<Request<'a>>
         "check" => Some(Request::System(CommandLine::Check(read_check(matches)?))),
         "trace-check" => Some(Request::TraceCheck(read_trace_check(matches)?)),
         "bench" => Some(Request::Bench(read_bench(matches)?)),
+        "checkpoint" => Some(Request::Checkpoint(read_checkpoint(matches)?)),
+        "resume" => Some(Request::Resume(read_resume(matches)?)),
         _ => None,
     }
 }
@@ -240,6 +282,42 @@ fn read_bench(matches: &ArgMatches<'_>) -> Option<BenchOptions>
     })
 }
 
+// The run that is to be held, and a point of it, before the stop.
+fn read_checkpoint<'a>(matches: &ArgMatches<'a>) -> Option<CheckpointOptions<'a>>
+    ensures ok { IfSome result (λ o. AsksCheckpoint
+        (λ n. first_of n (rows_of (found_of matches.now))) (checkpoint_of o)) }
+    ensures only { (line : CheckpointLine) →
+        AsksCheckpoint (λ n. first_of n (rows_of (found_of matches.now))) line →
+        IsSomeAnd result (λ o. checkpoint_of o ≡ line) }
+    ensures within { IfSome result (λ o. MayBeHeld (checkpoint_of o)) }
+{
+    let run = read_run(matches)?;
+    let at = option_count(matches, "at", 0, MOST_COUNTS, None)?;
+    if run.plan.start <= at && at < run.plan.stop {
+        Some(CheckpointOptions { run, at })
+    } else {
+        None
+    }
+}
+
+// The system, the checkpoint, the host, the workers and the link of the rest of a run.
+fn read_resume<'a>(matches: &ArgMatches<'a>) -> Option<ResumeOptions<'a>>
+    ensures ok { IfSome result (λ o. AsksResume (λ n. first_of n (rows_of (found_of matches.now)))
+        (resume_of o)) }
+    ensures only { (line : ResumeLine) →
+        AsksResume (λ n. first_of n (rows_of (found_of matches.now))) line →
+        IsSomeAnd result (λ o. resume_of o ≡ line) }
+    ensures within { IfSome result (λ o. MayGoOn (resume_of o)) }
+{
+    Some(ResumeOptions {
+        directory: value_of(matches, "DIR")?,
+        file: value_of(matches, "FILE")?,
+        host: option_text(matches, "host", BUILT_IN_HOST),
+        workers: read_workers(matches)?,
+        link: read_link(matches)?,
+    })
+}
+
 // The number of workers, which is 1 where no option says it.
 fn read_workers(matches: &ArgMatches<'_>) -> Option<u32>
     ensures ok { IfSome result
@@ -260,6 +338,7 @@ fn read_link(matches: &ArgMatches<'_>) -> Option<u32>
     ensures only { (n : ℕ) →
         Counts link_row (first_of link_row.name (rows_of (found_of matches.now))) n →
         result ≡ Some n }
+    ensures within { IfSome result (λ n. (1 ≤ n) × (n ≤ 2)) }
 {
     let link = option_count(matches, "link", 1, NEWEST_LINK, Some(1))?;
     Some(link as u32)

@@ -47,6 +47,7 @@ use Rattle.event_iteration.specs.Settings.{port_order}
 use Rattle.event_iteration.specs.Turns.{IsPaired, sent_of}
 use Rattle.event_iteration.specs.WalkCalls.{has_events_at}
 use Rattle.event_iteration.proofs.ByLog.{changing_interval, in_order, port_number}
+use Rattle.course_laws.specs.Runs.{AreArmable, IsArmable}
 
 abbrev arms_by : Call → Result Reply PeerFault → Bool
 arms_by (C.GetInterval reference) result = is_instant_interval result
@@ -61,14 +62,6 @@ pub record IsArmed (system : System) (log : List Sent) : Type 0 where
   pub component : ℕ
   pub event : has_events_at system component ≡ true
   pub arms : list_any is_arming (part component log) ≡ true
-
--- a countdown Clock or a changing one
-abbrev pub IsArmable : Role → Type 0
-IsArmable role = (role ≡ TimeClock Countdown) ⊎ (role ≡ TimeClock Changing)
-
--- timers that are armed are those of such Clocks
-abbrev pub AreArmable : System → List Timer → Type 0
-AreArmable system timers = (p : ℕ) (port : Port) (point : ℕ) → slice_get system.ports p ≡ Some port → slice_get timers p ≡ Some (Once point) → IsArmable port.role
 
 -- what was armed for the point is over with its tick
 abbrev pub AreTaken : System → ℕ → List (Option ℤ) → List Timer → Type 0

@@ -4,7 +4,7 @@ use Rattle.std.specs.Prelude.{None, if◌then◌else◌}
 use Rattle.std.specs.List.{slice_get}
 use Rattle.std.specs.Option.{option_map, option_map_or}
 use Rattle.std.proofs.lemmas.List.Elements.{All-cons, All-nil}
-use Rattle.std.proofs.lemmas.Option.{slice_get-map}
+use Rattle.std.proofs.lemmas.Option.{slice_get-map, slice_get_within}
 use Rattle.value_types.specs.declared.shape.Shape.{Shape}
 use Rattle.fmi_calls.specs.declared.call.Call.{Call}
 use Rattle.fmi_calls.specs.declared.call.Call.TheVariants as C
@@ -34,16 +34,18 @@ use Rattle.fmu_peer.specs.Talk.{calls_in}
 use Rattle.step_agreement.specs.Saving.{is_saved}
 use Rattle.step_agreement.proofs.CallerLemmas.{Alternates, all_there, alternates_from}
 use Rattle.rollback.specs.StepsBy.{all_at}
-use Rattle.calling_sequence.specs.Calls.{leaving, making}
-use Rattle.calling_sequence.specs.Course.{Again, Agreed, Agreeing, Before, Configured, Course, Departing, Entered, Exits, Found, GoesOn, LeadsTo, Leaves, Leaving, Left, Made, Place, Read, Rearmed, Saved, Saves, Seen, Sets, Short, Spot, Stepped, Stopping, Timed, Way, part_at}
+use Rattle.calling_sequence.specs.Calls.{entering_step, keeping, leaving, making, restoring}
+use Rattle.calling_sequence.specs.Course.{Again, Agreed, Agreeing, Before, Configured, Course, CourseIn, Departing, Entered, Exits, Extent, Found, FromHeld, GoesOn, LeadsTo, Leaves, Leaving, Left, Made, Place, Read, Rearmed, Restored, Resumes, Saved, Saves, Seen, Sets, Short, Spot, Stepped, Stopping, Timed, Way, Whole, first_of, part_at}
+use Rattle.calling_sequence.specs.Holding.{holding}
 use Rattle.calling_sequence.specs.Parts.{Agreement, AllAgree, Calls, Does, Falls, Part, Round, Walk}
 use Rattle.calling_sequence.proofs.Along.{along}
 use Rattle.course_laws.specs.Laws.{AreNeeded, NoCallTwice}
-use Rattle.course_laws.specs.Runs.{Comes, Falling, Stands, Unmade}
+use Rattle.course_laws.specs.Runs.{BackBadly, BackFalling, BackStands, Comes, ComesAnyhow, Falling, Holding, HoldingBadly, MayBack, Stands, Unmade, Wholly}
 use Rattle.course_laws.proofs.BoundSets.{binding_new, setting_span}
 use Rattle.course_laws.proofs.LastSteps.{ends_from, falls_from, stand_behind}
-use Rattle.course_laws.proofs.Once.{IsBefore, IsBelow, IsSeen, IsSo, Keep, Limit, NamesNone, NamesPort, differ_by, named, needed, needed_front, open_by, Open, switched, weaker}
+use Rattle.course_laws.proofs.Once.{IsBefore, IsBelow, IsSeen, IsSo, Keep, Limit, NamesNone, NamesPort, called, differ_by, named, needed, needed_front, open_by, Open, switched, weaker}
 use Rattle.course_laws.proofs.OwnCalls.{own_calls, own_log, own_there}
+use Rattle.course_laws.proofs.Triples.{own_keeping, own_restoring}
 use Rattle.course_laws.proofs.RoundCalls.{IsSomehow, free_runs, freed_kept, rounds_so, save_runs}
 
 -- ---- of which kinds the calls are that name no port, since the last that moved the FMU on
@@ -68,13 +70,40 @@ point_kinds K.EnterEvent = true
 point_kinds K.Update = true
 point_kinds kind = stepped_kinds kind
 
+-- where a run is resumed, too
 abbrev leaving_kinds : Kind → Bool
 leaving_kinds K.EnterStep = true
+leaving_kinds K.Instantiate = true
+leaving_kinds K.Deserialize = true
 leaving_kinds kind = point_kinds kind
+
+-- on the way back to a state
+abbrev back_kinds : Kind → Bool
+back_kinds K.Instantiate = true
+back_kinds K.Deserialize = true
+back_kinds kind = false
 
 abbrev saved_kinds : Kind → Bool
 saved_kinds K.Save = true
 saved_kinds kind = leaving_kinds kind
+
+-- where a state is kept
+abbrev kept_kinds : Kind → Bool
+kept_kinds K.Serialize = true
+kept_kinds kind = saved_kinds kind
+
+saved_kept : (kind : Kind) → saved_kinds kind ≡ true → kept_kinds kind ≡ true
+saved_kept K.Serialize is = refl
+saved_kept kind is = is
+
+made_back : (kind : Kind) → made_kinds kind ≡ true → back_kinds kind ≡ true
+made_back K.Instantiate is = refl
+made_back kind is = absurd (cc)
+
+back_leaving : (kind : Kind) → back_kinds kind ≡ true → leaving_kinds kind ≡ true
+back_leaving K.Instantiate is = refl
+back_leaving K.Deserialize is = refl
+back_leaving kind is = absurd (cc)
 
 leaving_saved : (kind : Kind) → leaving_kinds kind ≡ true → saved_kinds kind ≡ true
 leaving_saved K.Save is = refl
@@ -88,6 +117,8 @@ stepped_at_point kind is = absurd (cc)
 
 point_leaving : (kind : Kind) → point_kinds kind ≡ true → leaving_kinds kind ≡ true
 point_leaving K.EnterStep is = refl
+point_leaving K.Instantiate is = refl
+point_leaving K.Deserialize is = refl
 point_leaving kind is = is
 
 later_before : (t u : ℕ) → t ≤ u → (c : Call) → IsBefore t c → IsBefore u c
@@ -136,6 +167,7 @@ limit_at e (Saved w) = record (limit saved_kinds w.s.t (step_span e.events).belo
 limit_at e (Short w component end) = limit saved_kinds (suc w.s.t) (step_span e.events).below
 limit_at e (Agreed w point asked) = limit stepped_kinds point 1
 limit_at e (Stepped s asked) = limit stepped_kinds s.t 1
+limit_at e (Restored s) = limit leaving_kinds s.t (below_seen e.events)
 
 -- and after what is sent from there
 abbrev limit_behind : Traits → Plan → Place → Limit
@@ -155,6 +187,7 @@ limit_behind e plan (Saved w) = limit saved_kinds (suc w.s.t) (step_span e.event
 limit_behind e plan (Short w component end) = limit_at e (Short w component end)
 limit_behind e plan (Agreed w point asked) = limit stepped_kinds point 1
 limit_behind e plan (Stepped s asked) = limit point_kinds s.t (instant_span true e.events).from
+limit_behind e plan (Restored s) = limit_at e (Restored s)
 
 -- the bound of a step is a later point
 abbrev pub IsLater : Place → Type 0
@@ -166,6 +199,7 @@ IsLater p = Unit {0}
 
 pub later_on : (system : System) (plan : Plan) (p q : Place) (values : List (Option ℤ)) (log : List Sent) → LeadsTo system plan p values log q → IsLater p → IsLater q
 later_on system plan _ _ _ _ (GoesOn w values log step) later = step.bound.bound.later
+later_on system plan _ _ _ _ (Resumes w values log step) later = step.bound.bound.later
 later_on system plan _ _ _ _ (Leaves w values log) later = later
 later_on system plan _ _ _ _ (Sets w values log) later = later
 later_on system plan _ _ _ _ (Saves w values log) later = later
@@ -194,6 +228,10 @@ asked_seen false is = omega arith
 stepped_seen : (e : Bool) → 1 ≤ (instant_span true e).from
 stepped_seen true = omega arith
 stepped_seen false = omega arith
+
+seen_some : (e : Bool) → 1 ≤ below_seen e
+seen_some true = omega arith
+seen_some false = omega arith
 
 -- the one at a place
 pub some_at : (cs : List Component) (k : ℕ) → k < length cs → (c : Component) × (slice_get cs k ≡ Some c)
@@ -361,6 +399,7 @@ module _ (system : System) (sound : IsSound system) (k : ℕ) (c : Component) (o
         let l = limit_at e (Stepped s false) in
         let m = limit_behind e plan (Stepped s false) in
         to_events l m calls so C.EnterEvent refl (λ once. differ_by l C.EnterEvent refl refl) refl (NamesNone refl refl tt) (λ none. more_seen l m stepped_at_point refl (stepped_seen e.events)) tt refl refl
+    adds (Restored s) calls later so = subst (IsSo (limit_at e (Restored s))) (sym (append-nil calls)) so
 
     added : (part : Part) (l : Limit) (calls : List Call) → Adds part calls l → (values : List (Option ℤ)) (log : List Sent) → Does system part values log → AddedBy part (calls ++ mine log) l
     added (Calls cs) l calls a values log does = subst (λ (x : List Call). IsSo l (calls ++ x)) (sym (ap (own k) does.calls_are)) a
@@ -400,29 +439,83 @@ module _ (system : System) (sound : IsSound system) (k : ℕ) (c : Component) (o
     leads_so calls _ _ _ _ (Stopping w values log i x agrees) later at a does = anyhow w.s.t plan.step w.to later log (Unfit i x) agrees calls w refl at
     leads_so calls p q values log leads later at a does = added (part_at system bound plan p) (limit_behind e plan p) calls a values log does
 
-    -- the calls that made it and those of a log
-    abbrev upto : List Sent → List Call
-    upto log = own k (making plan.link system) ++ mine log
+    -- from the first place of a course on, after these calls
+    module _ (extent : Extent) (base : List Call) (start : IsLater (first_of extent) × AtPlace (first_of extent) base) where
+      abbrev upto : List Sent → List Call
+      upto log = base ++ mine log
 
-    upto_on : (a b : List Sent) → upto a ++ mine b ≡ upto (a ++ b)
-    upto_on a b = append_assoc (own k (making plan.link system)) (mine a) (mine b) ∙ ap (λ (l : List Call). own k (making plan.link system) ++ l) (sym (own_log k a b))
+      upto_on : (a b : List Sent) → upto a ++ mine b ≡ upto (a ++ b)
+      upto_on a b = append_assoc base (mine a) (mine b) ∙ ap (λ (l : List Call). base ++ l) (sym (own_log k a b))
 
-    course_so : (p : Place) (log : List Sent) (is : List Instant) → Course system bound plan p log is → IsLater p × AtPlace p (upto log)
-    course_so = along system bound plan (λ p log is. IsLater p × AtPlace p (upto log)) (tt, subst (IsSo (limit_at e Made)) (sym (append-nil (own k (making plan.link system)))) (made_so plan.link))
-        (λ p q values front more is course so does leads. (
-          later_on system plan p q values more leads so.0,
-          subst (AtPlace q) (upto_on front more) (leads_so (upto front) p q values more leads so.0 so.1 (adds p (upto front) so.0 so.1) does),
-        ))
+      course_so : (p : Place) (log : List Sent) (is : List Instant) → CourseIn system bound plan extent p log is → IsLater p × AtPlace p (upto log)
+      course_so = along system bound plan extent (λ p log is. IsLater p × AtPlace p (upto log)) (start.0, subst (AtPlace (first_of extent)) (sym (append-nil base)) start.1)
+          (λ p q values front more is course so does leads within. (
+            later_on system plan p q values more leads so.0,
+            subst (AtPlace q) (upto_on front more) (leads_so (upto front) p q values more leads so.0 so.1 (adds p (upto front) so.0 so.1) does),
+          ))
+
+      falls_needed : (p : Place) (front more : List Sent) (is : List Instant) (bad : BadAnswer) → CourseIn system bound plan extent p front is → Falls system (part_at system bound plan p) bad more → AreNeeded (upto (front ++ more))
+      falls_needed p front more is bad course falls =
+          let so = course_so p front is course in
+          subst AreNeeded (upto_on front more) (fallen_at p (upto front) (adds p (upto front) so.0 so.1) bad more falls)
 
     needed_at : (p : Place) (calls : List Call) → AtPlace p calls → AreNeeded calls
     needed_at (Short w i x) calls some = needed _ calls some.so
     needed_at (Agreed w m asked) calls some = needed _ calls some.so
     needed_at p calls so = needed (limit_at e p) calls so
 
-    falls_needed : (p : Place) (front more : List Sent) (is : List Instant) (bad : BadAnswer) → Course system bound plan p front is → Falls system (part_at system bound plan p) bad more → AreNeeded (upto (front ++ more))
-    falls_needed p front more is bad course falls =
-        let so = course_so p front is course in
-        subst AreNeeded (upto_on front more) (fallen_at p (upto front) (adds p (upto front) so.0 so.1) bad more falls)
+    -- from instances that were made
+    begins : IsLater Made × AtPlace Made (own k (making plan.link system))
+    begins = (tt, made_so plan.link)
+
+    -- ---- where the state is kept
+
+    module _ (s : Spot) (calls : List Call) (so : IsSo (limit_at e (Seen s false false)) calls) where
+      abbrev under : (Kind → Bool) → Open → Limit
+      under kinds kept = record (limit kinds s.t (below_seen e.events)) { kept = kept }
+
+      kept_so : IsSo (under kept_kinds None) (((calls ++ own k (entering_step system)) ++ C.Save ∷ C.Serialize ∷ []) ++ C.Free ∷ [])
+      kept_so =
+          let entered = to_events (limit_at e (Seen s false false)) (under leaving_kinds None) calls so C.EnterStep refl (λ once. differ_by (limit_at e (Seen s false false)) C.EnterStep refl refl) refl (NamesNone refl refl tt)
+          (λ none. more_seen (limit_at e (Seen s false false)) (under leaving_kinds None) point_leaving refl (omega arith)) tt refl refl in
+          let there = calls ++ own k (entering_step system) in
+          let saved = called (under leaving_kinds None) (under saved_kinds (Some None)) there entered C.Save refl (λ once. differ_by (under leaving_kinds None) C.Save refl refl) (NamesNone refl refl tt)
+          (λ stays. more_seen (under leaving_kinds None) (under saved_kinds (Some None)) leaving_saved refl (omega arith)) tt refl in
+          let packed = called (under saved_kinds (Some None)) (under kept_kinds (Some None)) (there ++ C.Save ∷ []) saved C.Serialize refl (λ once. differ_by (under saved_kinds (Some None)) C.Serialize refl refl) (NamesNone refl refl tt)
+          (λ stays. more_seen (under saved_kinds (Some None)) (under kept_kinds (Some None)) saved_kept refl (omega arith)) tt refl in
+          called (under kept_kinds (Some None)) (under kept_kinds None) (there ++ C.Save ∷ C.Serialize ∷ [])
+          (subst (IsSo (under kept_kinds (Some None))) (append_assoc there (C.Save ∷ []) (C.Serialize ∷ [])) packed) C.Free refl
+          (λ once. absurd (let wrong : true ≡ false = once in cc)) (NamesNone refl refl tt) (λ stays. more_seen (under kept_kinds (Some None)) (under kept_kinds None) (λ kind is. is) refl (omega arith)) tt refl
+
+      holding_so : IsSo (under kept_kinds None) (calls ++ own k (holding system))
+      holding_so =
+          let there = own k (entering_step system) in
+          let three = C.Save ∷ C.Serialize ∷ C.Free ∷ [] in
+          let within = slice_get_within system.components k c of in
+          subst (IsSo (under kept_kinds None))
+          (append_assoc (calls ++ there) (C.Save ∷ C.Serialize ∷ []) (C.Free ∷ []) ∙ append_assoc calls there three
+          ∙ ap (λ (l : List Call). calls ++ l) (ap (λ (l : List Call). there ++ l) (sym (own_keeping system k within)) ∙ sym (own_append k (entering_step system) (keeping system)))) kept_so
+
+    -- ---- where it is gone back to
+
+    module _ (s : Spot) (sizes : List ℕ) (may : MayBack system s sizes) where
+      abbrev on_way : (Kind → Bool) → Limit
+      on_way kinds = limit kinds s.t (below_seen e.events)
+
+      back_so : IsSo (limit_at e (Restored s)) (own k (making plan.link system) ++ own k (restoring s.t plan.stop sizes))
+      back_so =
+          let made = own k (making plan.link system) in
+          let inside : k < length sizes = (let many = may.each in let within = slice_get_within system.components k c of in omega (arith, many, within)) in
+          let one = own_restoring s.t plan.stop sizes k inside in
+          let take = C.Deserialize one.0 s.t plan.stop in
+          let low = seen_some e.events in
+          let taken = called (limit_at e Made) (on_way back_kinds) made (made_so plan.link) take refl (λ once. differ_by (limit_at e Made) take refl refl) (NamesNone refl refl tt)
+          (λ stays. more_by (limit_at e Made) (on_way back_kinds) made_back (omega arith) low) tt refl in
+          let back = called (on_way back_kinds) (on_way leaving_kinds) (made ++ take ∷ []) taken C.Restore refl (λ once. differ_by (on_way back_kinds) C.Restore refl refl) (NamesNone refl refl tt)
+          (λ stays. more_seen (on_way back_kinds) (on_way leaving_kinds) back_leaving refl (omega arith)) tt refl in
+          let freed = called (on_way leaving_kinds) (on_way leaving_kinds) (made ++ take ∷ C.Restore ∷ []) (subst (IsSo (on_way leaving_kinds)) (append_assoc made (take ∷ []) (C.Restore ∷ [])) back) C.Free refl
+          (λ once. absurd (let wrong : true ≡ false = once in cc)) (NamesNone refl refl tt) (λ stays. more_seen (on_way leaving_kinds) (on_way leaving_kinds) (λ kind is. is) refl (omega arith)) tt refl in
+          subst (IsSo (limit_at e (Restored s))) (append_assoc made (take ∷ C.Restore ∷ []) (C.Free ∷ []) ∙ ap (λ (l : List Call). made ++ l) (sym one.1)) freed
 
 module _ (system : System) (sound : IsSound system) (k : ℕ) (c : Component) (of : slice_get system.components k ≡ Some c) where
   -- the calls from the first on
@@ -432,14 +525,72 @@ module _ (system : System) (sound : IsSound system) (k : ℕ) (c : Component) (o
   behind_made : (link : ℕ) (made log : List Sent) → IsAnswered (shapes_of system) (making link system) made → AreNeeded (own k (making link system) ++ all log) → AreNeeded (all (made ++ log))
   behind_made link made log answered so = subst AreNeeded (ap (λ (cs : List Call). cs ++ all log) (sym (ap (own k) answered.calls_are)) ∙ sym (own_log k made log)) so
 
-  comes_needed : (bad : Option BadAnswer) (log : List Sent) → Comes system bad log → AreNeeded (all log)
-  comes_needed _ _ (Unmade link bad log stops) =
+  whole_needed : (bad : Option BadAnswer) (log : List Sent) → Comes system bad log → AreNeeded (all log)
+  whole_needed _ _ (Unmade link bad log stops) =
       let l = limit_at (e system sound k c of) Made in
       needed_front l [] (all log) (own k stops.left) (subst (IsSo l) (ap (own k) stops.calls_are ∙ own_append k (askings log) stops.left) (made_so system sound k c of link))
-  comes_needed _ _ (Stands bound plan p made log is binds counts answered course halts) =
-      behind_made plan.link made log answered (needed_at system sound k c of bound plan binds p _ (course_so system sound k c of bound plan binds p log is course).1)
-  comes_needed _ _ (Falling bound plan p bad made front more is binds counts answered course falls) =
-      behind_made plan.link made (front ++ more) answered (falls_needed system sound k c of bound plan binds p front more is bad course falls)
+  whole_needed _ _ (Stands bound plan p made log is binds counts answered course halts) =
+      behind_made plan.link made log answered
+      (needed_at system sound k c of bound plan binds p _ (course_so system sound k c of bound plan binds Whole (own k (making plan.link system)) (begins system sound k c of bound plan binds) p log is course).1)
+  whole_needed _ _ (Falling bound plan p bad made front more is binds counts answered course falls) =
+      behind_made plan.link made (front ++ more) answered
+      (falls_needed system sound k c of bound plan binds Whole (own k (making plan.link system)) (begins system sound k c of bound plan binds) p front more is bad course falls)
+
+  -- what is sent after a course is the calls of a list, or a prefix of them
+  module _ (l : Limit) (calls : List Call) (cs : List Asking) (so : IsSo l (calls ++ own k cs)) (log : List Sent) where
+    whole_list : IsAnswered (shapes_of system) cs log → AreNeeded (calls ++ all log)
+    whole_list answered = needed l (calls ++ all log) (subst (λ (x : List Call). IsSo l (calls ++ x)) (sym (ap (own k) answered.calls_are)) so)
+
+    front_list : (bad : BadAnswer) → StopsAt (shapes_of system) cs bad log → AreNeeded (calls ++ all log)
+    front_list bad stops = needed_front l calls (all log) (own k stops.left) (subst (λ (x : List Call). IsSo l (calls ++ x)) (ap (own k) stops.calls_are ∙ own_append k (askings log) stops.left) so)
+
+  module _ (bound : Bound) (plan : Plan) (binds : BindsParameters system bound) where
+    abbrev made_calls : List Call
+    made_calls = own k (making plan.link system)
+
+    seen_so : (s : Spot) (front : List Sent) (is : List Instant) → Course system bound plan (Seen s false false) front is → IsSo (limit_at (e system sound k c of) (Seen s false false)) (made_calls ++ all front)
+    seen_so s front is course = (course_so system sound k c of bound plan binds Whole made_calls (begins system sound k c of bound plan binds) (Seen s false false) front is course).1
+
+    -- after the calls of a point that is done
+    behind_front : (made front kept : List Sent) → IsAnswered (shapes_of system) (making plan.link system) made → AreNeeded ((made_calls ++ all front) ++ all kept) → AreNeeded (all (made ++ (front ++ kept)))
+    behind_front made front kept answered so =
+        behind_made plan.link made (front ++ kept) answered
+        (subst AreNeeded (append_assoc made_calls (all front) (all kept) ∙ ap (λ (l : List Call). made_calls ++ l) (sym (own_log k front kept))) so)
+
+    -- from the states on that were gone back to
+    module _ (s : Spot) (sizes : List ℕ) (may : MayBack system s sizes) (made back : List Sent) (answered : IsAnswered (shapes_of system) (making plan.link system) made) (went : IsAnswered (shapes_of system) (restoring s.t plan.stop sizes) back) where
+      abbrev back_calls : List Call
+      back_calls = made_calls ++ own k (restoring s.t plan.stop sizes)
+
+      resumes_so : IsLater (Restored s) × AtPlace system sound k c of (Restored s) back_calls
+      resumes_so = (tt, back_so system sound k c of bound plan binds s sizes may)
+
+      behind_back : (log : List Sent) → AreNeeded (back_calls ++ all log) → AreNeeded (all (made ++ (back ++ log)))
+      behind_back log so =
+          behind_made plan.link made (back ++ log) answered
+          (subst AreNeeded (append_assoc made_calls (own k (restoring s.t plan.stop sizes)) (all log)
+          ∙ ap (λ (l : List Call). made_calls ++ l) (ap (λ (l : List Call). l ++ all log) (sym (ap (own k) went.calls_are)) ∙ sym (own_log k back log))) so)
+
+  comes_needed : (bad : Option BadAnswer) (log : List Sent) → ComesAnyhow system bad log → AreNeeded (all log)
+  comes_needed _ _ (Wholly bad log comes) = whole_needed bad log comes
+  comes_needed _ _ (Holding bound plan s made front kept is binds counts answered course keeps) =
+      let calls = own k (making plan.link system) ++ all front in
+      let so = holding_so system sound k c of bound plan binds s calls (seen_so bound plan binds s front is course) in
+      behind_front bound plan binds made front kept answered (whole_list _ calls (holding system) so kept keeps)
+  comes_needed _ _ (HoldingBadly bound plan s bad made front kept is binds counts answered course stops) =
+      let calls = own k (making plan.link system) ++ all front in
+      let so = holding_so system sound k c of bound plan binds s calls (seen_so bound plan binds s front is course) in
+      behind_front bound plan binds made front kept answered (front_list _ calls (holding system) so kept bad stops)
+  comes_needed _ _ (BackBadly bound plan s sizes bad made back binds counts may answered stops) =
+      behind_made plan.link made back answered (front_list _ (own k (making plan.link system)) (restoring s.t plan.stop sizes) (back_so system sound k c of bound plan binds s sizes may) back bad stops)
+  comes_needed _ _ (BackStands bound plan s sizes p made back log is binds counts may answered went course halts) =
+      let start = resumes_so bound plan binds s sizes may made back answered went in
+      behind_back bound plan binds s sizes may made back answered went log
+      (needed_at system sound k c of bound plan binds p _ (course_so system sound k c of bound plan binds (FromHeld s) _ start p log is course).1)
+  comes_needed _ _ (BackFalling bound plan s sizes p bad made back front more is binds counts may answered went course falls) =
+      let start = resumes_so bound plan binds s sizes may made back answered went in
+      behind_back bound plan binds s sizes may made back answered went (front ++ more)
+      (falls_needed system sound k c of bound plan binds (FromHeld s) _ start p front more is bad course falls)
 
 pub no_call_twice : NoCallTwice
 no_call_twice system bad log sound comes k within =

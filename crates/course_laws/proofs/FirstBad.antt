@@ -1,5 +1,5 @@
 -- The answers of a run: all are good, or up to the first that isn't.
-use Rattle.std.proofs.Common.{ℕ, suc, ◌+◌, ◌<◌, ◌≤◌, ◌≡◌, ℤ, Bool, true, false, List, [], ◌∷◌, ◌++◌, Option, Some, refl, arith, length, subst, ap, append_assoc}
+use Rattle.std.proofs.Common.{ℕ, suc, ◌+◌, ◌<◌, ◌≤◌, ◌≡◌, ◌∙◌, ℤ, Bool, true, false, List, [], ◌∷◌, ◌++◌, Option, Some, refl, arith, length, subst, ap, append_assoc}
 use Rattle.std.specs.Prelude.{All}
 use Rattle.std.specs.List.{slice_get}
 use Rattle.std.proofs.lemmas.List.{length-map}
@@ -28,7 +28,7 @@ use Rattle.system_model.specs.EarlyReturn.{early_count}
 use Rattle.run_model.specs.Stepping.{asked_first}
 use Rattle.slot_calls.specs.declared.bad_answer.BadAnswer.{BadAnswer}
 use Rattle.slot_calls.specs.Log.{Sent}
-use Rattle.slot_calls.specs.Stage.{IsGoodOf, everyone, shapes_of, to_those}
+use Rattle.slot_calls.specs.Stage.{IsGoodOf, everyone, has_events, shapes_of, to_those}
 use Rattle.slot_calls.proofs.CallerLemmas.{those_within}
 use Rattle.step_agreement.specs.Agreement.{Fails, Meets, Outcome, Stand, Unfit, to_some}
 use Rattle.step_agreement.specs.Saving.{IsGoodOutcome}
@@ -36,13 +36,15 @@ use Rattle.step_agreement.proofs.CallerLemmas.{HasAlong, IsAlong, along_agreemen
 use Rattle.rollback.specs.StepsBy.{all_at}
 use Rattle.event_iteration.specs.Intervals.{timing_calls_in, timing_calls_of}
 use Rattle.event_iteration.proofs.ByLog.{last_alone_is_bad}
-use Rattle.calling_sequence.specs.Calls.{binding_from, making, sets_of}
-use Rattle.calling_sequence.specs.Course.{Agreed, Before, Configured, Course, Departing, Entered, Found, Left, Leaving, Made, Place, Read, Rearmed, Saved, Seen, Short, Stepped, Timed, part_at}
+use Rattle.calling_sequence.specs.Calls.{binding_from, entering_step, keeping, making, restoring, sets_of}
+use Rattle.calling_sequence.specs.Course.{Agreed, Before, Configured, CourseIn, Departing, Entered, Extent, Found, FromHeld, Left, Leaving, Made, Place, Read, Rearmed, Restored, Saved, Seen, Short, Spot, Stepped, Timed, Whole, part_at}
+use Rattle.calling_sequence.specs.Holding.{holding}
 use Rattle.calling_sequence.proofs.Sizes.{shapes_all}
 use Rattle.calling_sequence.specs.Parts.{Agreement, AllAgree, Calls, Does, EndsBadly, Falls, Part, Round, Walk}
 use Rattle.calling_sequence.proofs.Along.{along}
-use Rattle.course_laws.specs.Laws.{FirstBadAnswer}
-use Rattle.course_laws.specs.Runs.{Falling, Stands, Unmade}
+use Rattle.course_laws.specs.Laws.{AnswersAre, FirstBadAnswer}
+use Rattle.course_laws.specs.Runs.{BackBadly, BackFalling, BackStands, Comes, Falling, Holding, HoldingBadly, MayBack, Stands, Unmade, Wholly}
+use Rattle.course_laws.proofs.Triples.{keeping_to, restoring_to}
 use Rattle.course_laws.proofs.Goods.{AreInOrder, IsToOne, fails_badly, first_of_parts, good_part, in_order_from, more_badly, stops_badly, to_ones, walks_badly}
 
 -- ---- calls to components that are there
@@ -145,17 +147,47 @@ module _ (system : System) where
     part_placed (Agreed w m asked) = (those _ _, in_order_from _ _ 0 0 ss (omega arith))
     part_placed (Stepped s true) = All-nil (IsToOne (length ss))
     part_placed (Stepped s false) = those _ _
+    part_placed (Restored s) = All-nil (IsToOne (length ss))
 
-    course_good : (p : Place) (log : List Sent) (is : List Instant) → Course system bound plan p log is → Good log
-    course_good = along system bound plan (λ p log is. Good log) (All-nil (IsGoodOf ss))
-        (λ p q values front more is course good does leads. All-append (IsGoodOf ss) front more good (part_good (part_at system bound plan p) values more does))
+    pub course_good : (extent : Extent) (p : Place) (log : List Sent) (is : List Instant) → CourseIn system bound plan extent p log is → Good log
+    course_good extent = along system bound plan extent (λ p log is. Good log) (All-nil (IsGoodOf ss))
+        (λ p q values front more is course good does leads within. All-append (IsGoodOf ss) front more good (part_good (part_at system bound plan p) values more does))
 
-pub first_bad_answer : FirstBadAnswer
-first_bad_answer system _ _ sound (Unmade link bad log stops) =
+whole_answers : (system : System) (bad : Option BadAnswer) (log : List Sent) → IsSound system → Comes system bad log → AnswersAre (shapes_of system) bad log
+whole_answers system _ _ sound (Unmade link bad log stops) =
     first_of_parts (shapes_of system) bad log (stops_badly (shapes_of system) bad [] log (All-nil (IsGoodOf (shapes_of system))) (making link system) (those system everyone (instantiate_of link)) stops)
-first_bad_answer system _ _ sound (Stands bound plan p made log is binds counts answered course halts) =
-    good_part (shapes_of system) (made ++ log) (All-append (IsGoodOf (shapes_of system)) made log answered.good (course_good system bound plan sound binds p log is course))
-first_bad_answer system _ _ sound (Falling bound plan p bad made front more is binds counts answered course falls) =
+whole_answers system _ _ sound (Stands bound plan p made log is binds counts answered course halts) =
+    good_part (shapes_of system) (made ++ log) (All-append (IsGoodOf (shapes_of system)) made log answered.good (course_good system bound plan sound binds Whole p log is course))
+whole_answers system _ _ sound (Falling bound plan p bad made front more is binds counts answered course falls) =
     first_of_parts (shapes_of system) bad (made ++ (front ++ more)) (subst (EndsBadly (shapes_of system) bad) (append_assoc made front more)
     (part_badly system (part_at system bound plan p) bad (made ++ front) more (part_placed system bound plan sound binds p)
-    (All-append (IsGoodOf (shapes_of system)) made front answered.good (course_good system bound plan sound binds p front is course)) falls))
+    (All-append (IsGoodOf (shapes_of system)) made front answered.good (course_good system bound plan sound binds Whole p front is course)) falls))
+
+-- where a state is kept, and where one is gone back to
+pub holding_placed : (system : System) → All (IsToOne (length (shapes_of system))) (holding system)
+holding_placed system = All-append (IsToOne (length (shapes_of system))) (entering_step system) (keeping system) (those system has_events (λ shape. C.EnterStep)) (keeping_to system)
+
+back_placed : (system : System) (s : Spot) (stop : ℕ) (sizes : List ℕ) → MayBack system s sizes → All (IsToOne (length (shapes_of system))) (restoring s.t stop sizes)
+back_placed system s stop sizes may = restoring_to (length (shapes_of system)) s.t stop sizes (let many = may.each in let len = shapes_len system in omega (arith, many, len))
+
+pub first_bad_answer : FirstBadAnswer
+first_bad_answer system _ _ sound (Wholly bad log comes) = whole_answers system bad log sound comes
+first_bad_answer system _ _ sound (Holding bound plan s made front kept is binds counts answered course keeps) =
+    let G = IsGoodOf (shapes_of system) in
+    good_part (shapes_of system) (made ++ (front ++ kept)) (All-append G made (front ++ kept) answered.good (All-append G front kept (course_good system bound plan sound binds Whole (Seen s false false) front is course) keeps.good))
+first_bad_answer system _ _ sound (HoldingBadly bound plan s bad made front kept is binds counts answered course stops) =
+    first_of_parts (shapes_of system) bad (made ++ (front ++ kept)) (subst (EndsBadly (shapes_of system) bad) (append_assoc made front kept)
+    (stops_badly (shapes_of system) bad (made ++ front) kept
+    (All-append (IsGoodOf (shapes_of system)) made front answered.good (course_good system bound plan sound binds Whole (Seen s false false) front is course)) (holding system) (holding_placed system) stops))
+first_bad_answer system _ _ sound (BackBadly bound plan s sizes bad made back binds counts may answered stops) =
+    first_of_parts (shapes_of system) bad (made ++ back) (stops_badly (shapes_of system) bad made back answered.good (restoring s.t plan.stop sizes) (back_placed system s plan.stop sizes may) stops)
+first_bad_answer system _ _ sound (BackStands bound plan s sizes p made back log is binds counts may answered went course halts) =
+    let G = IsGoodOf (shapes_of system) in
+    good_part (shapes_of system) (made ++ (back ++ log)) (All-append G made (back ++ log) answered.good (All-append G back log went.good (course_good system bound plan sound binds (FromHeld s) p log is course)))
+first_bad_answer system _ _ sound (BackFalling bound plan s sizes p bad made back front more is binds counts may answered went course falls) =
+    let G = IsGoodOf (shapes_of system) in
+    let before = All-append G made back answered.good went.good in
+    let all = All-append G (made ++ back) front before (course_good system bound plan sound binds (FromHeld s) p front is course) in
+    first_of_parts (shapes_of system) bad (made ++ (back ++ (front ++ more)))
+    (subst (EndsBadly (shapes_of system) bad) (append_assoc (made ++ back) front more ∙ append_assoc made back (front ++ more))
+    (part_badly system (part_at system bound plan p) bad ((made ++ back) ++ front) more (part_placed system bound plan sound binds p) all falls))

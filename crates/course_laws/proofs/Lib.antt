@@ -1,7 +1,8 @@
-mod Goods
+pub mod Goods
 mod RunEnds
 mod FirstBad
-mod OwnCalls
+pub mod OwnCalls
+pub mod Triples
 mod LastSteps
 mod BoundSets
 mod Once
@@ -13,5 +14,7 @@ mod UpdateTables
 mod UpdatesNeeded
 mod Sorts
 mod UpdatesAlong
+mod OneWay
 pub mod Unsaved
 mod StatesLeft
+mod StatesKept

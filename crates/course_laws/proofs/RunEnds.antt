@@ -1,5 +1,6 @@
 -- How each end of a run is a course, or a course and a bad answer.
-use Rattle.std.proofs.Common.{◌≡◌, List, [], ◌∷◌, ◌++◌, Option, Some, None, refl}
+use Rattle.std.proofs.Common.{◌≡◌, ℕ, false, List, [], ◌∷◌, ◌++◌, Option, Some, None, refl, sym, subst, append_assoc}
+use Rattle.sim_base.specs.Sink.{SinkView}
 use Rattle.system_model.specs.declared.bound.Bound.{Bound}
 use Rattle.system_model.specs.declared.plan.Plan.{Plan}
 use Rattle.system_model.specs.declared.system.System.{System}
@@ -8,13 +9,17 @@ use Rattle.system_model.specs.Text.{Instant}
 use Rattle.slot_calls.specs.declared.bad_answer.BadAnswer.{BadAnswer}
 use Rattle.slot_calls.specs.Log.{Sent}
 use Rattle.slot_calls.specs.Stage.{IsAnswered, shapes_of}
+use Rattle.slot_calls.proofs.CallerLemmas.{answered_on}
 use Rattle.calling_sequence.specs.declared.run_end.RunEnd.{RunEnd}
 use Rattle.calling_sequence.specs.declared.run_end.RunEnd.TheVariants as E
 use Rattle.calling_sequence.specs.Plans.{CountsBy}
-use Rattle.calling_sequence.specs.Calls.{making}
-use Rattle.calling_sequence.specs.Course.{AtFirst, Made, Place, Seen, shown}
-use Rattle.calling_sequence.specs.Ends.{AtStop, Awaits, Badly, EndLine, EndsAt, Finishes, Header, Shown, Well}
-use Rattle.course_laws.specs.Runs.{Comes, EndsCome, Falling, IsHalt, TellsEnd, Stands}
+use Rattle.calling_sequence.specs.Calls.{entering_step, keeping, making}
+use Rattle.calling_sequence.specs.Course.{AtFirst, Course, CourseIn, Extent, FromHeld, IsWithin, Leaving, On, Place, Seen, UpToHeld, Whole, first_of, part_at, shown}
+use Rattle.calling_sequence.specs.Ends.{AtStop, AwaitsIn, Badly, EndLine, EndsAt, EndsIn, FinishesIn, Header, Shown, Well}
+use Rattle.calling_sequence.specs.Parts.{Falls}
+use Rattle.calling_sequence.specs.Holding.{BadlyHeld, Early, WellHeld}
+use Rattle.calling_sequence.proofs.Along.{along}
+use Rattle.course_laws.specs.Runs.{BackFalling, BackStands, Comes, ComesAnyhow, EndsCome, Falling, Holding, HoldingBadly, HoldsCome, IsHalt, RestsCome, Stands, TellsEnd, Wholly}
 
 well : (system : System) (plan : Plan) (end : RunEnd) (p : Place) → EndsAt system plan end p → TellsEnd end None
 well system plan _ _ (AtStop s is) = refl
@@ -28,19 +33,72 @@ shown_halts : (p : Place) (i : Instant) → shown p ≡ i ∷ [] → IsHalt p
 shown_halts (Seen s again asked) i shows = tt
 shown_halts p i shows = absurd (cc)
 
-module _ (system : System) (bound : Bound) (plan : Plan) (binds : BindsParameters system bound) (counts : CountsBy system plan) (made : List Sent) (answered : IsAnswered (shapes_of system) (making plan.link system) made) where
+-- where a course may stop, and where one falls, is told
+module _ (system : System) (bound : Bound) (plan : Plan) (extent : Extent) (begins : IsHalt (first_of extent)) (To : Option BadAnswer → List Sent → Type 0)
+    (stands : (p : Place) (log : List Sent) (is : List Instant) → CourseIn system bound plan extent p log is → IsHalt p → To None log)
+    (falls : (p : Place) (bad : BadAnswer) (front more : List Sent) (is : List Instant) → CourseIn system bound plan extent p front is → Falls system (part_at system bound plan p) bad more → To (Some bad) (front ++ more)) where
   abbrev ComesTo : RunEnd → List Sent → Type 0
-  ComesTo end log = (bad : Option BadAnswer) × TellsEnd end bad × Comes system bad (made ++ log)
+  ComesTo end log = (bad : Option BadAnswer) × TellsEnd end bad × To bad log
 
-  finished : (end : RunEnd) (point : _) (log : List Sent) (is : List Instant) → Finishes system bound plan end point log is → ComesTo end log
-  finished _ _ _ _ (Well p end log is course ends) = (None, well system plan end p ends, Stands bound plan p made log is binds counts answered course (halts system plan end p ends))
-  finished _ _ _ _ (Badly p bad front more is course falls) = (Some bad, refl, Falling bound plan p bad made front more is binds counts answered course falls)
+  finished : (end : RunEnd) (point : ℕ) (log : List Sent) (is : List Instant) → FinishesIn system bound plan extent end point log is → ComesTo end log
+  finished _ _ _ _ (Well p end log is course ends may) = (None, well system plan end p ends, stands p log is course (halts system plan end p ends))
+  finished _ _ _ _ (Badly p bad front more is course fell) = (Some bad, refl, falls p bad front more is course fell)
 
-  awaited : (log : List Sent) (is : List Instant) (pieces : _) (piece : _) → Awaits system bound plan log is pieces piece → ComesTo E.WriteFault log
-  awaited _ _ _ _ Header = (None, tt, Stands bound plan Made made [] [] binds counts answered AtFirst tt)
-  awaited _ _ _ _ (Shown p log is i shows course) = (None, tt, Stands bound plan p made log (is ++ i ∷ []) binds counts answered course (shown_halts p i shows))
-  awaited _ _ _ _ (EndLine end point log is f) = let c = finished end point log is f in (c.0, tt, c.2)
+  awaited : (x : Extent) (log : List Sent) (is : List Instant) (pieces : List (List ℕ)) (piece : List ℕ) → x ≡ extent → AwaitsIn system bound plan x log is pieces piece → ComesTo E.WriteFault log
+  awaited _ _ _ _ _ same Header = (None, tt, stands (first_of extent) [] [] AtFirst begins)
+  awaited _ _ _ _ _ same (Shown x p log is i puts shows course) =
+      (None, tt, stands p log (is ++ i ∷ []) (subst (λ (y : Extent). CourseIn system bound plan y p log (is ++ i ∷ [])) same course) (shown_halts p i shows))
+  awaited _ _ _ _ _ same (EndLine x end point log is f) = let c = finished end point log is (subst (λ (y : Extent). FinishesIn system bound plan y end point log is) same f) in (c.0, tt, c.2)
+
+  ends : (end : RunEnd) (log : List Sent) (is : List Instant) (before after : SinkView) → EndsIn system bound plan extent log is end before after → ComesTo end log
+  ends E.WriteFault log is before after e = awaited extent log is e.pieces e.piece refl e.awaits
+  ends (E.Held point) log is before after e = absurd e
+  ends end log is before after e = finished end e.0 log is e.1
+
+-- a course that may be held is one of a whole run
+within_whole : (q : Place) → IsWithin Whole q
+within_whole (Leaving w) = tt
+within_whole q = tt
+
+whole_course : (system : System) (bound : Bound) (plan : Plan) (at : ℕ) (p : Place) (log : List Sent) (is : List Instant) → CourseIn system bound plan (UpToHeld at) p log is → Course system bound plan p log is
+whole_course system bound plan at = along system bound plan (UpToHeld at) (λ p log is. Course system bound plan p log is) AtFirst
+    (λ p q values front more is course whole does leads within. On p q values front more is whole does leads (within_whole q))
+
+module _ (system : System) (bound : Bound) (plan : Plan) (binds : BindsParameters system bound) (counts : CountsBy system plan) (made : List Sent) (answered : IsAnswered (shapes_of system) (making plan.link system) made) where
+  abbrev BehindMade : Option BadAnswer → List Sent → Type 0
+  BehindMade bad log = Comes system bad (made ++ log)
+
+  stands_made : (p : Place) (log : List Sent) (is : List Instant) → Course system bound plan p log is → IsHalt p → BehindMade None log
+  stands_made p log is course halt = Stands bound plan p made log is binds counts answered course halt
+
+  falls_made : (p : Place) (bad : BadAnswer) (front more : List Sent) (is : List Instant) → Course system bound plan p front is → Falls system (part_at system bound plan p) bad more → BehindMade (Some bad) (front ++ more)
+  falls_made p bad front more is course fell = Falling bound plan p bad made front more is binds counts answered course fell
 
 pub ends_come : EndsCome
-ends_come system bound plan made log is E.WriteFault before after binds counts answered e = awaited system bound plan binds counts made answered log is e.pieces e.piece e.awaits
-ends_come system bound plan made log is end before after binds counts answered e = finished system bound plan binds counts made answered end e.0 log is e.1
+ends_come system bound plan made log is end before after binds counts answered e =
+    ends system bound plan Whole tt (BehindMade system bound plan binds counts made answered)
+    (stands_made system bound plan binds counts made answered) (falls_made system bound plan binds counts made answered) end log is before after e
+
+pub holds_come : HoldsCome
+holds_come e at olds made _ _ _ binds counts answered (Early end point log is f) =
+    let go = whole_course e.system e.bound e.plan at in
+    let c = finished e.system e.bound e.plan (UpToHeld at) tt (BehindMade e.system e.bound e.plan binds counts made answered)
+    (λ p l js course halt. stands_made e.system e.bound e.plan binds counts made answered p l js (go p l js course) halt)
+    (λ p bad front more js course fell. falls_made e.system e.bound e.plan binds counts made answered p bad front more js (go p front js course) fell) end point log is f in
+    (c.0, c.1, Wholly c.0 (made ++ log) c.2)
+holds_come e at olds made _ _ _ binds counts answered (BadlyHeld s bad front more is comes stops) =
+    (Some bad, refl, HoldingBadly e.bound e.plan s bad made front more is binds counts answered (whole_course e.system e.bound e.plan at (Seen s false false) front is comes.course) stops)
+holds_come e at olds made _ _ _ binds counts answered (WellHeld s front entered kept is mids states comes enters told packed keeps can) = (
+  None,
+  refl,
+  subst (λ (l : List Sent). ComesAnyhow e.system None (made ++ l)) (sym (append_assoc front entered kept))
+      (Holding e.bound e.plan s made front (entered ++ kept) is binds counts answered (whole_course e.system e.bound e.plan at (Seen s false false) front is comes.course)
+      (answered_on (shapes_of e.system) (entering_step e.system) (keeping e.system) entered kept enters keeps)),
+)
+
+pub rests_come : RestsCome
+rests_come system bound plan s sizes made back log is end before after binds counts may answered went e =
+    ends system bound plan (FromHeld s) tt (λ bad l. ComesAnyhow system bad (made ++ (back ++ l)))
+    (λ p l js course halt. BackStands bound plan s sizes p made back l js binds counts may answered went course halt)
+    (λ p bad front more js course fell. BackFalling bound plan s sizes p bad made back front more js binds counts may answered went course fell)
+    end log is before after e

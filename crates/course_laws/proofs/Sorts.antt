@@ -4,6 +4,7 @@ use Rattle.std.specs.Prelude.{All, if◌then◌else◌}
 use Rattle.std.proofs.lemmas.List.Elements.{All-append, All-cons, All-head, All-map, All-nil, All-tail, All-weaker}
 use Rattle.value_types.specs.declared.shape.Shape.{Shape}
 use Rattle.fmi_calls.specs.declared.call.Call.{Call}
+use Rattle.fmi_calls.specs.declared.call.Call.TheVariants as C
 use Rattle.fmi_calls.specs.declared.call.Kind.{Kind}
 use Rattle.fmi_calls.specs.declared.call.Kind.TheVariants as K
 use Rattle.fmi_calls.specs.Kinds.{kind_of}
@@ -16,7 +17,7 @@ use Rattle.system_model.specs.EarlyReturn.{early_count}
 use Rattle.run_model.specs.Stepping.{asked_first}
 use Rattle.slot_calls.specs.declared.bad_answer.BadAnswer.{BadAnswer}
 use Rattle.slot_calls.specs.Log.{Asking, Sent, asking_of, askings}
-use Rattle.slot_calls.specs.Stage.{shapes_of, to_those}
+use Rattle.slot_calls.specs.Stage.{has_events, shapes_of, to_those}
 use Rattle.slot_calls.proofs.CallerLemmas.{those_calls}
 use Rattle.step_agreement.specs.Agreement.{Fails, Meets, Outcome, Unfit}
 use Rattle.step_agreement.proofs.CallerLemmas.{HasAlong, IsAlong, IsOfRound, along_agreement, round_calls}
@@ -24,10 +25,13 @@ use Rattle.rollback.specs.StepsBy.{all_at}
 use Rattle.event_iteration.specs.WalkCalls.{AreNew, Front, IsUse, Span, UsesAre, WalkUses, WalksBy, Whole, has_events_at, initial_span, instant_span, interval_span, own, step_span, use_in}
 use Rattle.event_iteration.specs.Turns.{Rules}
 use Rattle.event_iteration.proofs.ByLog.{each_call_once, own_append}
-use Rattle.calling_sequence.specs.Course.{Agreed, Before, Configured, Departing, Entered, Found, Left, Leaving, Made, Place, Read, Rearmed, Saved, Seen, Short, Stepped, Timed, part_at}
+use Rattle.calling_sequence.specs.Calls.{entering_step, keeping, restoring}
+use Rattle.calling_sequence.specs.Holding.{holding}
+use Rattle.calling_sequence.specs.Course.{Agreed, Before, Configured, Departing, Entered, Found, Left, Leaving, Made, Place, Read, Rearmed, Restored, Saved, Seen, Short, Stepped, Timed, part_at}
 use Rattle.calling_sequence.proofs.Sizes.{shapes_all}
 use Rattle.calling_sequence.specs.Parts.{Agreement, AllAgree, Calls, Does, Falls, Part, Round, Walk}
 use Rattle.course_laws.proofs.BoundSets.{binding_new, setting_span}
+use Rattle.course_laws.proofs.Triples.{keeping_all, restoring_all}
 use Rattle.course_laws.proofs.Once.{front_all}
 use Rattle.course_laws.proofs.UpdatesNeeded.{Throughout}
 
@@ -74,9 +78,19 @@ IsThroughout system P (Round calls) = (i : ℕ) → All P (own i calls)
 IsThroughout system P (Walk rules before order) = (log : List Sent) → WalksBy system rules before order log → Throughout system P log
 IsThroughout system P (Agreement t step b) = (call : Call) → IsOfRound t call → P call
 
+-- where states are gone back to
+pub back_all : (P : Call → Type 0) (point stop : ℕ) (sizes : List ℕ) → ((size : ℕ) → P (C.Deserialize size point stop)) → P C.Restore → P C.Free → (i : ℕ) → All P (own i (restoring point stop sizes))
+back_all P point stop sizes takes restore free i = own_all P i (restoring point stop sizes) (restoring_all P point stop takes restore free sizes)
+
 module _ (system : System) (P : Call → Type 0) where
   pub those : (test : Shape → Bool) (call : Shape → Call) → ((s : Shape) → P (call s)) → (i : ℕ) → All P (own i (to_those test call (shapes_of system)))
   those test call h i = own_all P i (to_those test call (shapes_of system)) (those_calls test call P (λ s passes. h s) 0 (shapes_of system))
+
+  -- where the state of each is kept
+  pub holding_all : P C.EnterStep → P C.Save → P C.Serialize → P C.Free → (i : ℕ) → All P (own i (holding system))
+  holding_all enter save serialize free i =
+      subst (All P) (sym (own_append i (entering_step system) (keeping system)))
+      (All-append P (own i (entering_step system)) (own i (keeping system)) (those has_events (λ (shape : Shape). C.EnterStep) (λ s. enter) i) (own_all P i (keeping system) (keeping_all P save serialize free system)))
 
   -- the calls of an agreement
   pub own_sent : (log : List Sent) → All (λ (s : Sent). P s.exchange.call) log → (i : ℕ) → All P (own i (askings log))
@@ -150,3 +164,4 @@ module _ (system : System) (sound : IsSound system) (bound : Bound) (plan : Plan
   sorts_are (Agreed w m asked) = those system (IsOf (Only K.Free)) _ _ (λ s. refl)
   sorts_are (Stepped s true) = λ i. All-nil (IsOf (Only K.EnterEvent))
   sorts_are (Stepped s false) = those system (IsOf (Only K.EnterEvent)) _ _ (λ s. refl)
+  sorts_are (Restored s) = λ i. All-nil (IsOf Uses)

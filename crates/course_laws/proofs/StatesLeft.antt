@@ -32,45 +32,49 @@ use Rattle.system_model.specs.Bounds.{BindsParameters}
 use Rattle.system_model.specs.Sound.{IsSound}
 use Rattle.system_model.specs.Text.{Instant}
 use Rattle.system_model.specs.EarlyReturn.{early_count}
+use Rattle.run_model.specs.Stepping.{asked_first}
 use Rattle.slot_calls.specs.declared.bad_answer.BadAnswer.{BadAnswer}
 use Rattle.slot_calls.specs.Log.{Asking, Sent, askings, part}
-use Rattle.slot_calls.specs.SavedStates.{AgreeAtLast, EndsAt, IsGivenUp, LeavesState, Talk, has_stepped, if_good, last_step, saved_after, saved_by, step_or, steps}
+use Rattle.slot_calls.specs.SavedStates.{AgreeAtLast, EndsAt, IsGivenUp, LeavesState, Talk, has_served, has_stepped, if_good, is_good, last_step, saved_after, saved_by, serves, step_or, steps}
 use Rattle.slot_calls.specs.Stage.{FailsIn, IsAnswered, IsGoodOf, StopsAt, everyone, shapes_of, to_those}
-use Rattle.slot_calls.proofs.CallerLemmas.{first_same, last_on, map_at, part_append, rest_same, same, saved_on, stepped_on, takes}
+use Rattle.slot_calls.proofs.CallerLemmas.{first_same, last_on, map_at, part_append, rest_same, same, saved_on, served_on, stepped_on, takes}
 use Rattle.event_iteration.specs.WalkCalls.{own}
 use Rattle.calling_sequence.specs.Calls.{making}
 use Rattle.step_agreement.specs.Agreement as A
 use Rattle.step_agreement.specs.Agreement.{Fails, Meets, Stand, Unfit, are_at, stand_by, stands_by}
 use Rattle.step_agreement.specs.Saving.{is_saved}
-use Rattle.step_agreement.proofs.CallerLemmas.{AreApart, AreGoodSteps, IsBroken, IsOfRound, all_there, round_calls, there_all}
+use Rattle.step_agreement.proofs.CallerLemmas.{Alternates, AreApart, AreGoodSteps, IsBroken, IsOfRound, all_there, alternates_from, round_calls, there_all}
 use Rattle.rollback.specs.StepsBy.{all_at}
-use Rattle.calling_sequence.specs.Course.{Agreed, Agreeing, Course, Departing, LeadsTo, Made, Place, Saved, Saves, Short, Stopping, part_at}
+use Rattle.calling_sequence.specs.Course.{Agreed, Agreeing, CourseIn, Departing, Extent, LeadsTo, Made, Place, Saved, Saves, Short, Stopping, Whole, first_of, part_at}
 use Rattle.calling_sequence.specs.Parts.{Calls, Does, Falls, AllAgree as AgreeBy}
 use Rattle.calling_sequence.proofs.Along.{along}
 use Rattle.calling_sequence.proofs.Chains.{part_all}
-use Rattle.course_laws.specs.Laws.{EndAs, IsStateless, StatesAreLeft}
+use Rattle.course_laws.specs.Laws.{EndAs, IsStateless}
 use Rattle.course_laws.specs.Runs.{Comes, Falling, IsHalt, Stands, Unmade}
 use Rattle.course_laws.proofs.CallsOnce.{IsLater, later_on, some_at}
 use Rattle.course_laws.proofs.FirstBad.{agreement_has, part_good}
 use Rattle.course_laws.proofs.Goods.{AreInOrder, alone_behind, good_part, in_order_from}
 use Rattle.course_laws.proofs.LastSteps.{IsGoodRound, IsLast, all_first_by, begins_all, each_behind, ends_from, ends_same, none_both, rounds_saved, stand_behind, tracks}
 use Rattle.course_laws.proofs.OwnCalls.{own_calls, own_there}
+use Rattle.course_laws.proofs.RoundCalls.{calls_all}
 use Rattle.course_laws.proofs.Sorts.{IsOf, Only, Rounds, Sort, Uses, does_all, falls_all, sort_at, sorts_are, those}
 use Rattle.course_laws.proofs.Unsaved.{comes_stateless, never_held}
 use Rattle.course_laws.proofs.UpdatesNeeded.{Throughout}
 
 -- ---- other calls leave the state and the steps
 
-abbrev IsOther : Call → Type 0
+abbrev pub IsOther : Call → Type 0
 IsOther C.Save = ⊥
 IsOther C.Free = ⊥
 IsOther (C.DoStep at size) = ⊥
+IsOther (C.Deserialize size point stop) = ⊥
 IsOther call = Unit {0}
 
 abbrev is_plain : Sort → Bool
 is_plain (Only K.Save) = false
 is_plain (Only K.Free) = false
 is_plain (Only K.DoStep) = false
+is_plain (Only K.Deserialize) = false
 is_plain Rounds = false
 is_plain sort = true
 
@@ -78,15 +82,18 @@ other_of : (sort : Sort) → is_plain sort ≡ true → (c : Call) → IsOf sort
 other_of Uses plain C.Save is = absurd (omega (arith, is))
 other_of Uses plain C.Free is = absurd (omega (arith, is))
 other_of Uses plain (C.DoStep at size) is = absurd (omega (arith, is))
+other_of Uses plain (C.Deserialize size point stop) is = absurd (omega (arith, is))
 other_of (Only kind) plain C.Save is = absurd (let wrong : false ≡ true = ap (λ (k : Kind). is_plain (Only k)) is ∙ plain in cc)
 other_of (Only kind) plain C.Free is = absurd (let wrong : false ≡ true = ap (λ (k : Kind). is_plain (Only k)) is ∙ plain in cc)
 other_of (Only kind) plain (C.DoStep at size) is = absurd (let wrong : false ≡ true = ap (λ (k : Kind). is_plain (Only k)) is ∙ plain in cc)
+other_of (Only kind) plain (C.Deserialize size point stop) is = absurd (let wrong : false ≡ true = ap (λ (k : Kind). is_plain (Only k)) is ∙ plain in cc)
 other_of Rounds plain c is = absurd (cc)
 other_of sort plain c is = tt
 
 other_saved : (shape : Shape) (c : Call) → IsOther c → (r : Result Reply PeerFault) (saved : Bool) → saved_by shape c r saved ≡ saved
 other_saved shape C.Save is r saved = absurd is
 other_saved shape C.Free is r saved = absurd is
+other_saved shape (C.Deserialize size point stop) is r saved = absurd is
 other_saved shape c is r saved = refl
 
 others_saved : (shape : Shape) (es : List Exchange) (saved : Bool) → All IsOther (calls_in es) → saved_after shape saved es ≡ saved
@@ -94,7 +101,7 @@ others_saved shape [] saved all = refl
 others_saved shape (e ∷ es) saved all =
     ap (λ (b : Bool). saved_after shape b es) (other_saved shape e.call (All-head IsOther e.call (calls_in es) all) e.result saved) ∙ others_saved shape es saved (All-tail IsOther e.call (calls_in es) all)
 
-abbrev IsNoStep : Call → Type 0
+abbrev pub IsNoStep : Call → Type 0
 IsNoStep (C.DoStep at size) = ⊥
 IsNoStep call = Unit {0}
 
@@ -117,14 +124,14 @@ never [] f fs is = absurd (cc)
 never (x ∷ es) f fs is = absurd (cc)
 
 -- the last is among those after, if there are any
-split_last : (es fs front : List Exchange) (e : Exchange) → es ++ fs ≡ front ++ e ∷ [] → (fs ≡ []) ⊎ ((rest : List Exchange) × (fs ≡ rest ++ e ∷ []))
+pub split_last : (es fs front : List Exchange) (e : Exchange) → es ++ fs ≡ front ++ e ∷ [] → (fs ≡ []) ⊎ ((rest : List Exchange) × (fs ≡ rest ++ e ∷ []))
 split_last es [] front e is = inl refl
 split_last [] (f ∷ fs) front e is = inr (front, is)
 split_last (x ∷ es) (f ∷ fs) [] e is = absurd (never es f fs (rest_same x e (es ++ f ∷ fs) [] is))
 split_last (x ∷ es) (f ∷ fs) (y ∷ front) e is = split_last es (f ∷ fs) front e (rest_same x y (es ++ f ∷ fs) (front ++ e ∷ []) is)
 
 -- what holds of each holds of one
-all_at_one : {X : Type 0} (P : X → Type 0) (front rest : List X) (e : X) → All P (front ++ e ∷ rest) → P e
+pub all_at_one : {X : Type 0} (P : X → Type 0) (front rest : List X) (e : X) → All P (front ++ e ∷ rest) → P e
 all_at_one P [] rest e all = All-head P e rest all
 all_at_one P (x ∷ front) rest e all = all_at_one P front rest e (All-tail P x (front ++ e ∷ rest) all)
 
@@ -132,7 +139,7 @@ to_calls : (P : Call → Type 0) (es : List Exchange) → All (λ (e : Exchange)
 to_calls P [] all = All-nil P
 to_calls P (e ∷ es) all = All-cons P e.call (calls_in es) (All-head (λ (x : Exchange). P x.call) e es all) (to_calls P es (All-tail (λ (x : Exchange). P x.call) e es all))
 
-of_calls : (P : Call → Type 0) (es : List Exchange) → All P (calls_in es) → All (λ (e : Exchange). P e.call) es
+pub of_calls : (P : Call → Type 0) (es : List Exchange) → All P (calls_in es) → All (λ (e : Exchange). P e.call) es
 of_calls P [] all = All-nil (λ (e : Exchange). P e.call)
 of_calls P (e ∷ es) all = All-cons (λ (x : Exchange). P x.call) e es (All-head P e.call (calls_in es) all) (of_calls P es (All-tail P e.call (calls_in es) all))
 
@@ -146,25 +153,40 @@ good_kept shape e good given =
     absurd (let wrong : G.Refused ≡ G.Good = subst (λ (r : Result Reply PeerFault). MatchResult r (λ reply. grade_of shape C.Free reply ≡ G.Good) (λ fault. ⊥)) given.discarded of_free in cc)
 
 -- nothing comes after what alone may be given up
-last_of : (es fs front rest : List Exchange) (e : Exchange) → All IsKept es → (fs ≡ []) ⊎ ((f : Exchange) × (fs ≡ f ∷ [])) → es ++ fs ≡ front ++ e ∷ rest → IsGivenUp e → rest ≡ []
+pub last_of : (es fs front rest : List Exchange) (e : Exchange) → All IsKept es → (fs ≡ []) ⊎ ((f : Exchange) × (fs ≡ f ∷ [])) → es ++ fs ≡ front ++ e ∷ rest → IsGivenUp e → rest ≡ []
 last_of [] fs front rest e kept (inl none) is given = absurd (never front e rest (sym is ∙ none))
 last_of [] fs [] rest e kept (inr (f, one)) is given = rest_same e f rest [] (sym is ∙ one)
 last_of [] fs (x ∷ front) rest e kept (inr (f, one)) is given = absurd (never front e rest (rest_same x f (front ++ e ∷ rest) [] (sym is ∙ one)))
 last_of (x ∷ es) fs [] rest e kept short is given = absurd (All-head IsKept x es kept (subst IsGivenUp (sym (first_same x e (es ++ fs) rest is)) given))
 last_of (x ∷ es) fs (y ∷ front) rest e kept short is given = last_of es fs front rest e (All-tail IsKept x es kept) short (rest_same x y (es ++ fs) (front ++ e ∷ rest) is) given
 
-kept_last : (es front rest : List Exchange) (e : Exchange) → All IsKept es → es ≡ front ++ e ∷ rest → IsGivenUp e → rest ≡ []
+pub kept_last : (es front rest : List Exchange) (e : Exchange) → All IsKept es → es ≡ front ++ e ∷ rest → IsGivenUp e → rest ≡ []
 kept_last es front rest e kept is given = last_of es [] front rest e kept (inl refl) (append-nil es ∙ is) given
 
 other_kept : (es : List Exchange) → All (λ (e : Exchange). e.call ≡ C.Free → ⊥) es → All IsKept es
 other_kept es all = λ k d w given. all k d w given.frees
 
-why_bad : (shape : Shape) (why : Why) (e : Exchange) → IsWhy shape why e → IsGood shape e → ⊥
+pub why_bad : (shape : Shape) (why : Why) (e : Exchange) → IsWhy shape why e → IsGood shape e → ⊥
 why_bad shape (Refused call status) e (reply, is, result, same, grade) good =
     absurd (let wrong : G.Refused ≡ G.Good = sym grade ∙ subst (λ (c : Call). grade_of shape c reply ≡ G.Good) is (subst (λ (r : Result Reply PeerFault). MatchResult r (λ z. grade_of shape e.call z ≡ G.Good) (λ fault. ⊥)) result good) in cc)
 why_bad shape (Misreply call reply) e (is, result, grade) good =
     absurd (let wrong : G.Misreply ≡ G.Good = sym grade ∙ subst (λ (c : Call). grade_of shape c reply ≡ G.Good) is (subst (λ (r : Result Reply PeerFault). MatchResult r (λ z. grade_of shape e.call z ≡ G.Good) (λ fault. ⊥)) result good) in cc)
 why_bad shape (Link call fault) e (is, result) good = subst (λ (r : Result Reply PeerFault). MatchResult r (λ z. grade_of shape e.call z ≡ G.Good) (λ fault. ⊥)) result good
+
+-- ---- rounds leave whether a state has served: one goes back after a step alone
+
+module _ (s : Shape) (t : ℕ) where
+  round_served : (c : Call) (e : Exchange) (cs : List Call) (a b served : Bool) → (a ≡ true → b ≡ true) → Alternates t a (c ∷ cs) →
+      (serves s c e.result b served ≡ served) × (a2 : Bool) × (a2 ≡ true → steps c b ≡ true) × Alternates t a2 cs
+  round_served (C.DoStep at size) e cs a b served so alt = (refl, true, (λ h. refl), alt.1)
+  round_served C.Restore e cs a b served so alt = (ap (λ (x : Bool). if x then served else is_good s C.Restore e.result) (so alt.0), false, (λ wrong. absurd (cc)), alt.1)
+  round_served c e cs a b served so alt = absurd alt
+
+  pub rounds_served : (es : List Exchange) (a b served : Bool) → (a ≡ true → b ≡ true) → Alternates t a (calls_in es) → has_served s b served es ≡ served
+  rounds_served [] a b served so alt = refl
+  rounds_served (e ∷ es) a b served so alt =
+      let r = round_served e.call e (calls_in es) a b served so alt in
+      ap (λ (x : Bool). has_served s (steps e.call b) x es) r.0 ∙ rounds_served es r.1 (steps e.call b) served r.2 r.3
 
 -- ---- one call, or none
 
@@ -196,6 +218,11 @@ module _ (s : Shape) (was : List Exchange) where
   unstepped b _ (One able e call) none held = stepped_on false was (e ∷ []) ∙ ap (λ (c : Call). steps c (has_stepped false was)) call
   unstepped b _ (NoOne unable) none held = absurd (let wrong : true ≡ false = sym held ∙ ap (saved_after s false) (append-nil was) ∙ none in cc)
 
+  -- nor has it served
+  unserved : (b : Bool) (es : List Exchange) → Sends b C.Save es → saved_after s false was ≡ false → saved_after s false (was ++ es) ≡ true → has_served s false false (was ++ es) ≡ false
+  unserved b _ (One able e call) none held = served_on s false false was (e ∷ []) ∙ ap (λ (c : Call). serves s c e.result (has_stepped false was) (has_served s false false was)) call
+  unserved b _ (NoOne unable) none held = absurd (let wrong : true ≡ false = sym held ∙ ap (saved_after s false) (append-nil was) ∙ none in cc)
+
   -- after a step
   after_step : (at size : ℕ) (es : List Exchange) → Sends true (C.DoStep at size) es →
       (e : Exchange) × (es ≡ e ∷ []) × (last_step None (was ++ es) ≡ Some e) × (has_stepped false (was ++ es) ≡ true) × (saved_after s false (was ++ es) ≡ saved_after s false was)
@@ -224,7 +251,7 @@ sends_short : (b : Bool) (call : Call) (es : List Exchange) → Sends b call es 
 sends_short b call _ (One able e is) = inr (e, refl)
 sends_short b call _ (NoOne unable) = inl refl
 
-abbrev NoFree : List Exchange → Type 0
+abbrev pub NoFree : List Exchange → Type 0
 NoFree es = All (λ (e : Exchange). e.call ≡ C.Free → ⊥) es
 
 sends_other : (b : Bool) (call : Call) (es : List Exchange) → (call ≡ C.Free → ⊥) → Sends b call es → NoFree es
@@ -254,36 +281,39 @@ module _ (system : System) where
   abbrev AllAgree : List Sent → Type 0
   AllAgree log = (m : ℕ) × ((k : ℕ) (d : Shape) → k < n → IfSome (last_step None (part k log)) (λ e. IsGood (get_or ss k d) e × EndsAt m e.result))
 
-  -- after a Free all agree
-  abbrev IsFreed : List Sent → ℕ → Type 0
-  IsFreed log k = (front : List Exchange) (e : Exchange) → part k log ≡ front ++ e ∷ [] → e.call ≡ C.Free → AllAgree log × (has_stepped false front ≡ true)
+  -- a Free stands where the state has served, or where all agree
+  abbrev pub IsFreed : List Sent → ℕ → Shape → Type 0
+  IsFreed log k d = (front : List Exchange) (e : Exchange) → part k log ≡ front ++ e ∷ [] → e.call ≡ C.Free →
+      (has_served (get_or ss k d) false false front ≡ true) ⊎ (AllAgree log × (has_stepped false front ≡ true))
 
   -- no state is held
-  record IsPast (log : List Sent) (k : ℕ) (d : Shape) : Type 0 where
-    unheld : saved_after (get_or ss k d) false (part k log) ≡ false
-    freed : IsFreed log k
+  pub record IsPast (log : List Sent) (k : ℕ) (d : Shape) : Type 0 where
+    pub unheld : saved_after (get_or ss k d) false (part k log) ≡ false
+    pub freed : IsFreed log k d
 
-  abbrev ArePast : List Sent → Type 0
+  abbrev pub ArePast : List Sent → Type 0
   ArePast log = (k : ℕ) (d : Shape) → k < n → IsPast log k d
 
-  -- a state is held where the shape passes a test, since which no step was made
-  record IsHeld (test : Shape → Bool) (log : List Sent) (k : ℕ) (d : Shape) : Type 0 where
+  -- a state is held where the shape passes a test, since which no step was made, and which hasn't served
+  pub record IsHeld (test : Shape → Bool) (log : List Sent) (k : ℕ) (d : Shape) : Type 0 where
     held : saved_after (get_or ss k d) false (part k log) ≡ test (get_or ss k d)
     unstepped : test (get_or ss k d) ≡ true → has_stepped false (part k log) ≡ false
-    freed : IsFreed log k
+    unserved : test (get_or ss k d) ≡ true → has_served (get_or ss k d) false false (part k log) ≡ false
+    freed : IsFreed log k d
 
   abbrev AreHeld : (Shape → Bool) → List Sent → Type 0
   AreHeld test log = (k : ℕ) (d : Shape) → k < n → IsHeld test log k d
 
-  -- a state is held only where the last steps don't agree, or none was made since it was saved
-  record IsLeft (log : List Sent) (k : ℕ) (d : Shape) : Type 0 where
-    held : saved_after (get_or ss k d) false (part k log) ≡ true → (AllAgree log → ⊥) ⊎ (has_stepped false (part k log) ≡ false)
-    freed : IsFreed log k
+  -- a state is held only where it hasn't served, and the last steps don't agree or none was made since it was saved
+  pub record IsLeft (log : List Sent) (k : ℕ) (d : Shape) : Type 0 where
+    pub held : saved_after (get_or ss k d) false (part k log) ≡ true →
+        (has_served (get_or ss k d) false false (part k log) ≡ false) × ((AllAgree log → ⊥) ⊎ (has_stepped false (part k log) ≡ false))
+    pub freed : IsFreed log k d
 
-  abbrev AreLeft : List Sent → Type 0
+  abbrev pub AreLeft : List Sent → Type 0
   AreLeft log = (k : ℕ) (d : Shape) → k < n → IsLeft log k d
 
-  past_left : (log : List Sent) → ArePast log → AreLeft log
+  pub past_left : (log : List Sent) → ArePast log → AreLeft log
   past_left log past k d w = record { held = λ held. absurd (let wrong : true ≡ false = sym held ∙ (past k d w).unheld in cc); freed = (past k d w).freed }
 
   -- the same, after steps that agree
@@ -293,7 +323,7 @@ module _ (system : System) where
   abbrev mine : (k : ℕ) (P : Call → Type 0) (log : List Sent) → Throughout system P log → All P (calls_in (part k log))
   mine k P log all = subst (All P) (sym (own_calls k log)) (all k)
 
-  agree_on : (log more : List Sent) → ((k : ℕ) → k < n → All IsNoStep (calls_in (part k more))) → AllAgree log → AllAgree (log ++ more)
+  pub agree_on : (log more : List Sent) → ((k : ℕ) → k < n → All IsNoStep (calls_in (part k more))) → AllAgree log → AllAgree (log ++ more)
   agree_on log more none (m, all) = (
     m,
     λ k d w. subst (λ (o : Option Exchange). IfSome o (λ e. IsGood (get_or ss k d) e × EndsAt m e.result))
@@ -310,19 +340,23 @@ module _ (system : System) where
 
   module _ (log more : List Sent) where
     -- calls that are no Frees and no steps leave what a Free at the end says
-    freed_on : (k : ℕ) → NoFree (part k more) → ((i : ℕ) → i < n → All IsNoStep (calls_in (part i more))) → IsFreed log k → IsFreed (log ++ more) k
-    freed_on k none still freed front e is frees = by (split_last (part k log) (part k more) front e (sym (part_append k log more) ∙ is)) where
-      by : (part k more ≡ []) ⊎ ((rest : List Exchange) × (part k more ≡ rest ++ e ∷ [])) → AllAgree (log ++ more) × (has_stepped false front ≡ true)
-      by (inl empty) =
-          let f = freed front e (sym (append-nil (part k log)) ∙ ap (λ (es : List Exchange). part k log ++ es) (sym empty) ∙ sym (part_append k log more) ∙ is) frees in
-          (agree_on log more still f.0, f.1)
+    pub freed_on : (k : ℕ) (d : Shape) → NoFree (part k more) → ((i : ℕ) → i < n → All IsNoStep (calls_in (part i more))) → IsFreed log k d → IsFreed (log ++ more) k d
+    freed_on k d none still freed front e is frees = by (split_last (part k log) (part k more) front e (sym (part_append k log more) ∙ is)) where
+      on : (has_served (get_or ss k d) false false front ≡ true) ⊎ (AllAgree log × (has_stepped false front ≡ true)) →
+          (has_served (get_or ss k d) false false front ≡ true) ⊎ (AllAgree (log ++ more) × (has_stepped false front ≡ true))
+      on (inl served) = inl served
+      on (inr met) = inr (agree_on log more still met.0, met.1)
+
+      by : (part k more ≡ []) ⊎ ((rest : List Exchange) × (part k more ≡ rest ++ e ∷ [])) →
+          (has_served (get_or ss k d) false false front ≡ true) ⊎ (AllAgree (log ++ more) × (has_stepped false front ≡ true))
+      by (inl empty) = on (freed front e (sym (append-nil (part k log)) ∙ ap (λ (es : List Exchange). part k log ++ es) (sym empty) ∙ sym (part_append k log more) ∙ is) frees)
       by (inr (rest, last)) = absurd (all_at_one (λ (x : Exchange). x.call ≡ C.Free → ⊥) rest [] e (subst NoFree last none) frees)
 
     -- other calls, whatever is answered
-    others_on : ((k : ℕ) → All IsOther (calls_in (part k more))) → ArePast log → ArePast (log ++ more)
+    pub others_on : ((k : ℕ) → All IsOther (calls_in (part k more))) → ArePast log → ArePast (log ++ more)
     others_on others past k d w = record {
       unheld = ap (saved_after (get_or ss k d) false) (part_append k log more) ∙ saved_on (get_or ss k d) false (part k log) (part k more) ∙ others_saved (get_or ss k d) (part k more) _ (others k) ∙ (past k d w).unheld;
-      freed = freed_on k (no_free (part k more) (others k)) (λ i v. All-weaker IsOther IsNoStep other_no (calls_in (part i more)) (others i)) (past k d w).freed;
+      freed = freed_on k d (no_free (part k more) (others k)) (λ i v. All-weaker IsOther IsNoStep other_no (calls_in (part i more)) (others i)) (past k d w).freed;
     }
 
     module _ (test : Shape → Bool) where
@@ -334,7 +368,8 @@ module _ (system : System) where
           record {
             held = ap (saved_after s false) (part_append k log more) ∙ held;
             unstepped = λ able. ap (has_stepped false) (part_append k log more) ∙ unstepped s (part k log) (test s) (part k more) sends (past k d w).unheld (held ∙ able);
-            freed = freed_on k (sends_other _ C.Save (part k more) (λ e. absurd (cc)) sends) (λ i v. sends_no _ C.Save (part i more) tt (sent_to test C.Save more is i d v)) (past k d w).freed;
+            unserved = λ able. ap (has_served s false false) (part_append k log more) ∙ unserved s (part k log) (test s) (part k more) sends (past k d w).unheld (held ∙ able);
+            freed = freed_on k d (sends_other _ C.Save (part k more) (λ e. absurd (cc)) sends) (λ i v. sends_no _ C.Save (part i more) tt (sent_to test C.Save more is i d v)) (past k d w).freed;
           }
 
       frees_on : askings more ≡ to_those test (λ (z : Shape). C.Free) ss → HaveMet test log → ArePast (log ++ more)
@@ -343,7 +378,7 @@ module _ (system : System) where
           let free = after_free s (part k log) (test s) (part k more) (sent_to test C.Free more is k d w) (held k d w).0 in
           record {
             unheld = ap (saved_after s false) (part_append k log more) ∙ free.0;
-            freed = λ front e last frees. (
+            freed = λ front e last frees. inr (
               agree_on log more (λ i v. sends_no _ C.Free (part i more) tt (sent_to test C.Free more is i d v)) agree,
               sym (before_free front e frees) ∙ ap (has_stepped false) (sym last ∙ part_append k log more) ∙ free.1 ∙ (held k d w).1,
             );
@@ -435,17 +470,34 @@ module _ (system : System) where
       stepped_there k d w empty = away k d w (ap (λ (es : List Exchange). (stand_by t (own_at k d w).stand es).point) empty ∙ (own_at k d w).home)
 
     -- a talk that ends with a round doesn't end with a Free
-    no_free_last : AreGoodSteps t ss more → (rest : List Sent) → ((k : ℕ) → NoFree (part k rest)) → (k : ℕ) → (part k (more ++ rest) ≡ [] → ⊥) → IsFreed (log ++ (more ++ rest)) k
-    no_free_last good rest none k begun front e is frees = by (split_last (part k log) (part k (more ++ rest)) front e (sym (part_append k log (more ++ rest)) ∙ is)) where
+    no_free_last : AreGoodSteps t ss more → (rest : List Sent) → ((k : ℕ) → NoFree (part k rest)) → (k : ℕ) (d : Shape) → (part k (more ++ rest) ≡ [] → ⊥) → IsFreed (log ++ (more ++ rest)) k d
+    no_free_last good rest none k d begun front e is frees = by (split_last (part k log) (part k (more ++ rest)) front e (sym (part_append k log (more ++ rest)) ∙ is)) where
       all_none : NoFree (part k (more ++ rest))
       all_none = subst NoFree (sym (part_append k more rest)) (All-append (λ (x : Exchange). x.call ≡ C.Free → ⊥) (part k more) (part k rest) (All-weaker (λ (x : Exchange). IsOfRound t x.call) (λ (x : Exchange). x.call ≡ C.Free → ⊥) (λ x round frees. round_no_free t x.call round frees) (part k more) (part_all (λ i x. IsOfRound t x.call) k more (λ i x w. (good i x w).1))) (none k))
 
-      by : (part k (more ++ rest) ≡ []) ⊎ ((r : List Exchange) × (part k (more ++ rest) ≡ r ++ e ∷ [])) → AllAgree (log ++ (more ++ rest)) × (has_stepped false front ≡ true)
+      by : (part k (more ++ rest) ≡ []) ⊎ ((r : List Exchange) × (part k (more ++ rest) ≡ r ++ e ∷ [])) → (has_served (get_or ss k d) false false front ≡ true) ⊎ (AllAgree (log ++ (more ++ rest)) × (has_stepped false front ≡ true))
       by (inl empty) = absurd (begun empty)
       by (inr (r, last)) = absurd (all_at_one (λ (x : Exchange). x.call ≡ C.Free → ⊥) r [] e (subst NoFree last all_none) frees)
 
+  -- a state that is held after an agreement hasn't served
+  module _ (t step b : ℕ) (later : t < b) (test : Shape → Bool) (log more : List Sent) (o : A.Outcome) (agrees : AgreeBy system t step b more o) (held : AreHeld test log) where
+    alternate : (k : ℕ) (d : Shape) → k < n → Alternates t false (calls_in (part k more))
+    alternate k d w =
+        let own = own_at t step b later log more k d w in
+        alternates_from t step (asked_first (early_count ss)) k b (all_at t ss) more o agrees own.stand own.at own.home
+
+    still_unserved : (k : ℕ) (d : Shape) → k < n → saved_after (get_or ss k d) false (part k (log ++ more)) ≡ true → has_served (get_or ss k d) false false (part k (log ++ more)) ≡ false
+    still_unserved k d w h =
+        let s = get_or ss k d in
+        let all : All (λ (e : Exchange). IsOfRound t e.call) (part k more) = of_calls (IsOfRound t) (part k more) (calls_all (IsOfRound t) t (λ size. inr (size, refl)) (inl refl) (calls_in (part k more)) false (alternate k d w)) in
+        let same : saved_after s false (part k (log ++ more)) ≡ test s =
+        ap (saved_after s false) (part_append k log more) ∙ saved_on s false (part k log) (part k more) ∙ rounds_saved t s (part k more) all _ ∙ (held k d w).held in
+        let able : test s ≡ true = sym same ∙ h in
+        ap (has_served s false false) (part_append k log more) ∙ served_on s false false (part k log) (part k more)
+        ∙ rounds_served s t (part k more) false (has_stepped false (part k log)) (has_served s false false (part k log)) (λ wrong. absurd (cc)) (alternate k d w) ∙ (held k d w).unserved able
+
   held_left : (test : Shape → Bool) (log : List Sent) → AreHeld test log → AreLeft log
-  held_left test log held k d w = record { held = λ h. inr ((held k d w).unstepped (sym (held k d w).held ∙ h)); freed = (held k d w).freed }
+  held_left test log held k d w = record { held = λ h. ((held k d w).unserved (sym (held k d w).held ∙ h), inr ((held k d w).unstepped (sym (held k d w).held ∙ h))); freed = (held k d w).freed }
 
   -- the agreement stops before a size that a component doesn't take
   short_on : early_count ss ≢ 1 → (t step b : ℕ) (later : t < b) (test : Shape → Bool) (log more : List Sent) (i e : ℕ) → AreHeld test log → AgreeBy system t step b more (Unfit i e) → AreLeft (log ++ more)
@@ -457,9 +509,9 @@ module _ (system : System) where
     by (inl none) k d w = subst AreLeft (sym (ap (λ (l : List Sent). log ++ l) none ∙ append-nil log)) (held_left test log held) k d w
     by (inr (inr one)) k d w = absurd (several one)
     by (inr (inl are)) k d w = record {
-      held = λ h. inl (λ agree. apart_on t step b later log more so.0 are [] (λ j. All-nil IsNoStep) (subst AllAgree (sym (append-nil (log ++ more))) agree));
-      freed = subst (λ (l : List Sent). IsFreed (log ++ l) k) (append-nil more)
-          (no_free_last t step b later log more so.0 [] (λ j. All-nil (λ (x : Exchange). x.call ≡ C.Free → ⊥)) k (λ empty. stepped_there t step b later log more so.0 are k d w (sym (ap (part k) (append-nil more)) ∙ empty)));
+      held = λ h. (still_unserved t step b later test log more (Unfit i e) agrees held k d w h, inl (λ agree. apart_on t step b later log more so.0 are [] (λ j. All-nil IsNoStep) (subst AllAgree (sym (append-nil (log ++ more))) agree)));
+      freed = subst (λ (l : List Sent). IsFreed (log ++ l) k d) (append-nil more)
+          (no_free_last t step b later log more so.0 [] (λ j. All-nil (λ (x : Exchange). x.call ≡ C.Free → ⊥)) k d (λ empty. stepped_there t step b later log more so.0 are k d w (sym (ap (part k) (append-nil more)) ∙ empty)));
     }
 
   -- or it comes to a bad answer
@@ -508,10 +560,13 @@ module _ (system : System) where
           let good = subst (λ (o : Option Exchange). IfSome o (λ e. IsGood s e × EndsAt agree.0 e.result)) last_is (agree.1 i d w) in
           why_bad s bad.why f.last.exchange (f.first.why d) good.0
 
-    left_broken : AreLeft (log ++ more)
-    left_broken k d w = record {
-      held = λ h. inl (λ agree. never_agree (subst AllAgree (ap (λ (l : List Sent). log ++ l) broken.log_is ∙ sym (append_assoc log broken.front broken.more)) agree));
-      freed = subst (λ (l : List Sent). IsFreed (log ++ l) k) (sym broken.log_is) (no_free_last t step b later log broken.front broken.good broken.more no_free_more k (λ empty. begun (ap (part k) broken.log_is ∙ empty)));
+    left_broken : (test : Shape → Bool) → AreHeld test log → AreLeft (log ++ more)
+    left_broken test held k d w = record {
+      held = λ h. (
+        still_unserved t step b later test log more (Fails bad) agrees held k d w h,
+        inl (λ agree. never_agree (subst AllAgree (ap (λ (l : List Sent). log ++ l) broken.log_is ∙ sym (append_assoc log broken.front broken.more)) agree)),
+      );
+      freed = subst (λ (l : List Sent). IsFreed (log ++ l) k d) (sym broken.log_is) (no_free_last t step b later log broken.front broken.good broken.more no_free_more k d (λ empty. begun (ap (part k) broken.log_is ∙ empty)));
     } where
       begun : part k more ≡ [] → ⊥
       begun empty =
@@ -530,7 +585,7 @@ module _ (system : System) where
   none_past : ArePast []
   none_past k d w = record { unheld = refl; freed = λ front e is frees. absurd (never front e [] (sym is)) }
 
-  made_past : (link : ℕ) (made : List Sent) → askings made ≡ making link system → ArePast made
+  pub made_past : (link : ℕ) (made : List Sent) → askings made ≡ making link system → ArePast made
   made_past link made is = others_on [] made (λ k. mine k IsOther made (λ i. subst (λ (cs : List Asking). All IsOther (own i cs)) (sym is) (those system IsOther everyone (instantiate_of link) (λ s. tt) i))) none_past
 
   -- ---- whatever talks they end
@@ -571,20 +626,25 @@ module _ (system : System) where
           (subst (Agrees m (get_or ss k d)) (sym (ends.steps k t within)) (all k d within)),
     )
 
-    left_so : AreLeft log → (k : ℕ) (d : Shape) → k < n → ((front rest : List Exchange) (e : Exchange) → part k log ≡ front ++ e ∷ rest → IsGivenUp e → rest ≡ []) → LeavesState talks (get_or ss k d) (part k log)
+    pub left_so : AreLeft log → (k : ℕ) (d : Shape) → k < n → ((front rest : List Exchange) (e : Exchange) → part k log ≡ front ++ e ∷ rest → IsGivenUp e → rest ≡ []) → LeavesState talks (get_or ss k d) (part k log)
     left_so left k d w last = record {
-      held = λ held. held_by ((left k d w).held held);
-      freed = λ front e is frees. let f = (left k d w).freed front e is frees in (agree_back f.0, f.1);
+      held = λ held. let x = (left k d w).held held in (x.0, held_by x.1);
+      freed = λ front e is frees. freed_by front ((left k d w).freed front e is frees);
       last = last;
     } where
       held_by : (AllAgree log → ⊥) ⊎ (has_stepped false (part k log) ≡ false) → (AgreeAtLast talks → ⊥) ⊎ (has_stepped false (part k log) ≡ false)
       held_by (inl never) = inl (λ agree. never (agree_all agree))
       held_by (inr none) = inr none
 
+      freed_by : (front : List Exchange) → (has_served (get_or ss k d) false false front ≡ true) ⊎ (AllAgree log × (has_stepped false front ≡ true)) →
+          (has_served (get_or ss k d) false false front ≡ true) ⊎ (AgreeAtLast talks × (has_stepped false front ≡ true))
+      freed_by front (inl served) = inl served
+      freed_by front (inr met) = inr (agree_back met.0, met.1)
+
 -- ---- what the calls from a place are to saved states
 
 -- other calls; a Save or a Free to those whose shape passes a test, of whom a state is then held or was; an agreement while theirs are held; or nothing more
-data Task : Type 0 where
+pub data Task : Type 0 where
   Keeping : Task
   Saving : (Shape → Bool) → Task
   Meeting : (Shape → Bool) → (t step bound : ℕ) → Task
@@ -639,11 +699,11 @@ module _ (system : System) where
   abbrev Leaves : List Sent → Type 0
   Leaves log = (talks : List Talk) → EndAs system log talks → (k : ℕ) (d : Shape) → k < length system.components → LeavesState talks (get_or (shapes_of system) k d) (part k log)
 
-  good_keeps : (log : List Sent) → All (IsGoodOf (shapes_of system)) log → (k : ℕ) (d : Shape) → All IsKept (part k log)
+  pub good_keeps : (log : List Sent) → All (IsGoodOf (shapes_of system)) log → (k : ℕ) (d : Shape) → All IsKept (part k log)
   good_keeps log good k d = All-weaker (IsGood (get_or (shapes_of system) k d)) IsKept (good_kept (get_or (shapes_of system) k d)) (part k log) (good_part (shapes_of system) log good k d)
 
   -- after calls with good answers others, of which none is a Free
-  keeps_on : (front more : List Sent) → All (IsGoodOf (shapes_of system)) front → (k : ℕ) (d : Shape) → NoFree (part k more) → All IsKept (part k (front ++ more))
+  pub keeps_on : (front more : List Sent) → All (IsGoodOf (shapes_of system)) front → (k : ℕ) (d : Shape) → NoFree (part k more) → All IsKept (part k (front ++ more))
   keeps_on front more good k d none = subst (All IsKept) (sym (part_append k front more)) (All-append IsKept (part k front) (part k more) (good_keeps front good k d) (other_kept (part k more) none))
 
   fell : early_count (shapes_of system) ≢ 1 → (task : Task) (front more : List Sent) (bad : BadAnswer) → Before task front → All (IsGoodOf (shapes_of system)) front → AsksBadly task bad more → Leaves (front ++ more)
@@ -651,16 +711,25 @@ module _ (system : System) where
       left_so system (front ++ more) talks ends (past_left system (front ++ more) (others_on system front more others past)) k d w
       (λ f rest e is given. kept_last (part k (front ++ more)) f rest e (keeps_on front more good k d (no_free (part k more) (others k))) is given)
   fell several (Saving test) front more bad past good asks talks ends k d w =
-      let sends = λ (i : ℕ) (v : i < length system.components). sent_to system test C.Save more asks i d v in
-      let none = sends_other _ C.Save (part k more) (λ e. absurd (cc)) (sends k w) in
-      record {
-        held = λ held. inr (ap (has_stepped false) (part_append k front more)
-            ∙ unstepped (get_or (shapes_of system) k d) (part k front) _ (part k more) (sends k w) (past k d w).unheld (ap (saved_after (get_or (shapes_of system) k d) false) (sym (part_append k front more)) ∙ held));
-        freed = λ f e is frees. let x = freed_on system front more k none (λ i v. sends_no _ C.Save (part i more) tt (sends i v)) (past k d w).freed f e is frees in (agree_back system (front ++ more) talks ends x.0, x.1);
-        last = λ f rest e is given. kept_last (part k (front ++ more)) f rest e (keeps_on front more good k d none) is given;
-      }
+      left_so system (front ++ more) talks ends saves_left k d w (λ f rest e is given. kept_last (part k (front ++ more)) f rest e (keeps_on front more good k d none) is given) where
+        sends : (i : ℕ) (z : Shape) → i < length system.components → Sends (test (get_or (shapes_of system) i z)) C.Save (part i more)
+        sends i z v = sent_to system test C.Save more asks i z v
+
+        none : NoFree (part k more)
+        none = sends_other _ C.Save (part k more) (λ e. absurd (cc)) (sends k d w)
+
+        saves_left : AreLeft system (front ++ more)
+        saves_left i z v =
+            let s = get_or (shapes_of system) i z in record {
+              held = λ held.
+                  let here : saved_after s false (part i front ++ part i more) ≡ true = ap (saved_after s false) (sym (part_append i front more)) ∙ held in (
+                    ap (has_served s false false) (part_append i front more) ∙ unserved s (part i front) _ (part i more) (sends i z v) (past i z v).unheld here,
+                    inr (ap (has_stepped false) (part_append i front more) ∙ unstepped s (part i front) _ (part i more) (sends i z v) (past i z v).unheld here),
+                  );
+              freed = freed_on system front more i z (sends_other _ C.Save (part i more) (λ e. absurd (cc)) (sends i z v)) (λ j u. sends_no _ C.Save (part j more) tt (sends j z u)) (past i z v).freed;
+            }
   fell several (Meeting test t step b) front more bad (held, later) good agrees talks ends k d w =
-      left_so system (front ++ more) talks ends (left_broken system several t step b later front more bad agrees) k d w
+      left_so system (front ++ more) talks ends (left_broken system several t step b later front more bad agrees test held) k d w
       (λ f rest e is given. kept_last (part k (front ++ more)) f rest e (keeps_on front more good k d (no_free_whole system several t step b later front more bad agrees k)) is given)
   fell several Halting front more bad left good stops talks ends k d w = absurd (never_stops stops.front (stops.calls_are ∙ ap (λ (l : List Sent). askings l ++ stops.left) stops.log_is)) where
     never_stops : (f : List Sent) → [] ≡ askings (f ++ stops.last ∷ []) ++ stops.left → ⊥
@@ -710,23 +779,42 @@ module _ (system : System) (sound : IsSound system) (bound : Bound) (plan : Plan
   halted (Agreed w m asked) halts log at = absurd halts
   halted p halts log at = past_left system log at
 
-  module _ (made : List Sent) (answered : IsAnswered (shapes_of system) (making plan.link system) made) where
-    record IsAt (p : Place) (log : List Sent) : Type 0 where
-      later : IsLater p
-      before : Before system (task p) log
-      good : All (IsGoodOf (shapes_of system)) log
+  pub record IsAt (p : Place) (log : List Sent) : Type 0 where
+    pub later : IsLater p
+    pub before : Before system (task p) log
+    pub good : All (IsGoodOf (shapes_of system)) log
 
-    course_at : (p : Place) (log : List Sent) (is : List Instant) → Course system bound plan p log is → IsAt p (made ++ log)
-    course_at = along system bound plan (λ p log is. IsAt p (made ++ log))
-        (subst (IsAt Made) (sym (append-nil made)) (record { later = tt; before = made_past system plan.link made answered.calls_are; good = answered.good }))
-        (λ p q values front more is course at does leads.
+  pub made_at : (made : List Sent) → IsAnswered (shapes_of system) (making plan.link system) made → IsAt Made made
+  made_at made answered = record { later = tt; before = made_past system plan.link made answered.calls_are; good = answered.good }
+
+  -- from the first place of a course on, after this log
+  module _ (extent : Extent) (past : List Sent) (start : IsAt (first_of extent) past) where
+    pub course_at : (p : Place) (log : List Sent) (is : List Instant) → CourseIn system bound plan extent p log is → IsAt p (past ++ log)
+    course_at = along system bound plan extent (λ p log is. IsAt p (past ++ log))
+        (subst (IsAt (first_of extent)) (sym (append-nil past)) start)
+        (λ p q values front more is course at does leads within.
         let good = part_good system (part_at system bound plan p) values more does in
         let sorts = does_all system (IsOf (sort_at p)) (part_at system bound plan p) (sorts_are system sound bound plan binds p) values more does in
-        subst (IsAt q) (append_assoc made front more) (record {
+        subst (IsAt q) (append_assoc past front more) (record {
           later = later_on system plan p q values more leads at.later;
-          before = next (made ++ front) p q values more leads at.later (done system (task p) (made ++ front) more at.before (asks_at p values more sorts does) good);
-          good = All-append (IsGoodOf (shapes_of system)) (made ++ front) more at.good good;
+          before = next (past ++ front) p q values more leads at.later (done system (task p) (past ++ front) more at.before (asks_at p values more sorts does) good);
+          good = All-append (IsGoodOf (shapes_of system)) (past ++ front) more at.good good;
         }))
+
+    pub stands_left : (p : Place) (log : List Sent) (is : List Instant) → CourseIn system bound plan extent p log is → IsHalt p → (talks : List Talk) → EndAs system (past ++ log) talks → (k : ℕ) (d : Shape) → k < length system.components → LeavesState talks (get_or (shapes_of system) k d) (part k (past ++ log))
+    stands_left p log is course halts talks ends k d w =
+        let at = course_at p log is course in
+        left_so system (past ++ log) talks ends (halted p halts (past ++ log) at.before) k d w
+        (λ f rest e is given. kept_last (part k (past ++ log)) f rest e (good_keeps system (past ++ log) at.good k d) is given)
+
+    pub falls_left : (p : Place) (bad : BadAnswer) (front more : List Sent) (is : List Instant) → CourseIn system bound plan extent p front is → Falls system (part_at system bound plan p) bad more → (talks : List Talk) → EndAs system (past ++ (front ++ more)) talks → (k : ℕ) (d : Shape) → k < length system.components →
+        LeavesState talks (get_or (shapes_of system) k d) (part k (past ++ (front ++ more)))
+    falls_left p bad front more is course falls talks ends k d w =
+        let at = course_at p front is course in
+        let sorts = falls_all system (IsOf (sort_at p)) (part_at system bound plan p) (sorts_are system sound bound plan binds p) bad more falls in
+        subst (λ (l : List Sent). LeavesState talks (get_or (shapes_of system) k d) (part k l)) (append_assoc past front more)
+        (fell system several (task_at system plan p) (past ++ front) more bad at.before at.good (falls_at p bad more sorts falls) talks
+        (subst (λ (l : List Sent). EndAs system l talks) (sym (append_assoc past front more)) ends) k d w)
 
 -- ---- where one alone might return early
 
@@ -749,7 +837,7 @@ other_number : (x y : ℕ) → (x == y) ≡ false → x ≢ y
 other_number x y q = grind (arith, nat_tests)
 
 -- of how many might return early: one alone, or none or several
-one_or_not : {X : Type 0} (n : ℕ) → (n ≡ 1 → X) → (n ≢ 1 → X) → X
+pub one_or_not : {X : Type 0} (n : ℕ) → (n ≡ 1 → X) → (n ≢ 1 → X) → X
 one_or_not {X} n one other = by (n == 1) refl where
   by : (x : Bool) → (n == 1) ≡ x → X
   by true h = one (number n 1 h)
@@ -761,18 +849,12 @@ several_left system sound several _ _ (Unmade link bad log stops) talks ends k d
     fell system several Keeping [] log bad (none_past system) (All-nil (IsGoodOf (shapes_of system)))
     (λ i. mine system i IsOther log (falls_all system IsOther (Calls (making link system)) (those system IsOther everyone (instantiate_of link) (λ s. tt)) bad log stops)) talks ends k d w
 several_left system sound several _ _ (Stands bound plan p made log is binds counts answered course halts) talks ends k d w =
-    let at = course_at system sound bound plan binds several made answered p log is course in
-    left_so system (made ++ log) talks ends (halted system sound bound plan binds several p halts (made ++ log) at.before) k d w
-    (λ f rest e is given. kept_last (part k (made ++ log)) f rest e (good_keeps system (made ++ log) at.good k d) is given)
+    stands_left system sound bound plan binds several Whole made (made_at system sound bound plan binds several made answered) p log is course halts talks ends k d w
 several_left system sound several _ _ (Falling bound plan p bad made front more is binds counts answered course falls) talks ends k d w =
-    let at = course_at system sound bound plan binds several made answered p front is course in
-    let sorts = falls_all system (IsOf (sort_at p)) (part_at system bound plan p) (sorts_are system sound bound plan binds p) bad more falls in
-    subst (λ (l : List Sent). LeavesState talks (get_or (shapes_of system) k d) (part k l)) (append_assoc made front more)
-    (fell system several (task_at system plan p) (made ++ front) more bad at.before at.good (falls_at system sound bound plan binds several p bad more sorts falls) talks
-    (subst (λ (l : List Sent). EndAs system l talks) (sym (append_assoc made front more)) ends) k d w)
+    falls_left system sound bound plan binds several Whole made (made_at system sound bound plan binds several made answered) p bad front more is course falls talks ends k d w
 
-pub states_are_left : StatesAreLeft
-states_are_left system bad log talks sound comes ends k d w =
+pub whole_left : (system : System) → IsSound system → (bad : Option BadAnswer) (log : List Sent) → Comes system bad log → (talks : List Talk) → EndAs system log talks → (k : ℕ) (d : Shape) → k < length system.components → LeavesState talks (get_or (shapes_of system) k d) (part k log)
+whole_left system sound bad log comes talks ends k d w =
     one_or_not (early_count (shapes_of system))
     (λ one. leaves_none system log (comes_stateless system sound (omega (arith, one)) bad log comes) talks k d)
     (λ several. several_left system sound several bad log comes talks ends k d w)

@@ -29,7 +29,7 @@ use Rattle.step_agreement.specs.Saving.{is_saved}
 use Rattle.step_agreement.proofs.CallerLemmas.{IsOfRound}
 use Rattle.event_iteration.specs.WalkCalls.{own}
 use Rattle.calling_sequence.specs.Calls.{making}
-use Rattle.calling_sequence.specs.Course.{Agreed, Course, Departing, Place, Saved, part_at}
+use Rattle.calling_sequence.specs.Course.{Agreed, CourseIn, Departing, Extent, Place, Saved, Whole, first_of, part_at}
 use Rattle.calling_sequence.specs.Parts.{Agreement, AllAgree, Calls, Does, Falls, Part, Round, Walk}
 use Rattle.calling_sequence.proofs.Along.{along}
 use Rattle.course_laws.specs.Laws.{IsStateless, NothingSaved}
@@ -46,6 +46,7 @@ use Rattle.course_laws.proofs.UpdatesNeeded.{Throughout}
 unsaved_call : (shape : Shape) (c : Call) → IsStateless c → (r : Result Reply PeerFault) → saved_by shape c r false ≡ false
 unsaved_call shape C.Save is r = absurd is
 unsaved_call shape C.Free is r = absurd is
+unsaved_call shape (C.Deserialize size point stop) is r = absurd is
 unsaved_call shape c is r = refl
 
 pub never_held : (shape : Shape) (es : List Exchange) → All IsStateless (calls_in es) → saved_after shape false es ≡ false
@@ -59,6 +60,8 @@ abbrev is_stateless : Sort → Bool
 is_stateless (Only K.Save) = false
 is_stateless (Only K.Restore) = false
 is_stateless (Only K.Free) = false
+is_stateless (Only K.Serialize) = false
+is_stateless (Only K.Deserialize) = false
 is_stateless Rounds = false
 is_stateless sort = true
 
@@ -66,9 +69,13 @@ stateless_of : (sort : Sort) → is_stateless sort ≡ true → (c : Call) → I
 stateless_of Uses plain C.Save is = absurd (omega (arith, is))
 stateless_of Uses plain C.Restore is = absurd (omega (arith, is))
 stateless_of Uses plain C.Free is = absurd (omega (arith, is))
+stateless_of Uses plain C.Serialize is = absurd (omega (arith, is))
+stateless_of Uses plain (C.Deserialize size point stop) is = absurd (omega (arith, is))
 stateless_of (Only kind) plain C.Save is = absurd (let wrong : false ≡ true = ap (λ (k : Kind). is_stateless (Only k)) is ∙ plain in cc)
 stateless_of (Only kind) plain C.Restore is = absurd (let wrong : false ≡ true = ap (λ (k : Kind). is_stateless (Only k)) is ∙ plain in cc)
 stateless_of (Only kind) plain C.Free is = absurd (let wrong : false ≡ true = ap (λ (k : Kind). is_stateless (Only k)) is ∙ plain in cc)
+stateless_of (Only kind) plain C.Serialize is = absurd (let wrong : false ≡ true = ap (λ (k : Kind). is_stateless (Only k)) is ∙ plain in cc)
+stateless_of (Only kind) plain (C.Deserialize size point stop) is = absurd (let wrong : false ≡ true = ap (λ (k : Kind). is_stateless (Only k)) is ∙ plain in cc)
 stateless_of Rounds plain c is = absurd (cc)
 stateless_of sort plain c is = tt
 
@@ -134,19 +141,26 @@ module _ (system : System) where
       falls_stateless (Saved w) later bad more agrees = agreement_stateless w.s.t plan.step w.to later more (Fails bad) agrees
       falls_stateless p later bad more falls = falls_all system IsStateless (part_at system bound plan p) (at_part p) bad more falls
 
-      course_stateless : (p : Place) (log : List Sent) (is : List Instant) → Course system bound plan p log is → IsLater p × Throughout system IsStateless log
-      course_stateless = along system bound plan (λ p log is. IsLater p × Throughout system IsStateless log) (tt, λ i. All-nil IsStateless)
-          (λ p q values front more is course at does leads. (
+      pub course_stateless : (extent : Extent) (p : Place) (log : List Sent) (is : List Instant) → IsLater (first_of extent) → CourseIn system bound plan extent p log is → IsLater p × Throughout system IsStateless log
+      course_stateless extent p log is later course = along system bound plan extent (λ p log is. IsLater p × Throughout system IsStateless log) (later, λ i. All-nil IsStateless)
+          (λ p q values front more is course at does leads within. (
             later_on system plan p q values more leads at.0,
             stateless_on front more at.1 (does_stateless p at.0 values more does),
-          ))
+          )) p log is course
+
+      pub fallen_stateless : (extent : Extent) (p : Place) (bad : BadAnswer) (front more : List Sent) (is : List Instant) → IsLater (first_of extent) → CourseIn system bound plan extent p front is → Falls system (part_at system bound plan p) bad more → Throughout system IsStateless (front ++ more)
+      fallen_stateless extent p bad front more is later course falls =
+          let at = course_stateless extent p front is later course in
+          stateless_on front more at.1 (falls_stateless p at.0 bad more falls)
+
+      pub made_stateless_on : (p : Place) (made log : List Sent) (is : List Instant) → IsAnswered (shapes_of system) (making plan.link system) made → CourseIn system bound plan Whole p log is → Throughout system IsStateless (made ++ log)
+      made_stateless_on p made log is answered course = stateless_on made log (made_all plan.link made answered) (course_stateless Whole p log is tt course).1
 
     pub comes_stateless : (bad : Option BadAnswer) (log : List Sent) → Comes system bad log → Throughout system IsStateless log
     comes_stateless _ _ (Unmade link bad log stops) = falls_all system IsStateless (Calls (making link system)) (made_stateless link) bad log stops
-    comes_stateless _ _ (Stands bound plan p made log is binds counts answered course halts) = stateless_on made log (made_all plan.link made answered) (course_stateless bound plan binds p log is course).1
+    comes_stateless _ _ (Stands bound plan p made log is binds counts answered course halts) = made_stateless_on bound plan binds p made log is answered course
     comes_stateless _ _ (Falling bound plan p bad made front more is binds counts answered course falls) =
-        let at = course_stateless bound plan binds p front is course in
-        stateless_on made (front ++ more) (made_all plan.link made answered) (stateless_on front more at.1 (falls_stateless bound plan binds p at.0 bad more falls))
+        stateless_on made (front ++ more) (made_all plan.link made answered) (fallen_stateless bound plan binds Whole p bad front more is tt course falls)
 
 pub nothing_saved : NothingSaved
 nothing_saved system bad log sound comes few k = subst (All IsStateless) (sym (own_calls k log)) (comes_stateless system sound few bad log comes k)

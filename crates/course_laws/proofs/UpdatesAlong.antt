@@ -19,19 +19,20 @@ use Rattle.system_model.specs.Text.{Instant}
 use Rattle.system_model.proofs.CallerLemmas.{all_at}
 use Rattle.slot_calls.specs.declared.bad_answer.BadAnswer.{BadAnswer}
 use Rattle.slot_calls.specs.Log.{Asking, Sent, askings}
-use Rattle.slot_calls.specs.Stage.{everyone}
+use Rattle.slot_calls.specs.Stage.{IsAnswered, everyone, shapes_of}
 use Rattle.event_iteration.specs.Clocks.{AreTicks}
 use Rattle.event_iteration.specs.Intervals.{is_some_armed}
 use Rattle.event_iteration.specs.WalkCalls.{own, use_in}
-use Rattle.calling_sequence.specs.Calls.{making}
-use Rattle.calling_sequence.specs.Course.{Again, Agreed, Agreeing, Arrives, Before, Binds, Configured, Course, Departing, Entered, Enters, Exits, Finds, Found, Frees, GoesOn, LeadsTo, Leaves, Leaving, Left, Made, Place, Read, Reads, Rearmed, Rearming, Saved, Saves, Seen, Sets, Short, Spot, Stepped, Stopping, Timed, Times, Updates, part_at}
+use Rattle.calling_sequence.specs.Calls.{making, restoring}
+use Rattle.calling_sequence.specs.Course.{Again, Agreed, Agreeing, Arrives, Before, Binds, Configured, Course, CourseIn, Departing, Entered, Enters, Exits, Extent, Finds, Found, FromHeld, Frees, GoesOn, LeadsTo, Leaves, Leaving, Left, Made, Place, Read, Reads, Rearmed, Rearming, Restored, Resumes, Saved, Saves, Seen, Sets, Short, Spot, Stepped, Stopping, Timed, Times, Updates, Whole, first_of, part_at}
+use Rattle.calling_sequence.specs.Holding.{holding}
 use Rattle.calling_sequence.specs.Parts.{Calls, Does, Falls}
 use Rattle.calling_sequence.specs.Plans.{CountsBy}
 use Rattle.calling_sequence.proofs.Along.{along}
 use Rattle.course_laws.specs.Laws.{UpdatesAskedFor}
-use Rattle.course_laws.specs.Runs.{Comes, Falling, Stands, Unmade}
-use Rattle.course_laws.proofs.ArmedClocks.{AreArmable, AreTaken, first_armable, instant_takes, rearmed_armable, rearmed_armed}
-use Rattle.course_laws.proofs.Sorts.{IsOf, does_all, falls_all, is_of_rounds, sort_at, sorts_are, those}
+use Rattle.course_laws.specs.Runs.{AreArmable, BackBadly, BackFalling, BackStands, Comes, ComesAnyhow, Falling, Holding, HoldingBadly, Stands, Unmade, Wholly}
+use Rattle.course_laws.proofs.ArmedClocks.{AreTaken, first_armable, instant_takes, rearmed_armable, rearmed_armed}
+use Rattle.course_laws.proofs.Sorts.{IsOf, back_all, does_all, falls_all, holding_all, is_of_rounds, sort_at, sorts_are, those}
 use Rattle.course_laws.proofs.UpdateMarks.{IsNoUpdate, IsQuiet, quiet_no}
 use Rattle.course_laws.proofs.UpdateTables.{AreAskedFor, marks_in, talks_needed}
 use Rattle.course_laws.proofs.UpdatesNeeded.{Asked, SomeArmed, Talks, Throughout, arm, asks, calm, leave, nothing_yet, quiet, still, still_asked, stopped, updated}
@@ -109,6 +110,7 @@ module _ (system : System) (sound : IsSound system) (bound : Bound) (plan : Plan
   TimersAt (Short w i e) = AreArmable system w.s.timers
   TimersAt (Agreed w m asked) = AreArmable system w.s.timers
   TimersAt (Stepped s asked) = AreArmable system s.timers
+  TimersAt (Restored s) = AreArmable system s.timers
   TimersAt p = Unit {0}
 
   -- a second has a count, where there is a component
@@ -186,6 +188,7 @@ module _ (system : System) (sound : IsSound system) (bound : Bound) (plan : Plan
     on _ _ _ _ timers a does all (Agreeing w values log m asked agrees is) = onward (Saved w) (Agreed w m asked) log all a a.besides
     on _ _ _ _ timers a does all (Stopping w values log i e agrees) = onward (Saved w) (Short w i e) log all a a.besides
     on _ _ _ _ timers a does all (Frees w m asked values log) = onward (Agreed w m asked) (Stepped (record w.s { t = m; n = 0 }) asked) log all a a.besides
+    on _ _ _ _ timers a does all (Resumes w values log step) = onward (Restored w.s) (Left w) log all a a.besides
     on _ _ _ _ timers a does all (Arrives s values log ticks begins) =
         onward (Stepped s false) (Before (record s { n = 0 }) ticks) log all a (λ is. absurd (let wrong : true ≡ false = sym is ∙ a.besides in cc))
 
@@ -208,23 +211,66 @@ module _ (system : System) (sound : IsSound system) (bound : Bound) (plan : Plan
       besides = refl;
     }
 
-    course_at : (p : Place) (log : List Sent) (is : List Instant) → Course system bound plan p log is → TimersAt p × IsAt p (made ++ log)
-    course_at = along system bound plan (λ p log is. TimersAt p × IsAt p (made ++ log)) (tt, subst (IsAt Made) (sym (append-nil made)) made_at)
-        (λ p q values front more is course at does leads. (
+  -- from the first place of a course on, after this log
+  module _ (extent : Extent) (before : List Sent) (timers : TimersAt (first_of extent)) (start : IsAt (first_of extent) before) where
+    course_at : (p : Place) (log : List Sent) (is : List Instant) → CourseIn system bound plan extent p log is → TimersAt p × IsAt p (before ++ log)
+    course_at = along system bound plan extent (λ p log is. TimersAt p × IsAt p (before ++ log)) (timers, subst (IsAt (first_of extent)) (sym (append-nil before)) start)
+        (λ p q values front more is course at does leads within. (
           timers_on p q values more does leads at.0,
-          subst (IsAt q) (append_assoc made front more) (on (made ++ front) p q values more at.0 at.1 does (λ i. All-weaker (IsOf (sort_at p)) (calls_from p) (calls_are p) (own i (askings more)) (does_all system (IsOf (sort_at p)) (part_at system bound plan p) (sorts_are system sound bound plan binds p) values more does i)) leads),
+          subst (IsAt q) (append_assoc before front more) (on (before ++ front) p q values more at.0 at.1 does (λ i. All-weaker (IsOf (sort_at p)) (calls_from p) (calls_are p) (own i (askings more)) (does_all system (IsOf (sort_at p)) (part_at system bound plan p) (sorts_are system sound bound plan binds p) values more does i)) leads),
         ))
 
-    falls_asked : (p : Place) (bad : BadAnswer) (front more : List Sent) (is : List Instant) → Course system bound plan p front is → Falls system (part_at system bound plan p) bad more → AreAskedFor (length system.components) (marks_in (made ++ (front ++ more)))
-    falls_asked p bad front more is course falls = subst (λ (l : List Sent). AreAskedFor (length system.components) (marks_in l)) (append_assoc made front more)
-        (fallen (made ++ front) p bad more (course_at p front is course).1 falls (λ i. All-weaker (IsOf (sort_at p)) (calls_from p) (calls_are p) (own i (askings more)) (falls_all system (IsOf (sort_at p)) (part_at system bound plan p) (sorts_are system sound bound plan binds p) bad more falls i)))
+    falls_asked : (p : Place) (bad : BadAnswer) (front more : List Sent) (is : List Instant) → CourseIn system bound plan extent p front is → Falls system (part_at system bound plan p) bad more → AreAskedFor (length system.components) (marks_in (before ++ (front ++ more)))
+    falls_asked p bad front more is course falls = subst (λ (l : List Sent). AreAskedFor (length system.components) (marks_in l)) (append_assoc before front more)
+        (fallen (before ++ front) p bad more (course_at p front is course).1 falls (λ i. All-weaker (IsOf (sort_at p)) (calls_from p) (calls_are p) (own i (askings more)) (falls_all system (IsOf (sort_at p)) (part_at system bound plan p) (sorts_are system sound bound plan binds p) bad more falls i)))
 
-comes_asked : (system : System) (bad : Option BadAnswer) (log : List Sent) → IsSound system → Comes system bad log → AreAskedFor (length system.components) (marks_in log)
-comes_asked system _ _ sound (Unmade link bad log stops) =
+  -- where states were gone back to no Update stands yet
+  back_at : (s : Spot) (sizes : List ℕ) (made back : List Sent) → askings made ≡ making plan.link system → IsAnswered (shapes_of system) (restoring s.t plan.stop sizes) back → IsAt (Restored s) (made ++ back)
+  unfolding made_at
+  back_at s sizes made back answered went =
+      let start = made_at made answered in
+      record {
+        m = 0;
+        flag = false;
+        talks = quiet system made back 0 false start.talks (does_all system IsQuiet (Calls (restoring s.t plan.stop sizes)) (back_all IsQuiet s.t plan.stop sizes (λ size. tt) tt tt) [] back went);
+        besides = refl;
+      }
+
+  -- and none is sent where the state of each is kept
+  keeps_asked : (s : Spot) (made front kept : List Sent) (is : List Instant) → askings made ≡ making plan.link system → Course system bound plan (Seen s false false) front is → Throughout system IsNoUpdate kept → AreAskedFor (length system.components) (marks_in (made ++ (front ++ kept)))
+  keeps_asked s made front kept is answered course none =
+      let a = (course_at Whole made tt (made_at made answered) (Seen s false false) front is course).1 in
+      subst (λ (l : List Sent). AreAskedFor (length system.components) (marks_in l)) (append_assoc made front kept) (still system (made ++ front) kept a.m a.flag a.talks.table none).needed
+
+-- calls that make no Updates
+holds_none : (system : System) (i : ℕ) → All IsNoUpdate (own i (holding system))
+holds_none system = holding_all system IsNoUpdate tt tt tt tt
+
+whole_asked : (system : System) (bad : Option BadAnswer) (log : List Sent) → IsSound system → Comes system bad log → AreAskedFor (length system.components) (marks_in log)
+whole_asked system _ _ sound (Unmade link bad log stops) =
     let q = falls_all system IsQuiet (Calls (making link system)) (those system IsQuiet everyone (instantiate_of link) (λ s. tt)) bad log stops in
     (quiet system [] log 0 false (nothing_yet system) q).table.needed
-comes_asked system _ _ sound (Stands bound plan p made log is binds counts answered course halts) = (course_at system sound bound plan binds counts made answered.calls_are p log is course).1.talks.table.needed
-comes_asked system _ _ sound (Falling bound plan p bad made front more is binds counts answered course falls) = falls_asked system sound bound plan binds counts made answered.calls_are p bad front more is course falls
+whole_asked system _ _ sound (Stands bound plan p made log is binds counts answered course halts) =
+    (course_at system sound bound plan binds counts Whole made tt (made_at system sound bound plan binds counts made answered.calls_are) p log is course).1.talks.table.needed
+whole_asked system _ _ sound (Falling bound plan p bad made front more is binds counts answered course falls) =
+    falls_asked system sound bound plan binds counts Whole made tt (made_at system sound bound plan binds counts made answered.calls_are) p bad front more is course falls
+
+comes_asked : (system : System) (bad : Option BadAnswer) (log : List Sent) → IsSound system → ComesAnyhow system bad log → AreAskedFor (length system.components) (marks_in log)
+unfolding made_at
+comes_asked system _ _ sound (Wholly bad log comes) = whole_asked system bad log sound comes
+comes_asked system _ _ sound (Holding bound plan s made front kept is binds counts answered course keeps) =
+    keeps_asked system sound bound plan binds counts s made front kept is answered.calls_are course (does_all system IsNoUpdate (Calls (holding system)) (holds_none system) [] kept keeps)
+comes_asked system _ _ sound (HoldingBadly bound plan s bad made front kept is binds counts answered course stops) =
+    keeps_asked system sound bound plan binds counts s made front kept is answered.calls_are course (falls_all system IsNoUpdate (Calls (holding system)) (holds_none system) bad kept stops)
+comes_asked system _ _ sound (BackBadly bound plan s sizes bad made back binds counts may answered stops) =
+    let a = made_at system sound bound plan binds counts made answered.calls_are in
+    (quiet system made back 0 false a.talks (falls_all system IsQuiet (Calls (restoring s.t plan.stop sizes)) (back_all IsQuiet s.t plan.stop sizes (λ size. tt) tt tt) bad back stops)).table.needed
+comes_asked system _ _ sound (BackStands bound plan s sizes p made back log is binds counts may answered went course halts) =
+    subst (λ (l : List Sent). AreAskedFor (length system.components) (marks_in l)) (append_assoc made back log)
+    (course_at system sound bound plan binds counts (FromHeld s) (made ++ back) may.armable (back_at system sound bound plan binds counts s sizes made back answered.calls_are went) p log is course).1.talks.table.needed
+comes_asked system _ _ sound (BackFalling bound plan s sizes p bad made back front more is binds counts may answered went course falls) =
+    subst (λ (l : List Sent). AreAskedFor (length system.components) (marks_in l)) (append_assoc made back (front ++ more))
+    (falls_asked system sound bound plan binds counts (FromHeld s) (made ++ back) may.armable (back_at system sound bound plan binds counts s sizes made back answered.calls_are went) p bad front more is course falls)
 
 pub updates_asked_for : UpdatesAskedFor
 updates_asked_for system bad log talks sound comes are = talks_needed (length system.components) log talks are (comes_asked system bad log sound comes)

@@ -1,5 +1,5 @@
 -- What holds of each run's log, for any replies: how it ends at the first bad answer, and which calls it needs.
-use Rattle.std.specs.Prelude.{◌≡◌, ℕ, ◌<◌, ◌≤◌, List, All, Option, Some, None, length, map, slice_index_or}
+use Rattle.std.specs.Prelude.{◌≡◌, ℕ, ◌<◌, ◌≤◌, Bool, true, false, List, All, Option, Some, None, length, map, slice_index_or}
 use Rattle.value_types.specs.declared.shape.Shape.{Shape}
 use Rattle.fmi_calls.specs.declared.call.Call.{Call}
 use Rattle.fmi_calls.specs.declared.call.Call.TheVariants as C
@@ -16,7 +16,7 @@ use Rattle.slot_calls.specs.declared.bad_answer.BadAnswer.{BadAnswer}
 use Rattle.slot_calls.specs.Log.{Sent, part}
 use Rattle.slot_calls.specs.SavedStates.{LeavesState, Talk, last_step}
 use Rattle.slot_calls.specs.Stage.{shapes_of}
-use Rattle.course_laws.specs.Runs.{Comes}
+use Rattle.course_laws.specs.Runs.{Comes, ComesAnyhow}
 use Rattle.fmu_peer.specs.Talk.{calls_in}
 
 -- ---- the first bad answer
@@ -38,7 +38,7 @@ AnswersAre shapes (Some bad) log = IsFirstBadOf shapes bad log
 abbrev pub FirstBadAnswer : Type 0
 FirstBadAnswer =
     (system : System) (bad : Option BadAnswer) (log : List Sent) → IsSound system →
-    Comes system bad log →
+    ComesAnyhow system bad log →
     AnswersAre (shapes_of system) bad log
 
 -- ---- no call twice
@@ -51,7 +51,7 @@ pub record AreNeeded (calls : List Call) : Type 0 where
 abbrev pub NoCallTwice : Type 0
 NoCallTwice =
     (system : System) (bad : Option BadAnswer) (log : List Sent) → IsSound system →
-    Comes system bad log →
+    ComesAnyhow system bad log →
     (k : ℕ) → k < length system.components → AreNeeded (calls_in (part k log))
 
 -- ---- saved states
@@ -66,25 +66,41 @@ pub record EndAs (system : System) (log : List Sent) (talks : List Talk) : Type 
 abbrev pub StatesAreLeft : Type 0
 StatesAreLeft =
     (system : System) (bad : Option BadAnswer) (log : List Sent) (talks : List Talk) →
-    IsSound system → Comes system bad log → EndAs system log talks →
+    IsSound system → ComesAnyhow system bad log → EndAs system log talks →
     (k : ℕ) (d : Shape) → k < length system.components →
     LeavesState talks (slice_index_or (shapes_of system) k d) (part k log)
 
 -- ---- no saved states
 
--- it neither saves a state, nor goes back to one, nor frees one
+-- it neither saves a state, nor goes back to one, nor frees one, nor puts one as bytes or takes one in
 abbrev pub IsStateless : Call → Type 0
 IsStateless C.Save = ⊥
 IsStateless C.Restore = ⊥
 IsStateless C.Free = ⊥
+IsStateless C.Serialize = ⊥
+IsStateless (C.Deserialize size point stop) = ⊥
 IsStateless call = Unit {0}
 
--- where at most one FMU might return early, each call of each component is so
+-- in a whole run where at most one FMU might return early, each call of each component is so
 abbrev pub NothingSaved : Type 0
 NothingSaved =
     (system : System) (bad : Option BadAnswer) (log : List Sent) → IsSound system →
     Comes system bad log → early_count (shapes_of system) ≤ 1 →
     (k : ℕ) → All IsStateless (calls_in (part k log))
+
+-- ---- Initialization Mode
+
+-- in a run that is resumed no instance goes through Initialization Mode, and in each other none takes a state in
+abbrev pub GoesWith : (resumed : Bool) → Call → Type 0
+GoesWith resumed (C.EnterInitialization start stop) = resumed ≡ false
+GoesWith resumed (C.Deserialize size point stop) = resumed ≡ true
+GoesWith resumed call = Unit {0}
+
+abbrev pub GoesOneWay : Type 0
+GoesOneWay =
+    (system : System) (bad : Option BadAnswer) (log : List Sent) → IsSound system →
+    ComesAnyhow system bad log →
+    (resumed : Bool) × ((k : ℕ) → All (GoesWith resumed) (calls_in (part k log)))
 
 -- ---- Updates
 
@@ -96,6 +112,6 @@ pub record AreTalks (n : ℕ) (log : List Sent) (talks : List (List Exchange)) :
 abbrev pub UpdatesAskedFor : Type 0
 UpdatesAskedFor =
     (system : System) (bad : Option BadAnswer) (log : List Sent)
-    (talks : List (List Exchange)) → IsSound system → Comes system bad log →
+    (talks : List (List Exchange)) → IsSound system → ComesAnyhow system bad log →
     AreTalks (length system.components) log talks →
     AreUpdatesNeeded talks

@@ -3,7 +3,7 @@ use Rattle.std.specs.Prelude.{ℕ}
 use Rattle.doc_grammar.specs.declared.reasons.Rule as grammar
 use Rattle.doc_grammar.specs.declared.reasons.Rule.TheVariants.{NotUtf8, Malformed, Doctype, TooDeep, AttributeTwice}
 use Rattle.doc_tree.specs.declared.rule.Rule.{Rule}
-use Rattle.doc_tree.specs.declared.rule.Rule.TheVariants.{Document, Description, System, Nesting, Flattening, Loop, SavesNoState, TooManyPorts, Parameters}
+use Rattle.doc_tree.specs.declared.rule.Rule.TheVariants.{Document, Description, System, Nesting, Flattening, Loop, SavesNoState, TooManyPorts, Parameters, CannotBeHeld}
 use Rattle.doc_tree.specs.declared.rule.DescriptionRule.{DescriptionRule}
 use Rattle.doc_tree.specs.declared.rule.DescriptionRule.TheVariants as d
 use Rattle.doc_tree.specs.declared.rule.SystemRule.{SystemRule}
@@ -90,3 +90,4 @@ number Loop = 46
 number SavesNoState = 47
 number TooManyPorts = 49
 number (Parameters rule) = parameter_number rule
+number CannotBeHeld = 57

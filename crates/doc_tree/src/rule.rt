@@ -24,6 +24,9 @@ pub enum Rule {
     TooManyPorts,
     /// 50 to 56: a rule of sets of parameter values and of their mappings, at an element
     Parameters(ParameterRule),
+    /// 57: where a run is to be held, or goes on from where it was: a component's state can't be serialized, or with its
+    /// ports the header of the trace has more than 2^27 bytes
+    CannotBeHeld,
 }
 
 /// The rules of a model description, in the order of their numbers.
@@ -193,6 +196,7 @@ impl Rule {
             Rule::SavesNoState => 47,
             Rule::TooManyPorts => 49,
             Rule::Parameters(rule) => rule.number(),
+            Rule::CannotBeHeld => 57,
         }
     }
 }

@@ -36,3 +36,4 @@ pub mod Runs
 pub mod WalkNeeds
 pub mod ByWalk
 pub mod Losing
+pub mod SoundClocks

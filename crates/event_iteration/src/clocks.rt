@@ -63,7 +63,8 @@ fn clocks_of(alloc: Global, ports: &[Port]) -> Result<Vec<TimeClock>, AllocError
     Ok(clocks)
 }
 
-fn clock_of(role: &Role) -> TimeClock
+/// What a port is to the schedule before a run.
+pub fn clock_of(role: &Role) -> TimeClock
     ensures { result ≡ first_clock role.now }
 {
     match role {

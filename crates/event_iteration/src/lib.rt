@@ -15,7 +15,7 @@ mod updates;
 mod walk;
 mod walk_laws;
 
-pub use clocks::{fix_clocks, schedule_of};
+pub use clocks::{clock_of, fix_clocks, schedule_of};
 pub use initialization::initialize;
 pub use inputs::set_inputs;
 pub use instants::instant;

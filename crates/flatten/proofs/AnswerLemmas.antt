@@ -7,7 +7,7 @@ use Rattle.doc_tree.specs.Rules.{number}
 use Rattle.doc_tree.specs.declared.refusal.Refusal.{Refusal}
 use Rattle.doc_tree.specs.declared.refusal.Refusal.TheVariants.{At, Memory}
 use Rattle.doc_tree.specs.declared.rule.Rule.{Rule}
-use Rattle.doc_tree.specs.declared.rule.Rule.TheVariants.{Document, Description, System as OfSystem, Nesting, Flattening, Loop, SavesNoState, TooManyPorts, Parameters}
+use Rattle.doc_tree.specs.declared.rule.Rule.TheVariants.{Document, Description, System as OfSystem, Nesting, Flattening, Loop, SavesNoState, TooManyPorts, Parameters, CannotBeHeld}
 use Rattle.doc_tree.specs.declared.rule.FlatteningRule.TheVariants as f
 use Rattle.doc_tables.specs.Answers.{IsRefusal, Refuses}
 use Rattle.doc_tables.proofs.CallerLemmas.{refuses, none_sound}
@@ -55,6 +55,7 @@ told t shapes Loop node h = absurd h
 told t shapes SavesNoState node h = refl
 told t shapes TooManyPorts node h = refl
 told t shapes (Parameters rule) node h = absurd h
+told t shapes CannotBeHeld node h = absurd h
 
 same_node : (t : SystemTree) (shapes : List Shape) (j k : ℕ) (a b : Rule) → IsFirstFlatteningViolation t shapes j a → IsFirstFlatteningViolation t shapes k b → j ≡ k
 same_node t shapes j k a b x y = elim (cases_order j k) [

@@ -5,7 +5,7 @@ use Rattle.std.proofs.lemmas.Bool.{cases_lt, lt-ltb, le-ltb}
 use Rattle.value_types.specs.declared.shape.Shape.{Shape}
 use Rattle.value_types.specs.declared.shape.Variable.{Variable}
 use Rattle.doc_tree.specs.declared.rule.Rule.{Rule}
-use Rattle.doc_tree.specs.declared.rule.Rule.TheVariants.{Document, Description, System, Nesting, Flattening, Loop, SavesNoState, TooManyPorts, Parameters}
+use Rattle.doc_tree.specs.declared.rule.Rule.TheVariants.{Document, Description, System, Nesting, Flattening, Loop, SavesNoState, TooManyPorts, Parameters, CannotBeHeld}
 use Rattle.doc_tree.specs.declared.rule.FlatteningRule.{FlatteningRule}
 use Rattle.doc_tree.specs.declared.rule.FlatteningRule.TheVariants.{NoSuchVariable, OtherCausality, OtherClass, EndTwice, TooWide, FedClock, OtherChange}
 use Rattle.doc_tree.specs.Rules.{number}
@@ -157,6 +157,7 @@ rule_listed t shapes (System rule) node h = absurd h
 rule_listed t shapes (Nesting rule) node h = absurd h
 rule_listed t shapes Loop node h = absurd h
 rule_listed t shapes (Parameters rule) node h = absurd h
+rule_listed t shapes CannotBeHeld node h = absurd h
 
 -- their numbers rise
 next_above : (k : ℕ) → k < 8 → number (rule_at k) < number (rule_at (suc k))

@@ -15,7 +15,7 @@ use Rattle.value_types.specs.Joint as types
 use Rattle.value_types.specs.Joint.{class_of}
 use Rattle.value_types.specs.Shape.{is_port, timing_at}
 use Rattle.doc_tree.specs.declared.rule.Rule.{Rule}
-use Rattle.doc_tree.specs.declared.rule.Rule.TheVariants.{Document, Description, System, Nesting, Flattening, Loop, SavesNoState, TooManyPorts, Parameters}
+use Rattle.doc_tree.specs.declared.rule.Rule.TheVariants.{Document, Description, System, Nesting, Flattening, Loop, SavesNoState, TooManyPorts, Parameters, CannotBeHeld}
 use Rattle.doc_tree.specs.declared.rule.FlatteningRule.{FlatteningRule}
 use Rattle.doc_tree.specs.declared.rule.FlatteningRule.TheVariants as f
 use Rattle.doc_tree.specs.Rules.{number}
@@ -206,6 +206,7 @@ ViolatesFlattening t shapes SavesNoState node = HasNoSavedState t shapes node
 -- 49: a component with which the ports are more than a system may have
 ViolatesFlattening t shapes TooManyPorts node = HasTooManyPorts t shapes node
 ViolatesFlattening t shapes (Parameters rule) node = ⊥
+ViolatesFlattening t shapes CannotBeHeld node = ⊥
 
 -- the first violation: at the first element in document order that breaks a rule, the one of the least number
 abbrev pub IsFirstFlatteningViolation : SystemTree → List Shape → ℕ → Rule → Type 0

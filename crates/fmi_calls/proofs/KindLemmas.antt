@@ -2,11 +2,11 @@
 use Rattle.std.proofs.Common.{◌≡◌, ℕ, ◌-◌, true, List, [], ◌∷◌, get_or, refl, sym, ap, ◌∙◌}
 use Rattle.std.proofs.lemmas.Bool.{eqb-true}
 use Rattle.fmi_calls.specs.declared.call.Kind.{Kind}
-use Rattle.fmi_calls.specs.declared.call.Kind.TheVariants.{Instantiate, EnterInitialization, ExitInitialization, EnterEvent, EnterStep, DoStep, Update, Get, Set, GetClock, SetClock, GetInterval, GetShift, Save, Restore, Free, Terminate, FreeInstance}
+use Rattle.fmi_calls.specs.declared.call.Kind.TheVariants.{Instantiate, EnterInitialization, ExitInitialization, EnterEvent, EnterStep, DoStep, Update, Get, Set, GetClock, SetClock, GetInterval, GetShift, Save, Restore, Free, Serialize, Deserialize, Terminate, FreeInstance}
 use Rattle.fmi_calls.specs.KindFacts.{facts_of, same_kind}
 
 abbrev kinds : List Kind
-kinds = Instantiate ∷ EnterInitialization ∷ ExitInitialization ∷ EnterEvent ∷ EnterStep ∷ DoStep ∷ Update ∷ Get ∷ Set ∷ GetClock ∷ SetClock ∷ GetInterval ∷ GetShift ∷ Save ∷ Restore ∷ Free ∷ Terminate ∷ FreeInstance ∷ []
+kinds = Instantiate ∷ EnterInitialization ∷ ExitInitialization ∷ EnterEvent ∷ EnterStep ∷ DoStep ∷ Update ∷ Get ∷ Set ∷ GetClock ∷ SetClock ∷ GetInterval ∷ GetShift ∷ Save ∷ Restore ∷ Free ∷ Terminate ∷ FreeInstance ∷ Instantiate ∷ Serialize ∷ Deserialize ∷ []
 
 abbrev kind_at : ℕ → Kind
 kind_at n = get_or kinds (n - 1) Instantiate
@@ -28,6 +28,8 @@ kind_at-number GetShift = refl
 kind_at-number Save = refl
 kind_at-number Restore = refl
 kind_at-number Free = refl
+kind_at-number Serialize = refl
+kind_at-number Deserialize = refl
 kind_at-number Terminate = refl
 kind_at-number FreeInstance = refl
 

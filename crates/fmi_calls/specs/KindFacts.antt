@@ -42,6 +42,8 @@ facts_of K.GetShift = facts 13 (codes "GetShift") Reading false false
 facts_of K.Save = facts 14 (codes "Save") SavedStates false false
 facts_of K.Restore = facts 15 (codes "Restore") SavedStates false false
 facts_of K.Free = facts 16 (codes "Free") SavedStates false true
+facts_of K.Serialize = facts 20 (codes "Serialize") SavedStates false false
+facts_of K.Deserialize = facts 21 (codes "Deserialize") SavedStates false false
 facts_of K.Terminate = facts 17 (codes "Terminate") Closing false false
 facts_of K.FreeInstance = facts 18 (codes "FreeInstance") Closing false false
 
@@ -65,7 +67,7 @@ is_of_run _ = true
 abbrev pub IsRunCall : Call → Type 0
 IsRunCall call = IsTrue (is_of_run (facts_of (kind_of call)).part)
 
--- the call is one of those that save, restore and free a state
+-- the call is one of those that save, restore and free a state, or move one as bytes
 abbrev pub is_of_saved_states : Part → Bool
 is_of_saved_states SavedStates = true
 is_of_saved_states _ = false

@@ -31,6 +31,8 @@ kind_of (C.GetShift reference) = K.GetShift
 kind_of C.Save = K.Save
 kind_of C.Restore = K.Restore
 kind_of C.Free = K.Free
+kind_of C.Serialize = K.Serialize
+kind_of (C.Deserialize length point stop) = K.Deserialize
 kind_of C.Terminate = K.Terminate
 kind_of C.FreeInstance = K.FreeInstance
 
@@ -52,6 +54,8 @@ kind_of_content (A.GetShift shift) = K.GetShift
 kind_of_content A.Save = K.Save
 kind_of_content A.Restore = K.Restore
 kind_of_content A.Free = K.Free
+kind_of_content (A.Serialize length) = K.Serialize
+kind_of_content A.Deserialize = K.Deserialize
 kind_of_content A.Terminate = K.Terminate
 kind_of_content A.FreeInstance = K.FreeInstance
 

@@ -73,7 +73,12 @@ settles _ = false
 abbrev pub running_state : Shape → InstanceState
 running_state shape = if shape.has_event_mode then Event else Step
 
--- where a good reply leads: a Clock that is set or asked is marked, and active where it was set or answers so; an Update ends its instant and leaves no Clock active; it takes the marks away, as a step does and the way into Event Mode, so that an instant begins with none; Save fills the slot with the point and the marks, Restore brings them back and keeps the slot, Free empties it; what only reads leaves it
+-- a Restore leads to Step Mode, also where a run is resumed
+abbrev pub restored_state : InstanceState → InstanceState
+restored_state Instantiated = Step
+restored_state state = state
+
+-- where a good reply leads: a Clock that is set or asked is marked, and active where it was set or answers so; an Update ends its instant and leaves no Clock active; it takes the marks away, as a step does and the way into Event Mode, so that an instant begins with none; Save fills the slot with the point and the marks, Deserialize with a point and no mark, Restore brings them back and keeps the slot, Free empties it; what only reads leaves it
 abbrev pub entered : Shape → Phase → Call → Reply → Phase
 entered shape phase (C.Instantiate event_mode early_return batches) reply =
     record phase { state = Instantiated }
@@ -103,8 +108,15 @@ entered shape phase (C.SetClock reference) reply = record phase {
 }
 entered shape phase C.Save reply =
     record phase { slot = record { is_full = true; point = phase.point; marks = phase.marks } }
-entered shape phase C.Restore reply =
-    record phase { point = phase.slot.point; marks = phase.slot.marks }
+entered shape phase C.Restore reply = record phase {
+  state = restored_state phase.state;
+  point = phase.slot.point;
+  marks = phase.slot.marks;
+}
+entered shape phase (C.Deserialize length point stop) reply = record phase {
+  stop = stop;
+  slot = record { is_full = true; point = point; marks = unmarked shape };
+}
 entered shape phase C.Free reply = record phase {
   slot = record {
     is_full = false;

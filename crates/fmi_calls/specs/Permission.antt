@@ -171,6 +171,17 @@ abbrev pub KeepsState : Shape → Phase → Bool → Type 0
 KeepsState shape phase is_full =
     (phase.state ≡ Step) × (shape.can_save_state ≡ true) × (phase.slot.is_full ≡ is_full)
 
+-- in Step Mode, and before Initialization Mode where a run is resumed, a state that is saved may be gone back to or freed
+abbrev pub can_go_back : InstanceState → Bool
+can_go_back Instantiated = true
+can_go_back Step = true
+can_go_back _ = false
+
+abbrev pub GoesBack : Shape → Phase → Type 0
+GoesBack shape phase =
+    (can_go_back phase.state ≡ true) × (shape.can_save_state ≡ true) ×
+    (phase.slot.is_full ≡ true)
+
 -- the call is permitted. Event Mode is left once an Update in it has asked for no other
 abbrev pub Permitted : Shape → Phase → Call → Type 0
 Permitted shape phase (C.Instantiate event_mode early_return batches) =
@@ -193,8 +204,13 @@ Permitted shape phase (C.Set kind reference value) =
     IsTrue (can_be_set phase.state shape phase.marks phase.active reference) ×
     IsWritable shape kind reference × Fits kind value
 Permitted shape phase C.Save = KeepsState shape phase false
-Permitted shape phase C.Restore = KeepsState shape phase true
-Permitted shape phase C.Free = KeepsState shape phase true
+Permitted shape phase C.Restore = GoesBack shape phase
+Permitted shape phase C.Free = GoesBack shape phase
+Permitted shape phase C.Serialize =
+    (phase.state ≡ Step) × (shape.can_serialize_state ≡ true) × (phase.slot.is_full ≡ true)
+Permitted shape phase (C.Deserialize length point stop) =
+    (phase.state ≡ Instantiated) × (shape.can_serialize_state ≡ true) ×
+    (phase.slot.is_full ≡ false) × (point ≤ stop)
 Permitted shape phase C.Terminate = (is_running phase.state ≡ true) × (phase.slot.is_full ≡ false)
 Permitted shape phase C.FreeInstance = IsTrue (can_be_freed phase.state phase.slot.is_full)
 Permitted shape phase (C.GetClock reference) =

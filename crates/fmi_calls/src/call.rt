@@ -54,6 +54,14 @@ pub enum Call {
     Restore,
     /// fmi3FreeFMUState: the slot is emptied.
     Free,
+    /// fmi3SerializeFMUState: the bytes of the slot's state.
+    Serialize,
+    /// fmi3DeserializeFMUState: so many bytes fill the slot with the state of a point, in a run up to the stop.
+    Deserialize {
+        length: u32,
+        point: u64,
+        stop: u64,
+    },
     Terminate,
     FreeInstance,
 }
@@ -77,6 +85,8 @@ pub enum Kind {
     Save,
     Restore,
     Free,
+    Serialize,
+    Deserialize,
     Terminate,
     FreeInstance,
 }
@@ -152,6 +162,11 @@ pub enum Content {
     Save,
     Restore,
     Free,
+    /// how many bytes follow
+    Serialize {
+        length: u32,
+    },
+    Deserialize,
     Terminate,
     FreeInstance,
 }
@@ -193,6 +208,8 @@ impl Call {
             Call::Save => Kind::Save,
             Call::Restore => Kind::Restore,
             Call::Free => Kind::Free,
+            Call::Serialize => Kind::Serialize,
+            Call::Deserialize { .. } => Kind::Deserialize,
             Call::Terminate => Kind::Terminate,
             Call::FreeInstance => Kind::FreeInstance,
         }
@@ -221,6 +238,8 @@ impl Content {
             Content::Save => Kind::Save,
             Content::Restore => Kind::Restore,
             Content::Free => Kind::Free,
+            Content::Serialize { .. } => Kind::Serialize,
+            Content::Deserialize => Kind::Deserialize,
             Content::Terminate => Kind::Terminate,
             Content::FreeInstance => Kind::FreeInstance,
         }

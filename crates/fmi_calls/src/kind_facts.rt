@@ -55,6 +55,8 @@ impl Kind {
             Kind::Save => (14, "Save", Part::SavedStates, false, false),
             Kind::Restore => (15, "Restore", Part::SavedStates, false, false),
             Kind::Free => (16, "Free", Part::SavedStates, false, true),
+            Kind::Serialize => (20, "Serialize", Part::SavedStates, false, false),
+            Kind::Deserialize => (21, "Deserialize", Part::SavedStates, false, false),
             Kind::Terminate => (17, "Terminate", Part::Closing, false, false),
             Kind::FreeInstance => (18, "FreeInstance", Part::Closing, false, false),
         };

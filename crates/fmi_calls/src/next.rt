@@ -1,6 +1,6 @@
-ghost use Rattle.std.specs.Prelude.{◌≡◌, option_copied, length, true};
+ghost use Rattle.std.specs.Prelude.{◌≡◌, option_copied, length, true, false, replicate};
 ghost use Rattle.fmi_calls.specs.Permission.{Permitted};
-ghost use Rattle.fmi_calls.specs.Next.{HasMarks, next_of, entered, end_of, is_tick, state_after_bad, restores_after, marked, marks_after_set, running_state, settles};
+ghost use Rattle.fmi_calls.specs.Next.{HasMarks, next_of, entered, end_of, is_tick, state_after_bad, restored_state, restores_after, marked, marks_after_set, running_state, settles};
 
 use crate::{BadStatus, Call, Content, Grade, InstanceState, Marks, Phase, Reply, grade};
 use value_types::Shape;
@@ -136,9 +136,10 @@ fn enter(shape: &Shape, phase: &mut Phase, call: &Call, reply: &Reply)
         Call::Save => save(phase),
         Call::Restore => restore(phase),
         Call::Free => phase.slot.is_full = false,
+        Call::Deserialize { point, stop, .. } => fill(phase, point, stop),
         Call::Terminate => phase.state = InstanceState::Terminated,
         Call::FreeInstance => phase.state = InstanceState::Gone,
-        Call::Get { .. } | Call::GetInterval { .. } | Call::GetShift { .. } => {}
+        Call::Get { .. } | Call::GetInterval { .. } | Call::GetShift { .. } | Call::Serialize => {}
     }
 }
 
@@ -174,11 +175,38 @@ fn save(phase: &mut Phase)
     phase.slot.marks.copy_from(&phase.marks);
 }
 
+// The slot has the state of a point, without marks.
+fn fill(phase: &mut Phase, point: u64, stop: u64)
+    ensures { phase.new ≡ record phase.old {
+      stop = stop;
+      slot = record { is_full = true; point = point; marks = replicate (length phase.old.slot.marks) false };
+    } }
+{
+    phase.stop = stop;
+    phase.slot.is_full = true;
+    phase.slot.point = point;
+    phase.slot.marks.clear();
+}
+
+// Where a Restore leads: the run that is resumed is in Step Mode.
+fn restored_state(state: InstanceState) -> InstanceState
+    ensures { result ≡ restored_state state }
+{
+    match state {
+        InstanceState::Instantiated => InstanceState::Step,
+        _ => state,
+    }
+}
+
 fn restore(phase: &mut Phase)
     requires { length phase.old.marks ≡ length phase.old.slot.marks }
-    ensures { phase.new ≡ record phase.old
-        { point = phase.old.slot.point; marks = phase.old.slot.marks } }
+    ensures { phase.new ≡ record phase.old {
+      state = restored_state phase.old.state;
+      point = phase.old.slot.point;
+      marks = phase.old.slot.marks;
+    } }
 {
+    phase.state = restored_state(phase.state);
     phase.point = phase.slot.point;
     phase.marks.copy_from(&phase.slot.marks);
 }

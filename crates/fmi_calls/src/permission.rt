@@ -1,6 +1,6 @@
 ghost use Rattle.std.specs.Prelude.{◌≡◌, ◌↔◌, IsTrue, IsSomeAnd, Some};
 ghost use Rattle.std.specs.List.{list_any};
-ghost use Rattle.fmi_calls.specs.Permission.{Permitted, IsReadable, IsWritable, can_be_read, can_be_set, can_be_ticked, counts_down, has_causality, has_interval, has_shift, is_answered, is_changed, is_input_clock, is_marked, is_of_point, is_output_clock, is_accessible, is_timed};
+ghost use Rattle.fmi_calls.specs.Permission.{Permitted, IsReadable, IsWritable, can_be_read, can_be_set, can_be_ticked, can_go_back, counts_down, has_causality, has_interval, has_shift, is_answered, is_changed, is_input_clock, is_marked, is_of_point, is_output_clock, is_accessible, is_timed};
 ghost use Rattle.value_types.specs.Shape.{IsOutput, is_at, is_input, is_parameter, is_unclocked, variable_at};
 
 use crate::{Call, InstanceState, Marks, Phase, SavedPhase};
@@ -222,6 +222,16 @@ fn is_of_point(slot: &SavedPhase, point: u64) -> bool
     !slot.is_full || slot.point == point
 }
 
+// Whether a state that is saved may be gone back to.
+fn can_go_back(state: InstanceState) -> bool
+    ensures { result ≡ can_go_back state }
+{
+    match state {
+        InstanceState::Step | InstanceState::Instantiated => true,
+        _ => false,
+    }
+}
+
 /// Whether the phase permits a call.
 pub fn permitted(shape: &Shape, phase: &Phase, call: &Call) -> bool
     ensures { IsTrue result ↔ Permitted shape.now phase.now call.now }
@@ -270,7 +280,16 @@ pub fn permitted(shape: &Shape, phase: &Phase, call: &Call) -> bool
             phase.state == InstanceState::Step && shape.can_save_state && !phase.slot.is_full
         }
         Call::Restore | Call::Free => {
-            phase.state == InstanceState::Step && shape.can_save_state && phase.slot.is_full
+            can_go_back(phase.state) && shape.can_save_state && phase.slot.is_full
+        }
+        Call::Serialize => {
+            phase.state == InstanceState::Step && shape.can_serialize_state && phase.slot.is_full
+        }
+        Call::Deserialize { point, stop, .. } => {
+            phase.state == InstanceState::Instantiated
+                && shape.can_serialize_state
+                && !phase.slot.is_full
+                && point <= stop
         }
         Call::Terminate => phase.state.is_running() && !phase.slot.is_full,
         Call::FreeInstance => phase.state.can_be_freed(phase.slot.is_full),

@@ -45,7 +45,7 @@ pub struct Phase {
     pub marks: Marks,
     /// which Clocks are active in this instant
     pub active: Marks,
-    /// where Save keeps a state
+    /// where Save or Deserialize keeps a state
     pub slot: SavedPhase,
     /// how many exchanges there were; it stays at its last value
     pub exchanges: u64,

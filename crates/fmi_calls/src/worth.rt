@@ -47,6 +47,8 @@ pub fn valid(shape: &Shape, _phase: &Phase, call: &Call, content: &Content) -> b
         (Call::Save, Content::Save) => true,
         (Call::Restore, Content::Restore) => true,
         (Call::Free, Content::Free) => true,
+        (Call::Serialize, Content::Serialize { .. }) => true,
+        (Call::Deserialize { .. }, Content::Deserialize) => true,
         (Call::Terminate, Content::Terminate) => true,
         (Call::FreeInstance, Content::FreeInstance) => true,
         (_, _) => false,

@@ -133,7 +133,51 @@ const INSTANTIATED_2: &str = "010001000000000000000000000000000000000000000000";
 
 const TWO_REPLIES: &str = "130000000000000200000000000000000000000000000000";
 
-static RUNS: [Case; 16] = [
+// The counter, whose states can be had as bytes.
+const SERIALIZING: &str =
+    r#"<fmiModelDescription fmiVersion="3.0" modelName="counter" instantiationToken="{c}"><CoSimulation modelIdentifier="counter" canGetAndSetFMUState="true" canSerializeFMUState="true" canHandleVariableCommunicationStepSize="true"/><ModelVariables><Int32 name="inc" valueReference="1" causality="parameter" variability="fixed" start="2"/><Int32 name="y" valueReference="2" causality="output" variability="discrete"/></ModelVariables><ModelStructure><Output valueReference="2" dependencies=""/></ModelStructure></fmiModelDescription>"#;
+
+const SAVE: &str = "0e0000000000000000000000000000000000000000000000";
+
+const RESTORE: &str = "0f0000000000000000000000000000000000000000000000";
+
+const FREE_STATE: &str = "100000000000000000000000000000000000000000000000";
+
+const SERIALIZE: &str = "140000000000000000000000000000000000000000000000";
+
+// With 56 bytes, and with 55, of a state at 10 in a run to 20.
+const DESERIALIZE: &str = "1500000000000038000000000000000a0000000000000014";
+
+const DESERIALIZE_55: &str = "1500000000000037000000000000000a0000000000000014";
+
+const STEP_ON: &str = "0600000000000000000000000000000a000000000000000a";
+
+const SAVED: &str = "0e0000000000000000000000000000000000000000000000";
+
+const RESTORED: &str = "0f0000000000000000000000000000000000000000000000";
+
+const STATE_FREED: &str = "100000000000000000000000000000000000000000000000";
+
+const SERIALIZED: &str = "140000000000003800000000000000000000000000000000";
+
+const DESERIALIZED: &str = "150000000000000000000000000000000000000000000000";
+
+const NO_STATE: &str = "150300000000000000000000000000000000000000000000";
+
+const GOT_4: &str = "080000000000000000000000000000040000000000000000";
+
+const STEPPED_ON: &str = "060000000000000000000000000000140000000000000000";
+
+// States of the counter: the point, what is held, the count and whether it has fired; `inc` and `y` under their references.
+const AT_0: &str =
+    "000000000000000000000000000000000000000000000000000000000000000000000001000000000000000200000002";
+
+const AT_0_END: &str = "0000000000000000";
+
+const AT_10: &str =
+    "000000000000000a00000000000000000000000000000002000000000000000000000001000000000000000200000002";
+
+static RUNS: [Case; 24] = [
     // A whole run of the counter. What follows FreeInstance isn't read.
     Case {
         input: &[
@@ -260,6 +304,95 @@ static RUNS: [Case; 16] = [
         input: &[INSTANTIATE_2, TOO_MANY_CALLS],
         status: 1,
         output: &[INSTANTIATED_2],
+        ..EMPTY
+    },
+    // A state is told after the reply.
+    Case {
+        description: SERIALIZING,
+        input: &[INSTANTIATE, ENTER, EXIT, SAVE, SERIALIZE, FREE_STATE, GET],
+        output: &[
+            INSTANTIATED,
+            ENTERED,
+            EXITED,
+            SAVED,
+            SERIALIZED,
+            AT_0,
+            AT_0_END,
+            STATE_FREED,
+            GOT_0,
+        ],
+        ..EMPTY
+    },
+    // One that is taken in goes on from its point.
+    Case {
+        description: SERIALIZING,
+        input: &[
+            INSTANTIATE,
+            DESERIALIZE,
+            AT_10,
+            AT_0_END,
+            RESTORE,
+            FREE_STATE,
+            GET,
+            STEP_ON,
+            GET,
+        ],
+        output: &[
+            INSTANTIATED,
+            DESERIALIZED,
+            RESTORED,
+            STATE_FREED,
+            GOT_2,
+            STEPPED_ON,
+            GOT_4,
+        ],
+        ..EMPTY
+    },
+    // Bytes of no state.
+    Case {
+        description: SERIALIZING,
+        input: &[INSTANTIATE, DESERIALIZE_55, AT_10, "00000000000000", FREE],
+        output: &[INSTANTIATED, NO_STATE, FREED],
+        ..EMPTY
+    },
+    // The input ends before the last of them.
+    Case {
+        description: SERIALIZING,
+        input: &[INSTANTIATE, DESERIALIZE, AT_10, "00000000000000"],
+        status: 1,
+        output: &[INSTANTIATED],
+        ..EMPTY
+    },
+    // A Deserialize that isn't permitted: its bytes aren't waited for.
+    Case {
+        input: &[INSTANTIATE, DESERIALIZE],
+        status: 6,
+        output: &[INSTANTIATED],
+        ..EMPTY
+    },
+    // Nothing is saved.
+    Case {
+        description: SERIALIZING,
+        input: &[INSTANTIATE, ENTER, EXIT, SERIALIZE],
+        status: 6,
+        output: &[INSTANTIATED, ENTERED, EXITED],
+        ..EMPTY
+    },
+    // The put of the bytes of a state fails, and a take of them.
+    Case {
+        description: SERIALIZING,
+        input: &[INSTANTIATE, ENTER, EXIT, SAVE, SERIALIZE],
+        puts: &[5],
+        status: 10,
+        output: &[INSTANTIATED, ENTERED, EXITED, SAVED, SERIALIZED],
+        ..EMPTY
+    },
+    Case {
+        description: SERIALIZING,
+        input: &[INSTANTIATE, DESERIALIZE, AT_10, AT_0_END],
+        takes: &[3],
+        status: 10,
+        output: &[INSTANTIATED],
         ..EMPTY
     },
 ];

@@ -1,8 +1,10 @@
 -- A call over a wire: its frame is sent, and the 24 bytes that come are its reply, where they are a reply frame.
-use Rattle.std.specs.Prelude.{◌≡◌, ◌⊎◌, ℕ, List, length, Result, Ok, Err}
+use Rattle.std.specs.Prelude.{◌≡◌, ◌⊎◌, ℕ, ◌<◌, List, ◌++◌, length, Result, Ok, Err}
 use Rattle.sim_base.specs.Causes.{one_more}
 use Rattle.fmi_calls.specs.declared.call.Call.{Call}
+use Rattle.fmi_calls.specs.declared.call.Call.TheVariants as C
 use Rattle.fmi_calls.specs.declared.call.Reply.{Reply}
+use Rattle.fmu_peer.specs.Machine.{bytes_behind}
 use Rattle.fmu_peer.specs.declared.peer.PeerFault.{PeerFault}
 use Rattle.fmu_peer.specs.declared.peer.PeerFault.TheVariants as P
 use Rattle.link_frames.specs.Call.{IsFrameOf}
@@ -61,3 +63,50 @@ pub record Exchanged (call : Call) (name token : List ℕ) (old new : LineView)
   pub frame : List ℕ
   pub is_frame : IsFrameOf call name token frame
   pub noted : NotesCall old new frame result
+
+-- ---- the bytes of a state
+
+-- how many follow an answer
+abbrev pub count_behind : Result Reply PeerFault → ℕ
+count_behind (Ok reply) = bytes_behind reply
+count_behind (Err fault) = 0
+
+-- as many bytes came as follow the answer: they are the state, and the answer is the result
+pub record HearsState (old new : LineView) (answer result : Result Reply PeerFault)
+    (state : List ℕ) : Type 0 where
+  pub is : result ≡ answer
+  pub whole : length state ≡ count_behind answer
+  pub came : old.wire ≡ with_front state new.wire
+  pub counted : new.bad_replies ≡ old.bad_replies
+
+-- the wire failed or ended before so many came
+pub record LosesState (old new : LineView) (answer result : Result Reply PeerFault) : Type 0 where
+  pub some : 0 < count_behind answer
+  pub fault : WireFault
+  pub is : result ≡ Err P.Failed
+  pub room : List ℕ
+  pub awaited : length room ≡ count_behind answer
+  pub broke : NotesReceive {T = Unit {0}} old.wire new.wire room (Err fault)
+  pub counted : new.bad_replies ≡ bad_after old.bad_replies fault
+
+-- what a Serialize with this frame makes of the line: its reply came, and the state after it
+pub record NotesSerialize (old new : LineView) (frame : List ℕ) (result : Result Reply PeerFault)
+    (state : List ℕ) : Type 0 where
+  pub answer : Result Reply PeerFault
+  pub mid : LineView
+  pub called : NotesCall old mid frame answer
+  pub behind : HearsState mid new answer result state ⊎ LosesState mid new answer result
+
+-- the frame of a Serialize was sent alone, and its reply awaited, and as many bytes as follow that
+pub record ExchangedState (name token : List ℕ) (old new : LineView)
+    (result : Result Reply PeerFault) (state : List ℕ) : Type 0 where
+  pub frame : List ℕ
+  pub is_frame : IsFrameOf C.Serialize name token frame
+  pub noted : NotesSerialize old new frame result state
+
+-- the frame of the call was sent with these bytes after it, and its reply awaited
+pub record ExchangedWith (call : Call) (state name token : List ℕ) (old new : LineView)
+    (result : Result Reply PeerFault) : Type 0 where
+  pub frame : List ℕ
+  pub is_frame : IsFrameOf call name token frame
+  pub noted : NotesCall old new (frame ++ state) result

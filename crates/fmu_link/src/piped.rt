@@ -1,9 +1,10 @@
-ghost use Rattle.std.specs.Prelude.{◌≡◌, ◌≤◌, ◌^◌, ◌||◌, ◌&&◌, length, IfOk, IfErr, MatchResult};
+ghost use Rattle.std.specs.Prelude.{◌≡◌, ◌≤◌, ◌^◌, ◌||◌, ◌&&◌, ◌++◌, ◌⊎◌, [], false, length, vec_capacity, IfOk, IfErr, MatchResult};
 ghost use Rattle.std.specs.Option.{option_copied};
 ghost use Rattle.std.specs.Result.{result_ok};
 ghost use Rattle.fmi_calls.specs.Permission.{Permitted};
+ghost use Rattle.fmu_peer.specs.View.{carries_bytes};
 ghost use Rattle.fmu_link.specs.Batches.{agrees_to_batches, asks_for_batches};
-ghost use Rattle.fmu_link.specs.Exchange.{Arrives, Breaks, NotesCall, Says};
+ghost use Rattle.fmu_link.specs.Exchange.{Arrives, Breaks, HearsState, LosesState, NotesCall, NotesSerialize, Says, bad_after, count_behind};
 
 use crate::batches::call_batch;
 use crate::{Instance, Wire, WireFault};
@@ -66,10 +67,10 @@ impl<W: Wire> Piped<W> {
 }
 
 impl<W: Wire + Send> Peer for Piped<W> {
-    ghost use Rattle.fmu_peer.specs.View.{Asked};
+    ghost use Rattle.fmu_peer.specs.View.{Asked, AskedWith, IsDeserialize, Serializes};
     ghost use Rattle.fmu_link.specs.Piped.{line_view, piped_view};
     ghost use Rattle.fmu_link.specs.Batches.{GoAsAgreed};
-    ghost use Rattle.fmu_link.specs.Exchange.{Exchanged};
+    ghost use Rattle.fmu_link.specs.Exchange.{Exchanged, ExchangedState, ExchangedWith};
     ghost use Rattle.fmu_peer.specs.Many.{AreOfOneSort, AskedMany, MayAskAll};
 
     ghost view = { piped_view W.view };
@@ -79,6 +80,8 @@ impl<W: Wire + Send> Peer for Piped<W> {
     ghost in_phase = { λ p. tt };
 
     ghost ignores_slot = { λ p. tt };
+
+    ghost unpacks = { λ p. tt };
 
     ghost lawful = { λ p. tt };
 
@@ -91,7 +94,8 @@ impl<W: Wire + Send> Peer for Piped<W> {
     }
 
     fn call(&mut self, call: &Call) -> Result<Reply, PeerFault>
-        requires { Permitted self.old.instance.shape self.old.instance.phase call.now }
+        requires permitted { Permitted self.old.instance.shape self.old.instance.phase call.now }
+        requires plain { carries_bytes call.now ≡ false }
         ensures asked { Asked (piped_view W.view self.old) call.now result
             (piped_view W.view self.new) }
         ensures exchanged { Exchanged call.now self.old.instance.name self.old.instance.shape.token
@@ -151,6 +155,67 @@ impl<W: Wire + Send> Peer for Piped<W> {
         }
         Ok(calls.len())
     }
+
+    /// Sends the frame of a Serialize, and receives after a good reply as many bytes as it tells of.
+    fn serialize(&mut self, into: &mut Vec<u8>) -> Result<Reply, PeerFault>
+        requires permitted { Permitted self.old.instance.shape self.old.instance.phase Call.Serialize }
+        requires empty { into.old.items ≡ [] }
+        requires room { 2 ^ 20 ≤ vec_capacity into.old }
+        ensures asked { Asked (piped_view W.view self.old) Call.Serialize result
+            (piped_view W.view self.new) }
+        ensures bytes { Serializes (piped_view W.view self.old) result into.new.items }
+        ensures room { vec_capacity into.old ≤ vec_capacity into.new }
+        ensures exchanged { ExchangedState self.old.instance.name self.old.instance.shape.token
+            (line_view W.view self.old) (line_view W.view self.new) result into.new.items }
+        ensures agreed { self.new.instance.takes_batches ≡ self.old.instance.takes_batches }
+    {
+        let call = Call::Serialize;
+        let instance = &mut self.instance;
+        let length = put_call(
+            &call,
+            instance.name.as_str(),
+            instance.shape.token.as_str(),
+            instance.frame.as_mut_slice(),
+        );
+        let frame = &instance.frame.as_slice()[..length];
+        let answer = state_over(&mut self.wire, frame, into, &mut instance.bad_replies);
+        next_phase(
+            &instance.shape,
+            &mut instance.phase,
+            &call,
+            reply_of(&answer),
+        );
+        answer
+    }
+
+    /// Sends the frame of a Deserialize with the bytes after it.
+    fn deserialize(&mut self, call: &Call, bytes: &[u8]) -> Result<Reply, PeerFault>
+        requires permitted { Permitted self.old.instance.shape self.old.instance.phase call.now }
+        requires length { IsDeserialize call.now (length bytes.now) }
+        ensures asked { AskedWith (piped_view W.view self.old) call.now bytes.now result
+            (piped_view W.view self.new) }
+        ensures exchanged { ExchangedWith call.now bytes.now self.old.instance.name
+            self.old.instance.shape.token (line_view W.view self.old) (line_view W.view self.new)
+            result }
+        ensures agreed { self.new.instance.takes_batches ≡ self.old.instance.takes_batches }
+    {
+        let instance = &mut self.instance;
+        let length = put_call(
+            call,
+            instance.name.as_str(),
+            instance.shape.token.as_str(),
+            instance.frame.as_mut_slice(),
+        );
+        let frame = &instance.frame.as_slice()[..length];
+        let answer = answer_behind(&mut self.wire, frame, bytes, &mut instance.bad_replies);
+        next_phase(
+            &instance.shape,
+            &mut instance.phase,
+            call,
+            reply_of(&answer),
+        );
+        answer
+    }
 }
 
 // Whether the call asks for batches.
@@ -203,6 +268,97 @@ fn answer_over<W: Wire>(
         *bad_replies = bad_replies.saturating_add(1);
     }
     answer
+}
+
+// Sends a frame with bytes after it, and takes the reply to them.
+fn answer_behind<W: Wire>(
+    wire: &mut W,
+    frame: &[u8],
+    bytes: &[u8],
+    bad_replies: &mut u64,
+) -> Result<Reply, PeerFault>
+    ensures { NotesCall (record { wire = W.view wire.old; bad_replies = bad_replies.old })
+        (record { wire = W.view wire.new; bad_replies = bad_replies.new })
+        (frame.now ++ bytes.now) result }
+{
+    match wire.send(frame) {
+        Ok(()) => answer_over(wire, bytes, bad_replies),
+        Err(_) => Err(PeerFault::Failed),
+    }
+}
+
+// Sends the frame of a Serialize, takes the reply to it, and receives the bytes of the state after that.
+fn state_over<W: Wire>(
+    wire: &mut W,
+    frame: &[u8],
+    into: &mut Vec<u8>,
+    bad_replies: &mut u64,
+) -> Result<Reply, PeerFault>
+    requires empty { into.old.items ≡ [] }
+    requires room { 2 ^ 20 ≤ vec_capacity into.old }
+    ensures kept { vec_capacity into.old ≤ vec_capacity into.new }
+    ensures noted { NotesSerialize (record { wire = W.view wire.old; bad_replies = bad_replies.old })
+        (record { wire = W.view wire.new; bad_replies = bad_replies.new }) frame.now result
+        into.new.items }
+{
+    let answer = answer_over(wire, frame, bad_replies);
+    state_behind(wire, answer, into, bad_replies)
+}
+
+// Receives the bytes that follow an answer, if any do.
+fn state_behind<W: Wire>(
+    wire: &mut W,
+    answer: Result<Reply, PeerFault>,
+    into: &mut Vec<u8>,
+    bad_replies: &mut u64,
+) -> Result<Reply, PeerFault>
+    requires empty { into.old.items ≡ [] }
+    requires room { count_behind answer ≤ vec_capacity into.old }
+    ensures kept { vec_capacity into.old ≤ vec_capacity into.new }
+    ensures noted { HearsState (record { wire = W.view wire.old; bad_replies = bad_replies.old })
+        (record { wire = W.view wire.new; bad_replies = bad_replies.new }) answer result
+        into.new.items
+        ⊎ LosesState (record { wire = W.view wire.old; bad_replies = bad_replies.old })
+        (record { wire = W.view wire.new; bad_replies = bad_replies.new }) answer result }
+{
+    let count = count_behind(&answer);
+    if count == 0 {
+        return answer;
+    }
+    match into.resize(count, 0) {
+        Ok(()) => {}
+        Err(_) => unreachable!(),
+    }
+    match wire.receive(into.as_mut_slice()) {
+        Ok(()) => answer,
+        Err(fault) => Err(cut_by(fault, bad_replies)),
+    }
+}
+
+// What a call comes to whose answer is cut, which is counted where the wire ended.
+fn cut_by(fault: WireFault, bad_replies: &mut u64) -> PeerFault
+    ensures fault { result ≡ PeerFault.Failed }
+    ensures counted { bad_replies.new ≡ bad_after bad_replies.old fault }
+{
+    if let WireFault::Ended = fault {
+        *bad_replies = bad_replies.saturating_add(1);
+    }
+    PeerFault::Failed
+}
+
+// How many bytes follow an answer.
+fn count_behind(answer: &Result<Reply, PeerFault>) -> usize
+    ensures { result ≡ count_behind answer.now }
+{
+    match answer {
+        Ok(
+            Reply::Done {
+                content: Content::Serialize { length },
+                ..
+            },
+        ) => *length as usize,
+        _ => 0,
+    }
 }
 
 // Sends a frame, and receives the 24 bytes that answer it.

@@ -1,5 +1,5 @@
 -- Where calls that read or set lead: after good answers the state stays as it was, and after another the instance is where it was, or over.
-use Rattle.std.proofs.Common.{◌≡◌, inl, inr, ℕ, ℤ, Result, Bool, true, false, List, [], ◌∷◌, ◌++◌, length, take, drop, Option, Some, None, Ok, Err, refl, sym, ap, ◌∙◌, subst, append_assoc}
+use Rattle.std.proofs.Common.{◌≡◌, ◌<◌, inl, inr, ℕ, ℤ, Result, Bool, true, false, List, [], ◌∷◌, ◌++◌, length, get_or, take, drop, Option, Some, None, Ok, Err, refl, sym, ap, ◌∙◌, subst, append_assoc}
 use Rattle.std.specs.Prelude.{IsTrue, ◌||◌}
 use Rattle.std.specs.Result.{result_ok}
 use Rattle.std.proofs.lemmas.List.{map-append, take-append-drop}
@@ -24,7 +24,7 @@ use Rattle.fmu_peer.specs.declared.peer.PeerFault.{PeerFault}
 use Rattle.fmu_peer.specs.Many.{AnsweredAll, AnsweredFirst, AreOfOneSort, FaultsBehind, Talks, exchanges}
 use Rattle.fmu_peer.specs.Mode.{agrees, same_state}
 use Rattle.fmu_peer.specs.Talk.{AllGood, IsGood, calls_in}
-use Rattle.fmu_peer.specs.View.{Fixed, View}
+use Rattle.fmu_peer.specs.View.{Fixed, View, carries_bytes}
 use Rattle.fmu_peer.proofs.ManyLemmas.{all_front, even}
 use Rattle.fmu_peer.proofs.SeveralLemmas.{AreSorts, ReadsOrSets, Sort, Reads, Writes, calls_beside, sort_of}
 
@@ -35,6 +35,16 @@ sorts_of calls s k d lt = elim s.reads_or_sets [
   | inl e ↦ inl (s.each k d lt ∙ e)
   | inr e ↦ inr (s.each k d lt ∙ e)
 ]
+
+-- no bytes follow one of them
+plain_sort : (call : Call) → ReadsOrSets call → carries_bytes call ≡ false
+plain_sort call sort = by (sort_of call sort) where
+  by : Sort call → carries_bytes call ≡ false
+  by (Reads kind reference is) = ap carries_bytes is
+  by (Writes kind reference value is) = ap carries_bytes is
+
+pub plain_at : (calls : List Call) (i : ℕ) (d : Call) → AreOfOneSort calls → i < length calls → carries_bytes (get_or calls i d) ≡ false
+plain_at calls i d s lt = plain_sort (get_or calls i d) (sorts_of calls s i d lt)
 
 -- of so many of them
 sorts_front : (calls : List Call) (n : ℕ) → AreSorts calls → AreSorts (take n calls)

@@ -1,5 +1,5 @@
 -- A machine's state stays one of an instance in its phase.
-use Rattle.std.proofs.Common.{◌≡◌, ℕ, Bool, true, false, Option, Some, None, refl, sym, ap, ◌∙◌, subst}
+use Rattle.std.proofs.Common.{◌≡◌, ℕ, Bool, List, true, false, Option, Some, None, refl, sym, ap, ◌∙◌, subst}
 use Rattle.std.specs.Prelude.{if◌then◌else◌}
 use Rattle.std.proofs.lemmas.Option.{same_Some}
 use Rattle.value_types.specs.declared.shape.Shape.{Shape}
@@ -15,10 +15,11 @@ use Rattle.fmi_calls.specs.declared.phase.InstanceState.{InstanceState}
 use Rattle.fmi_calls.specs.declared.phase.InstanceState.TheVariants as P
 use Rattle.fmi_calls.specs.declared.phase.Phase.{Phase}
 use Rattle.fmi_calls.specs.Kinds.{bad_status_of}
-use Rattle.fmi_calls.specs.Next.{counted, entered, fresh, graded, next_of, state_after_bad}
-use Rattle.fmi_calls.specs.Permission.{Permitted, is_running}
+use Rattle.fmi_calls.specs.Next.{counted, entered, fresh, graded, next_of, restored_state, state_after_bad}
+use Rattle.fmi_calls.specs.Permission.{Permitted, can_go_back, is_running}
 use Rattle.fmi_calls.specs.Worth.{grade_of}
-use Rattle.fmu_peer.specs.Machine.{IsInPhase, IsMachineOf, Machine, MachineState, SavedMachine, after, is_alive, is_discard, is_initialization, kept, put_back}
+use Rattle.fmu_peer.specs.Machine.{IsInPhase, IsMachineOf, Machine, MachineState, SavedMachine, after, is_alive, is_discard, is_initialization, kept, put_back, taken_in, UnpacksWell}
+use Rattle.fmu_peer.specs.View.{IsDeserialize}
 
 -- ---- where the instance stands after a reply, if it is still alive
 
@@ -107,6 +108,40 @@ switched shape p reply call G.Good good bad old alive = good
 switched shape p reply call G.Refused good bad old alive = ap is_initialization (bad (bad_status_of reply) alive) ∙ old
 switched shape p reply call G.Misreply good bad old alive = ap is_initialization (bad Error alive) ∙ old
 
+-- where a state may be gone back to
+back_not_initial : (state : InstanceState) → can_go_back state ≡ true → is_initialization state ≡ false
+back_not_initial P.Fresh at = absurd (cc)
+back_not_initial P.Instantiated at = refl
+back_not_initial P.Initialization at = absurd (cc)
+back_not_initial P.Event at = absurd (cc)
+back_not_initial P.Step at = refl
+back_not_initial P.Terminated at = absurd (cc)
+back_not_initial P.Dead at = absurd (cc)
+back_not_initial P.Lost at = absurd (cc)
+back_not_initial P.Gone at = absurd (cc)
+
+back_alive : (state : InstanceState) → can_go_back state ≡ true → is_alive state ≡ true
+back_alive P.Fresh at = absurd (cc)
+back_alive P.Instantiated at = refl
+back_alive P.Initialization at = absurd (cc)
+back_alive P.Event at = absurd (cc)
+back_alive P.Step at = refl
+back_alive P.Terminated at = absurd (cc)
+back_alive P.Dead at = absurd (cc)
+back_alive P.Lost at = absurd (cc)
+back_alive P.Gone at = absurd (cc)
+
+restored_not_initial : (state : InstanceState) → can_go_back state ≡ true → is_initialization (restored_state state) ≡ false
+restored_not_initial P.Fresh at = absurd (cc)
+restored_not_initial P.Instantiated at = refl
+restored_not_initial P.Initialization at = absurd (cc)
+restored_not_initial P.Event at = absurd (cc)
+restored_not_initial P.Step at = refl
+restored_not_initial P.Terminated at = absurd (cc)
+restored_not_initial P.Dead at = absurd (cc)
+restored_not_initial P.Lost at = absurd (cc)
+restored_not_initial P.Gone at = absurd (cc)
+
 -- ---- the machine's state
 
 -- what is saved isn't in Initialization Mode
@@ -184,9 +219,14 @@ module _ (shape : Shape) (m : Machine) (is : IsMachineOf shape m) (phase : Phase
   in_phase_after C.Save may =
       in_same m phase (new C.Save) s (after m s C.Save) old (leaves C.Save refl (bad_same phase.state)) refl (λ alive. one_saved m s (mode_at m phase s P.Step old may.0 refl))
   in_phase_after C.Restore may =
-      let mode : m.initializing s.numbers ≡ false = mode_at m phase s P.Step old may.0 refl in
-      in_same m phase (new C.Restore) s (after m s C.Restore) old (leaves C.Restore refl (bad_same phase.state))
-      (back_mode m s.slot s (saved_at m phase s P.Step old may.0 refl) mode ∙ sym mode) (λ alive. subst (SavedWell m) (sym (back_slot s.slot s)) (old.saved alive))
+      let out : is_initialization phase.state ≡ false = back_not_initial phase.state may.0 in
+      let alive : is_alive phase.state ≡ true = back_alive phase.state may.0 in
+      let mode : m.initializing s.numbers ≡ false = old.mode alive ∙ out in
+      in_state m (new C.Restore) (after m s C.Restore) false
+      (switched shape (counted phase C.Restore) (m.look s C.Restore) C.Restore (grade_of shape C.Restore (m.look s C.Restore)) (restored_not_initial phase.state may.0) (bad_same phase.state) out)
+      (back_mode m s.slot s (old.saved alive) mode) (subst (SavedWell m) (sym (back_slot s.slot s)) (old.saved alive))
+  in_phase_after C.Serialize may = in_same m phase (new C.Serialize) s s old (leaves C.Serialize refl (bad_same phase.state)) refl old.saved
+  in_phase_after (C.Deserialize length point stop) may = in_same m phase (new (C.Deserialize length point stop)) s s old (leaves (C.Deserialize length point stop) refl (bad_same phase.state)) refl old.saved
   in_phase_after C.Free may = in_same m phase (new C.Free) s (after m s C.Free) old (leaves C.Free refl (bad_same phase.state)) refl (λ alive. none_saved m None refl)
   in_phase_after (C.Instantiate event_mode early_return batches) may =
       in_state m (new (C.Instantiate event_mode early_return batches)) (after m s (C.Instantiate event_mode early_return batches)) false
@@ -224,3 +264,11 @@ module _ (shape : Shape) (m : Machine) (is : IsMachineOf shape m) (phase : Phase
   in_phase_after (C.SetClock reference) may = in_same m phase (new (C.SetClock reference)) s (after m s (C.SetClock reference)) old (leaves (C.SetClock reference) refl (bad_same phase.state)) refl old.saved
   in_phase_after (C.GetInterval reference) may = in_same m phase (new (C.GetInterval reference)) s (after m s (C.GetInterval reference)) old (leaves (C.GetInterval reference) refl (bad_same phase.state)) refl old.saved
   in_phase_after (C.GetShift reference) may = in_same m phase (new (C.GetShift reference)) s (after m s (C.GetShift reference)) old (leaves (C.GetShift reference) refl (bad_same phase.state)) refl old.saved
+
+  -- what a Deserialize takes in isn't in Initialization Mode
+  pub in_phase_taken_in : UnpacksWell m → (call : Call) (count : ℕ) (bytes : List ℕ) (reply : Reply) → IsDeserialize call count → Permitted shape phase call → IsInPhase m (next_of shape phase call (Some reply)) (taken_in m s bytes)
+  in_phase_taken_in unpacks (C.Deserialize length point stop) count bytes reply is may =
+      let call = C.Deserialize length point stop in
+      in_same m phase (graded shape (counted phase call) call reply (grade_of shape call reply)) s (taken_in m s bytes) old
+      (stays shape (counted phase call) reply call (grade_of shape call reply) refl (bad_same phase.state)) refl (λ alive. unpacks.outside bytes)
+  in_phase_taken_in unpacks call count bytes reply is may = absurd is

@@ -17,7 +17,7 @@ use Rattle.fmi_calls.specs.declared.phase.Phase.{Phase}
 use Rattle.fmi_calls.specs.declared.phase.InstanceState.{InstanceState}
 use Rattle.fmi_calls.specs.declared.phase.InstanceState.TheVariants as P
 use Rattle.fmi_calls.specs.KindFacts.{same_kind}
-use Rattle.fmi_calls.specs.Permission.{Permitted, can_be_freed, is_running}
+use Rattle.fmi_calls.specs.Permission.{Permitted, can_be_freed, is_running, can_go_back}
 use Rattle.fmi_calls.specs.Worth.{grade_of, is_valid}
 use Rattle.fmi_calls.specs.Next.{fresh, graded, counted, state_after_bad}
 use Rattle.fmi_calls.specs.Kinds.{bad_status_of}
@@ -207,8 +207,20 @@ after_refused shape p reply Discard d e full = Kept full (ap Ok (discard_of shap
 after_refused shape p reply Error d e full = Freed (inr refl) (inr refl)
 after_refused shape p reply Fatal d e full = Freed (inr refl) (inl refl)
 
-after_graded : (shape : Shape) (p : Phase) (reply : Reply) (g : Grade) → grade_of shape C.Free reply ≡ g → p.state ≡ P.Step → p.slot.is_full ≡ true → AfterFree (graded shape p C.Free reply g) (Ok reply)
-after_graded shape p reply G.Good e at full = Freed (inl refl) (inr (ap (λ (s : InstanceState). can_be_freed s false) at))
+-- where a state may be gone back to, the instance may be freed without it
+goes_freed : (state : InstanceState) → can_go_back state ≡ true → can_be_freed state false ≡ true
+goes_freed P.Fresh at = absurd (cc)
+goes_freed P.Instantiated at = refl
+goes_freed P.Initialization at = absurd (cc)
+goes_freed P.Event at = absurd (cc)
+goes_freed P.Step at = refl
+goes_freed P.Terminated at = absurd (cc)
+goes_freed P.Dead at = absurd (cc)
+goes_freed P.Lost at = absurd (cc)
+goes_freed P.Gone at = absurd (cc)
+
+after_graded : (shape : Shape) (p : Phase) (reply : Reply) (g : Grade) → grade_of shape C.Free reply ≡ g → can_go_back p.state ≡ true → p.slot.is_full ≡ true → AfterFree (graded shape p C.Free reply g) (Ok reply)
+after_graded shape p reply G.Good e at full = Freed (inl refl) (inr (goes_freed p.state at))
 after_graded shape p reply G.Refused e at full = after_refused shape p reply (bad_status_of reply) refl e full
 after_graded shape p reply G.Misreply e at full = Freed (inr refl) (inr refl)
 
@@ -269,7 +281,7 @@ fresh_ends_none v w sent is (inr (never, inl (may, more))) =
 fresh_ends_none v w sent is (inr (never, inr (stuck, (none, same)))) = none
 
 fresh_sends_none : (v w : View) (sent : List Exchange) (saved : Bool) → v.phase.state ≡ P.Fresh → SendsInTurn (closing_calls saved) v sent w → sent ≡ []
-fresh_sends_none v w sent true is (inl (may, more)) = absurd (let wrong : P.Fresh ≡ P.Step = sym is ∙ may.0 in cc)
+fresh_sends_none v w sent true is (inl (may, more)) = absurd (let wrong : can_go_back P.Fresh ≡ true = ap can_go_back (sym is) ∙ may.0 in cc)
 fresh_sends_none v w sent true is (inr (never, more)) = fresh_ends_none v w sent is more
 fresh_sends_none v w sent false is more = fresh_ends_none v w sent is more
 

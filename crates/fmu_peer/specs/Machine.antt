@@ -1,5 +1,5 @@
 -- An FMU as a function of its saved state and inputs (FMI 3.0, 2.2.6: FMU state; 2.4.9: dependencies of outputs; 4.2.1: the state machine of Co-Simulation).
-use Rattle.std.specs.Prelude.{◌≡◌, ℕ, ℤ, Bool, true, false, ◌==◌, List, [], ◌∷◌, length, filter, map, Option, Some, None, IsSomeAnd, pos, unwrap_or, if◌then◌else◌}
+use Rattle.std.specs.Prelude.{◌≡◌, ℕ, ℤ, Bool, true, false, ◌==◌, List, [], ◌∷◌, length, filter, map, Option, Some, None, IsSome, IsSomeAnd, pos, unwrap_or, if◌then◌else◌}
 use Rattle.std.specs.List.{list_any, slice_get}
 use Rattle.std.specs.Option.{option_and_then}
 use Rattle.value_types.specs.Shape.{AgreeFor, place_of, variable_at}
@@ -10,7 +10,8 @@ use Rattle.fmi_calls.specs.declared.call.BadStatus.TheVariants.{Discard}
 use Rattle.fmi_calls.specs.declared.call.Call.{Call}
 use Rattle.fmi_calls.specs.declared.call.Call.TheVariants as C
 use Rattle.fmi_calls.specs.declared.call.Reply.{Reply}
-use Rattle.fmi_calls.specs.declared.call.Reply.TheVariants.{Refused}
+use Rattle.fmi_calls.specs.declared.call.Reply.TheVariants.{Done, Refused}
+use Rattle.fmi_calls.specs.declared.call.Content.TheVariants.{Deserialize, Serialize}
 use Rattle.fmi_calls.specs.declared.phase.InstanceState.{InstanceState}
 use Rattle.fmi_calls.specs.declared.phase.InstanceState.TheVariants as P
 use Rattle.fmi_calls.specs.declared.phase.Phase.{Phase}
@@ -28,7 +29,12 @@ pub record MachineState : Type 0 where
   pub values : List ℤ
   pub slot : Option SavedMachine
 
--- the references of its values, and those of its input Clocks; the first state; whether a state is in Initialization Mode; the reply to a call; and the numbers after a call that changes them
+-- the bytes of a saved state, and the saved state that bytes are read back as, if they are one
+pub record Packing : Type 0 where
+  pub pack : SavedMachine → List ℕ
+  pub unpack : List ℕ → Option SavedMachine
+
+-- the references of its values, and those of its input Clocks; the first state; whether a state is in Initialization Mode; the reply to a call; the numbers after a call that changes them; its states as bytes; the reply to a Deserialize of these bytes
 pub record Machine : Type 0 where
   pub references : List ℕ
   pub clocks : List ℕ
@@ -36,6 +42,8 @@ pub record Machine : Type 0 where
   pub initializing : List ℤ → Bool
   pub look : MachineState → Call → Reply
   pub change : MachineState → Call → List ℤ
+  pub packing : Packing
+  pub look_at : MachineState → Call → List ℕ → Reply
 
 -- ---- the state after a call
 
@@ -72,7 +80,7 @@ abbrev pub put_back : Option SavedMachine → MachineState → MachineState
 put_back None s = s
 put_back (Some saved) s = record s { numbers = saved.numbers; values = saved.values }
 
--- the state after a call: reading changes nothing, Set writes a value and SetClock 1, Update makes the input Clocks inactive, Save fills the slot, Restore puts it back, and Free empties it; every other call changes the numbers alone
+-- the state after a call: reading changes nothing, Set writes a value and SetClock 1, Update makes the input Clocks inactive, Save fills the slot, Restore puts it back, and Free empties it; a Serialize leaves it; every other call but Deserialize changes the numbers alone
 abbrev pub after : Machine → MachineState → Call → MachineState
 after m s (C.Get kind reference) = s
 after m s (C.GetClock reference) = s
@@ -86,7 +94,13 @@ after m s C.Update = record (changed m s C.Update) { values = unticked m s.value
 after m s C.Save = record s { slot = Some (kept s) }
 after m s C.Restore = put_back s.slot s
 after m s C.Free = record s { slot = None }
+after m s C.Serialize = s
+after m s (C.Deserialize length point stop) = s
 after m s call = changed m s call
+
+-- the state after a Deserialize of these bytes: what they are read back as is in the slot
+abbrev pub taken_in : Machine → MachineState → List ℕ → MachineState
+taken_in m s bytes = record s { slot = m.packing.unpack bytes }
 
 -- a number of the machine's own that marks Initialization Mode: 1 from EnterInitialization to ExitInitialization
 abbrev pub mark_after : ℤ → Call → ℤ
@@ -144,9 +158,23 @@ pub record IsInPhase (m : Machine) (phase : Phase) (s : MachineState) : Type 0 w
   pub saved : is_alive phase.state ≡ true → (kept : SavedMachine) → s.slot ≡ Some kept →
       m.initializing kept.numbers ≡ false
 
+-- ---- states as bytes
+
+-- how many bytes follow a reply to Serialize
+abbrev pub bytes_behind : Reply → ℕ
+bytes_behind (Done is_warning (Serialize length)) = length
+bytes_behind _ = 0
+
+-- bytes aren't read back as a state in Initialization Mode, and those of a Deserialize that is done are read back as one
+pub record UnpacksWell (m : Machine) : Type 0 where
+  pub outside : (bytes : List ℕ) (kept : SavedMachine) → m.packing.unpack bytes ≡ Some kept →
+      m.initializing kept.numbers ≡ false
+  pub fills : (s : MachineState) (call : Call) (bytes : List ℕ) (is_warning : Bool) →
+      m.look_at s call bytes ≡ Done is_warning Deserialize → IsSome (m.packing.unpack bytes)
+
 -- ---- what a machine's replies don't depend on
 
--- but for the calls that save, restore and free a state, neither a reply nor a change depends on the state that is saved
+-- but for the calls on a saved state, neither a reply nor a change depends on the state that is saved
 pub record IgnoresSlot (m : Machine) : Type 0 where
   pub looks : (call : Call) (s : MachineState) (slot : Option SavedMachine) →
       keeps_state call ≡ false → m.look (record s { slot = slot }) call ≡ m.look s call

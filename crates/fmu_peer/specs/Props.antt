@@ -88,6 +88,9 @@ Permitted-prop shape p (C.Set kind reference value) =
 Permitted-prop shape p C.Save = hlevel (le_prop, state_set, bool_set, nat_set)
 Permitted-prop shape p C.Restore = hlevel (le_prop, state_set, bool_set, nat_set)
 Permitted-prop shape p C.Free = hlevel (le_prop, state_set, bool_set, nat_set)
+Permitted-prop shape p C.Serialize = hlevel (le_prop, state_set, bool_set, nat_set)
+Permitted-prop shape p (C.Deserialize length point stop) =
+    hlevel (le_prop, state_set, bool_set, nat_set)
 Permitted-prop shape p C.Terminate = hlevel (le_prop, state_set, bool_set, nat_set)
 Permitted-prop shape p C.FreeInstance = hlevel (le_prop, state_set, bool_set, nat_set)
 Permitted-prop shape p (C.GetClock reference) = hlevel (bool_set)

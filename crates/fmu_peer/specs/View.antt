@@ -1,17 +1,20 @@
 -- What a peer is, and what it tells.
-use Rattle.std.specs.Prelude.{◌≡◌, ℕ, List, [], ◌∷◌, ◌++◌, Option, Some, None, IsSome, IfSome, Result, Ok, Err}
+use Rattle.std.specs.Prelude.{◌≡◌, ℕ, ◌≤◌, ◌^◌, List, [], ◌∷◌, ◌++◌, length, Bool, true, false, Option, Some, None, IsSome, IfSome, option_map, Result, Ok, Err}
 use Rattle.std.specs.Result.{result_ok}
 use Rattle.sim_base.specs.Causes.{HasCause}
 use Rattle.value_types.specs.declared.shape.Shape.{Shape}
 use Rattle.fmi_calls.specs.declared.call.Call.{Call}
+use Rattle.fmi_calls.specs.declared.call.Call.TheVariants as C
+use Rattle.fmi_calls.specs.declared.call.Content.TheVariants.{Serialize}
 use Rattle.fmi_calls.specs.declared.call.Reply.{Reply}
+use Rattle.fmi_calls.specs.declared.call.Reply.TheVariants.{Done}
 use Rattle.fmi_calls.specs.declared.phase.Phase.{Phase}
 use Rattle.fmi_calls.specs.Next.{next_of}
 use Rattle.fmu_peer.specs.declared.peer.PeerFault.{PeerFault}
 use Rattle.fmu_peer.specs.declared.peer.Exchange.{Exchange}
 use Rattle.fmu_peer.specs.Talk as T
 use Rattle.fmu_peer.specs.Talk.{Legal, phase_after}
-use Rattle.fmu_peer.specs.Machine.{IsInPhase, Machine, MachineState, after}
+use Rattle.fmu_peer.specs.Machine.{IsInPhase, Machine, MachineState, after, bytes_behind, taken_in}
 
 -- what a peer was started with, beside its shape
 pub record Origin : Type 0 where
@@ -55,6 +58,59 @@ pub record Asked (old : View) (call : Call) (result : Result Reply PeerFault)
   pub talk : new.talk ≡ talked old.talk call result
   pub state : AnswersAs old.fixed.machine old.state call result new.state
   pub cause : HasCause old.faults new.faults result
+
+-- ---- states as bytes
+
+-- the bytes of a state follow the call, or its reply
+abbrev pub carries_bytes : Call → Bool
+carries_bytes C.Serialize = true
+carries_bytes (C.Deserialize length point stop) = true
+carries_bytes _ = false
+
+-- where a machine is told, a reply that tells of a state is followed by the bytes of the one in its slot
+abbrev pub ArePacked : Option Machine → Option MachineState → Reply → List ℕ → Type 0
+ArePacked (Some m) (Some s) (Done is_warning (Serialize length)) bytes =
+    option_map m.packing.pack s.slot ≡ Some bytes
+ArePacked machine state reply bytes = Unit {0}
+
+-- the reply to Serialize is followed by these bytes: as many as it tells of, at most 2^20
+pub record IsFollowedBy (old : View) (reply : Reply) (bytes : List ℕ) : Type 0 where
+  pub count : length bytes ≡ bytes_behind reply
+  pub few : length bytes ≤ 2 ^ 20
+  pub packed : ArePacked old.fixed.machine old.state reply bytes
+
+abbrev pub Serializes : View → Result Reply PeerFault → List ℕ → Type 0
+Serializes old (Ok reply) bytes = IsFollowedBy old reply bytes
+Serializes old (Err fault) bytes = Unit {0}
+
+-- the call is a Deserialize of so many bytes
+abbrev pub IsDeserialize : Call → ℕ → Type 0
+IsDeserialize (C.Deserialize length point stop) count = length ≡ count
+IsDeserialize call count = ⊥
+
+-- where a machine is told, the reply is its look at the bytes, and its slot has what they are read back as; after a fault it tells some state
+abbrev pub TakesIn : Option Machine → Option MachineState → Call → List ℕ →
+    Result Reply PeerFault → Option MachineState → Type 0
+TakesIn (Some m) (Some s) call bytes (Ok reply) new =
+    (reply ≡ m.look_at s call bytes) × (new ≡ Some (taken_in m s bytes))
+TakesIn (Some m) (Some s) call bytes (Err fault) new = IsSome new
+TakesIn (Some m) None call bytes result new = new ≡ None
+TakesIn None old call bytes result new = new ≡ None
+
+-- the peer was asked this Deserialize alone, with these bytes and this result
+pub record AskedWith (old : View) (call : Call) (bytes : List ℕ) (result : Result Reply PeerFault)
+    (new : View) : Type 0 where
+  pub fixed : new.fixed ≡ old.fixed
+  pub phase : new.phase ≡ next_of old.fixed.shape old.phase call (result_ok result)
+  pub talk : new.talk ≡ talked old.talk call result
+  pub state : TakesIn old.fixed.machine old.state call bytes result new.state
+  pub cause : HasCause old.faults new.faults result
+
+-- what a peer is and tells, but for its machine: so far a Deserialize is asked like any call
+abbrev pub without_machine : View → View
+without_machine v = record v { fixed = record v.fixed { machine = None }; state = None }
+
+-- ---- what each peer keeps to
 
 -- a told talk is legal, and leads to the phase
 abbrev pub IsLegal : View → Type 0

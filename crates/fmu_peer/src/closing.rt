@@ -1,4 +1,5 @@
 ghost use Rattle.std.specs.Prelude.{false, [], ◌∷◌, ◌≡◌};
+ghost use Rattle.fmu_peer.specs.View.{carries_bytes};
 ghost use Rattle.fmu_peer.specs.Close.{ClosesWith, IsClosed, closing_calls, is_fatal_answer};
 
 use crate::{Peer, PeerFault};
@@ -39,6 +40,7 @@ fn end_peer<L: Peer>(peer: &mut L) -> bool
 
 // Sends a call where it is permitted, and tells whether it was refused with Fatal.
 fn send<L: Peer>(peer: &mut L, call: Call) -> bool
+    requires { carries_bytes call ≡ false }
     ensures { ClosesWith (call ∷ []) (L.view peer.old) result (L.view peer.new) }
 {
     if permitted(peer.shape(), peer.phase(), &call) {

@@ -1,4 +1,4 @@
-ghost use Rattle.std.specs.Prelude.{◌≡◌, ◌<◌, ◌≤◌, get_or, length, replicate, IfOk, IfErr, OnOk, IsTrue};
+ghost use Rattle.std.specs.Prelude.{◌≡◌, ◌<◌, ◌≤◌, ◌^◌, [], false, get_or, length, replicate, vec_capacity, IfOk, IfErr, OnOk, IsTrue};
 ghost use Rattle.fmi_calls.specs.declared.call.Call.{Call};
 ghost use Rattle.fmi_calls.specs.declared.call.Kind.TheVariants as K;
 ghost use Rattle.fmi_calls.specs.declared.call.Reply.{Reply};
@@ -8,8 +8,9 @@ ghost use Rattle.fmi_calls.specs.Permission.{Permitted};
 ghost use Rattle.fmi_calls.specs.declared.phase.InstanceState.{InstanceState};
 ghost use Rattle.fmi_calls.specs.declared.phase.InstanceState.TheVariants as P;
 ghost use Rattle.fmu_peer.specs.Mode.{agrees, instantiate_of};
-ghost use Rattle.fmu_peer.specs.Answer.{Answered, Failed};
+ghost use Rattle.fmu_peer.specs.Answer.{Answered, AnsweredWith, Failed, FailedWith, IsGoodReply, IsWhy};
 ghost use Rattle.fmu_peer.specs.Many.{AnsweredAll, AreOfOneSort, FailedBehind, IsWorthOf, MayAskAll, count_came, to_come};
+ghost use Rattle.fmu_peer.specs.View.{IsDeserialize, IsFollowedBy, carries_bytes};
 ghost use Rattle.fmu_peer.specs.Close.{IsClosed, can_be_closed};
 ghost use Rattle.fmu_peer.specs.declared.ended.Why.TheVariants as Why;
 
@@ -25,8 +26,9 @@ use value_types::{PortType, Shape};
 
 // Sends a call of the run, and says what its answer is worth. A good answer is given back at once, since nearly each one is.
 #[inline(always)]
-fn ask<L: Peer>(peer: &mut L, call: &Call) -> Result<Reply, Why>
-    requires { Permitted (L.view peer.old).fixed.shape (L.view peer.old).phase call.now }
+pub(crate) fn ask<L: Peer>(peer: &mut L, call: &Call) -> Result<Reply, Why>
+    requires plain { carries_bytes call.now ≡ false }
+    requires permitted { Permitted (L.view peer.old).fixed.shape (L.view peer.old).phase call.now }
     ensures ok { IfOk result (λ reply. Answered (L.view peer.old) call.now reply (L.view peer.new)) }
     ensures err { IfErr result (λ why. Failed (L.view peer.old) call.now why (L.view peer.new)) }
 {
@@ -37,6 +39,56 @@ fn ask<L: Peer>(peer: &mut L, call: &Call) -> Result<Reply, Why>
             Grade::Misreply => return Err(misreply(call, &reply)),
         },
         Err(fault) => return Err(lost(call, fault)),
+    }
+}
+
+// Sends a Serialize of the run, whose bytes come into the room, and says what its answer is worth.
+fn ask_for_bytes<L: Peer>(peer: &mut L, into: &mut Vec<u8>) -> Result<Reply, Why>
+    requires permitted { Permitted (L.view peer.old).fixed.shape (L.view peer.old).phase Call.Serialize }
+    requires empty { into.old.items ≡ [] }
+    requires room { 2 ^ 20 ≤ vec_capacity into.old }
+    ensures ok { IfOk result (λ reply. Answered (L.view peer.old) Call.Serialize reply
+        (L.view peer.new)) }
+    ensures bytes { IfOk result (λ reply. IsFollowedBy (L.view peer.old) reply into.new.items) }
+    ensures err { IfErr result (λ why. Failed (L.view peer.old) Call.Serialize why
+        (L.view peer.new)) }
+    ensures room { vec_capacity into.old ≤ vec_capacity into.new }
+{
+    let answer = peer.serialize(into);
+    judged(peer.shape(), peer.phase(), &Call::Serialize, answer)
+}
+
+// Sends a Deserialize of the run with its bytes, and says what its answer is worth.
+fn ask_with_bytes<L: Peer>(peer: &mut L, call: &Call, bytes: &[u8]) -> Result<Reply, Why>
+    requires permitted { Permitted (L.view peer.old).fixed.shape (L.view peer.old).phase call.now }
+    requires length { IsDeserialize call.now (length bytes.now) }
+    ensures ok { IfOk result (λ reply. AnsweredWith (L.view peer.old) call.now bytes.now reply
+        (L.view peer.new)) }
+    ensures err { IfErr result (λ why. FailedWith (L.view peer.old) call.now bytes.now why
+        (L.view peer.new)) }
+{
+    let answer = peer.deserialize(call, bytes);
+    judged(peer.shape(), peer.phase(), call, answer)
+}
+
+// What an answer is worth.
+fn judged(
+    shape: &Shape,
+    phase: &Phase,
+    call: &Call,
+    answer: Result<Reply, PeerFault>,
+) -> Result<Reply, Why>
+    ensures ok { IfOk result (λ reply. IsGoodReply shape.now call.now answer reply) }
+    ensures err { IfErr result (λ why. IsWhy shape.now why
+        (record { call = call.now; result = answer })) }
+{
+    match answer {
+        Ok(reply) => match grade(shape, phase, call, &reply) {
+            Grade::Good => Ok(reply),
+            Grade::Refused => Err(refusal(call, &reply)),
+            Grade::Misreply => Err(misreply(call, &reply)),
+        },
+        Err(fault) => Err(lost(call, fault)),
     }
 }
 
@@ -218,6 +270,59 @@ impl<L: Peer> Fmu<L, Instantiated> {
             Err(why) => Err(Ended { peer, why }),
         }
     }
+
+    /// Fills the slot with the state that these bytes stand for, that of a point in a run up to the stop (FMI 3.0, 2.2.6:
+    /// fmi3DeserializeFMUState). Point and stop are counts. What it gives is spent by `free`.
+    pub fn deserialize(&mut self, point: u64, stop: u64, bytes: &[u8]) -> Result<Saved, Why>
+        requires few { length bytes.now < 2 ^ 32 }
+        requires permitted { Permitted (L.view self.old.peer).fixed.shape
+            (L.view self.old.peer).phase (Call.Deserialize (length bytes.now) point stop) }
+        ensures ok { OnOk result ((reply : Reply) × AnsweredWith (L.view self.old.peer)
+            (Call.Deserialize (length bytes.now) point stop) bytes.now reply (L.view self.new.peer)) }
+        ensures err { IfErr result (λ why. FailedWith (L.view self.old.peer)
+            (Call.Deserialize (length bytes.now) point stop) bytes.now why (L.view self.new.peer)) }
+    {
+        let call = Call::Deserialize {
+            length: bytes.len() as u32,
+            point,
+            stop,
+        };
+        match ask_with_bytes(&mut self.peer, &call, bytes) {
+            Ok(_) => Ok(Saved { kept: () }),
+            Err(why) => Err(why),
+        }
+    }
+
+    /// Frees the state that fills the slot.
+    pub fn free(&mut self, saved: Saved) -> Result<Reply, Why>
+        requires { Permitted (L.view self.old.peer).fixed.shape
+            (L.view self.old.peer).phase Call.Free }
+        ensures ok { IfOk result (λ reply. Answered (L.view self.old.peer) Call.Free reply
+            (L.view self.new.peer)) }
+        ensures err { IfErr result (λ why. Failed (L.view self.old.peer) Call.Free why
+            (L.view self.new.peer)) }
+    {
+        let Saved { kept: () } = saved;
+        ask(&mut self.peer, &Call::Free)
+    }
+
+    /// Goes on from the state that fills the slot, which stays there, in Step Mode at its point.
+    pub fn resume(self, _saved: &Saved) -> Result<Fmu<L, Stepping>, Ended<L>>
+        requires { Permitted (L.view self.peer).fixed.shape (L.view self.peer).phase Call.Restore }
+        ensures ok { IfOk result (λ fmu. (reply : Reply) ×
+            Answered (L.view self.peer) Call.Restore reply (L.view fmu.peer)) }
+        ensures err { IfErr result (λ ended. Failed (L.view self.peer) Call.Restore ended.why
+            (L.view ended.peer)) }
+    {
+        let Fmu { mut peer, mode: _ } = self;
+        match ask(&mut peer, &Call::Restore) {
+            Ok(_) => Ok(Fmu {
+                peer,
+                mode: PhantomData,
+            }),
+            Err(why) => Err(Ended { peer, why }),
+        }
+    }
 }
 
 impl<L: Peer> Fmu<L, Initializing> {
@@ -321,6 +426,24 @@ impl<L: Peer> Fmu<L, Stepping> {
             Ok(_) => Ok(Saved { kept: () }),
             Err(why) => Err(why),
         }
+    }
+
+    /// Puts the bytes of the state that was saved into the room, at most 2^20 (FMI 3.0, 2.2.6: fmi3SerializeFMUState). After
+    /// an error what was put means nothing.
+    pub fn serialize(&mut self, _saved: &Saved, into: &mut Vec<u8>) -> Result<Reply, Why>
+        requires permitted { Permitted (L.view self.old.peer).fixed.shape
+            (L.view self.old.peer).phase Call.Serialize }
+        requires empty { into.old.items ≡ [] }
+        requires room { 2 ^ 20 ≤ vec_capacity into.old }
+        ensures ok { IfOk result (λ reply. Answered (L.view self.old.peer) Call.Serialize reply
+            (L.view self.new.peer)) }
+        ensures bytes { IfOk result (λ reply. IsFollowedBy (L.view self.old.peer) reply
+            into.new.items) }
+        ensures err { IfErr result (λ why. Failed (L.view self.old.peer) Call.Serialize why
+            (L.view self.new.peer)) }
+        ensures room { vec_capacity into.old ≤ vec_capacity into.new }
+    {
+        ask_for_bytes(&mut self.peer, into)
     }
 
     /// Goes back to the state that was saved, which stays saved.

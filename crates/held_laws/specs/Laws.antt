@@ -8,6 +8,7 @@ use Rattle.run_model.specs.Machines.{AreMachines}
 use Rattle.run_model.specs.Run.{Run, Situation}
 use Rattle.run_model.specs.Trace.{IsTrace}
 use Rattle.run_rest.specs.Held.{Held}
+use Rattle.run_rest.specs.Lasting.{AsksWithin}
 use Rattle.run_rest.specs.Laws.{StepsWithin}
 use Rattle.run_rest.specs.Packing.{Packing, ReadsBack, packed, unpacked}
 use Rattle.run_rest.specs.Parted.{at_step}
@@ -17,6 +18,10 @@ use Rattle.run_rest.specs.Snapshot.{Snapshot, resumed, snapshot_of}
 -- each step leads on, and not past the stop
 abbrev pub StepsOn : Type 0
 StepsOn = (r : Run) → WellBehaved r → StepsWithin r
+
+-- and no step asks an FMU for a point past the stop
+abbrev pub AsksOn : Type 0
+AsksOn = (r : Run) → IsSound r.system → AreMachines r → WellBehaved r → AsksWithin r
 
 -- the snapshot with its states as they are read back from their bytes
 pub record IsReadFrom (packings : List Packing) (kept read : Snapshot) : Type 0 where

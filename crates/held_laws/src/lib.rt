@@ -3,4 +3,4 @@
 
 mod laws;
 
-pub use laws::{resumes_from_bytes, steps_within};
+pub use laws::{asks_within, built_ins_keep, resumes_from_bytes, steps_within};

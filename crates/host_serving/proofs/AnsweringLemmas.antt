@@ -1,5 +1,5 @@
 -- Calls of a batch that are asked one after another.
-use Rattle.std.proofs.Common.{◌≡◌, ◌≢◌, ◌⊎◌, inl, inr, ℕ, zero, suc, ◌+◌, ◌-◌, ◌*◌, ◌<◌, ◌≤◌, List, [], ◌∷◌, ◌++◌, length, map, take, drop, get_or, set, Ok, refl, sym, ap, subst, ◌∙◌, arith}
+use Rattle.std.proofs.Common.{◌≡◌, ◌≢◌, ◌⊎◌, inl, inr, ℕ, zero, suc, ◌+◌, ◌-◌, ◌*◌, ◌<◌, ◌≤◌, false, List, [], ◌∷◌, ◌++◌, length, map, take, drop, get_or, set, Ok, refl, sym, ap, subst, ◌∙◌, arith}
 use Rattle.std.specs.Prelude.{All}
 use Rattle.std.proofs.Math.Seq.{drop-cons}
 use Rattle.std.proofs.lemmas.List.{drop-take, get_or-map, length-map, length-set, length-take-le, take-append-drop, take-take, take_more_set}
@@ -23,7 +23,7 @@ use Rattle.link_frames.proofs.CallerLemmas.{call_items_stand}
 use Rattle.fmu_peer.specs.declared.peer.Exchange.{Exchange}
 use Rattle.fmu_peer.specs.Many.{AnsweredFirst, Talks, exchanges}
 use Rattle.fmu_peer.specs.Talk.{AllGood, IsGood}
-use Rattle.fmu_peer.specs.View.{Asked, View}
+use Rattle.fmu_peer.specs.View.{Asked, View, carries_bytes}
 use Rattle.fmu_peer.proofs.ManyLemmas.{all_more, answered_all, answered_first, bad_grade, even, exchanges_set, good_grade, of, talks_push}
 use Rattle.host_serving.specs.Frames.{IsBatchOfCalls, IsItem}
 use Rattle.host_serving.specs.Serving.{ForbidsOne, LosesOne, Reaches}
@@ -31,6 +31,14 @@ use Rattle.host_serving.proofs.ItemLemmas.{fixed_along}
 use Rattle.host_serving.proofs.LinkFrames.{same_calls}
 
 -- ---- the calls of a batch
+
+-- a call that reads or sets a variable isn't followed by bytes, and nor is its reply
+pub plain_call : (one : Kind) (call : Call) → (one ≡ K.Get) ⊎ (one ≡ K.Set) → kind_of call ≡ one → carries_bytes call ≡ false
+plain_call one C.Serialize (inl e) is = absurd (let wrong : K.Serialize ≡ K.Get = is ∙ e in cc)
+plain_call one C.Serialize (inr e) is = absurd (let wrong : K.Serialize ≡ K.Set = is ∙ e in cc)
+plain_call one (C.Deserialize count point stop) (inl e) is = absurd (let wrong : K.Deserialize ≡ K.Get = is ∙ e in cc)
+plain_call one (C.Deserialize count point stop) (inr e) is = absurd (let wrong : K.Deserialize ≡ K.Set = is ∙ e in cc)
+plain_call one call sort is = refl
 
 -- a frame to stand where none is
 no_frame : CallFrame

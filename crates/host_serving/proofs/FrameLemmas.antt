@@ -2,7 +2,7 @@
 use Rattle.std.proofs.Common.{◌≡◌, ℕ, ◌+◌, ◌≤◌, List, [], ◌++◌, length, take, Option, Some, None, refl, sym, ap, ◌∙◌, append_assoc}
 use Rattle.std.specs.Io.KnownBytes.{Consumes}
 use Rattle.sim_base.specs.Source.{SourceView}
-use Rattle.host_serving.specs.Frames.{Takes}
+use Rattle.host_serving.specs.Frames.{Gains, Takes}
 use Rattle.std.proofs.Common.{◌-◌, arith, subst, length-append, length-take}
 use Rattle.std.proofs.Math.Seq.{take-append-add}
 use Rattle.std.proofs.lemmas.List.{take-take, take-append-le, take_all}
@@ -58,6 +58,14 @@ filled_more before now after into part count n within so takes =
       room_more into part count n within takes.within,
       subst (Takes before after) (sym (front_more into part count n within takes.within)) (takes_more before now after (take count into) (take n part) so one),
     )
+
+-- one part of a state more
+pub gained : (before now after : SourceView) (old new : List ℕ) (room count : ℕ) → Takes before now old → Gains now after old new room count → Takes before after new
+gained before now after old new room count so gains = subst (Takes before after) (sym gains.joined) (takes_more before now after old gains.part so gains.takes)
+
+pub gained_size : (now after : SourceView) (old new : List ℕ) (room count : ℕ) → Gains now after old new room count → length new ≡ length old + count
+gained_size now after old new room count gains =
+    let whole = ap length gains.joined ∙ length-append old gains.part in let size = gains.size in omega (arith, whole, size)
 
 -- the beginning of a frame stays where there is room after it
 pub resized : (old new head rest : List ℕ) (n : ℕ) → old ≡ head → new ≡ take n old ++ rest → length head ≡ 24 → 24 ≤ n → take 24 new ≡ head

@@ -17,10 +17,10 @@ use Rattle.link_frames.specs.Batch.{AreFrames, IsBatch, batch_head}
 use Rattle.link_frames.specs.Head.{spelling}
 use Rattle.link_frames.specs.Reply.{IsReplyFrame, frame_of}
 use Rattle.fmu_peer.specs.declared.peer.Exchange.{Exchange}
-use Rattle.fmu_peer.specs.Machine.{Machine, MachineState, after}
+use Rattle.fmu_peer.specs.Machine.{Machine, MachineState, after, taken_in}
 use Rattle.fmu_peer.specs.Many.{AnsweredFirst, Talks, exchanges}
 use Rattle.fmu_peer.specs.Talk.{AllGood, IsGood}
-use Rattle.fmu_peer.specs.View.{Asked, AnswersAs, Fixed, View}
+use Rattle.fmu_peer.specs.View.{Asked, AnswersAs, Fixed, TakesIn, View}
 use Rattle.host_serving.specs.Told.{ItemForbidden, ItemsCome, Through, Bad, Good, Now, Later, batch_of, frames_of}
 
 -- ---- one call
@@ -35,6 +35,13 @@ answered machine old new m s call reply is_machine in_state h =
     let told = subst (λ (a : Option Machine). AnswersAs a old call (Ok reply) new) is_machine h in
     let both = subst (λ (b : Option MachineState). AnswersAs (Some m) b call (Ok reply) new) in_state told in
     record { looks = both.0; leads = both.1 }
+
+-- so does it to a Deserialize with these bytes
+pub took_in : (machine : Option Machine) (old new : Option MachineState) (m : Machine) (s : MachineState) (call : Call) (bytes : List ℕ) (reply : Reply) → machine ≡ Some m → old ≡ Some s →
+    TakesIn machine old call bytes (Ok reply) new → (reply ≡ m.look_at s call bytes) × (new ≡ Some (taken_in m s bytes))
+took_in machine old new m s call bytes reply is_machine in_state h =
+    subst (λ (b : Option MachineState). TakesIn (Some m) b call bytes (Ok reply) new) in_state
+    (subst (λ (a : Option Machine). TakesIn a old call bytes (Ok reply) new) is_machine h)
 
 -- the FMU is told as this machine in this state, and stands in this phase
 pub record StandsAt (shape : Shape) (m : Machine) (phase : Phase) (s : MachineState) (view : View) : Type 0 where

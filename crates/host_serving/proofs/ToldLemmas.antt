@@ -4,12 +4,15 @@ use Rattle.std.proofs.Math.Seq.{drop-append_seam}
 use Rattle.std.proofs.lemmas.List.{take-append-le, take_all}
 use Rattle.std.specs.Io.KnownBytes.{Consumes, IsAtEnd}
 use Rattle.sim_base.specs.Sink.{SinkView, with_piece}
+use Rattle.sim_base.specs.Source.{SourceView}
 use Rattle.value_types.specs.declared.shape.Shape.{Shape}
 use Rattle.fmi_calls.specs.Next.{next_of}
 use Rattle.fmi_calls.specs.Permission.{Permitted}
 use Rattle.fmi_calls.specs.declared.call.Call.{Call}
 use Rattle.fmi_calls.specs.declared.call.Call.TheVariants as C
+use Rattle.fmi_calls.specs.declared.call.Content.TheVariants as A
 use Rattle.fmi_calls.specs.declared.call.Reply.{Reply}
+use Rattle.fmi_calls.specs.declared.call.Reply.TheVariants as R
 use Rattle.fmi_calls.specs.declared.phase.Phase.{Phase}
 use Rattle.exact_parts.specs.Taking.{Begins, Breaks, Gets, IsFront}
 use Rattle.link_frames.specs.declared.call.CallFrame.{CallFrame}
@@ -17,16 +20,17 @@ use Rattle.exact_parts.specs.declared.taken.Taken.{Taken}
 use Rattle.exact_parts.specs.declared.taken.Taken.TheVariants.{Got, NeedMore, Bad}
 use Rattle.exact_parts.proofs.CallerLemmas.{only_one}
 use Rattle.link_frames.specs.Reply.{frame_of}
-use Rattle.fmu_peer.specs.Machine.{Machine, MachineState, after}
+use Rattle.fmu_peer.specs.Machine.{Machine, MachineState, after, bytes_behind}
 use Rattle.fmu_peer.specs.Many.{exchanges}
+use Rattle.fmu_peer.specs.View.{ArePacked, IsFollowedBy, View}
 use Rattle.host_serving.specs.declared.serving.ServeEnd.{ServeEnd}
 use Rattle.host_serving.specs.declared.serving.ServeEnd.TheVariants as E
-use Rattle.host_serving.specs.Frames.{EndsBetween, EndsInside, IsBatchOfCalls, IsLinkFrame, IsNoFrame, TakesBad, TakesCall}
-use Rattle.host_serving.specs.Serving.{EndsBy, Forbids, ForbidsOne, GoesOn, Single, Together, HasServed, IsCounted, IsStill, More, Nothing, Reaches, Scene, Served, Serves, ServesMany, ServesOne, TakesCalls, as_sent, served_of}
-use Rattle.host_serving.specs.Told.{Comes, CutFrame, Forbidden, ForbiddenItem, ItemForbidden, ItemsCome, KeepsTo, Last, MayKeepTo, Next, NextBatch, NoFrame, Over, ServesAsTold, StartsWith, StartsWithBatch, Tells, batch_of, with_pieces}
+use Rattle.host_serving.specs.Frames.{EndsBetween, EndsInState, EndsInside, IsBatchOfCalls, IsLinkFrame, IsNoFrame, TakesBad, TakesCall, TakesWhole, bytes_after}
+use Rattle.host_serving.specs.Serving.{EndsBy, Forbids, ForbidsOne, GoesOn, IsAnswered, IsAsked, IsGiven, LacksFrame, Single, Together, HasServed, IsCounted, IsStill, More, Nothing, Reaches, Scene, Served, Serves, ServesMany, ServesOne, TakesCalls, as_sent, served_of, with_state}
+use Rattle.host_serving.specs.Told.{Comes, CutFrame, CutState, Forbidden, ForbiddenItem, Gives, ItemForbidden, ItemsCome, KeepsTo, Last, MayKeepTo, Next, NextBatch, NoFrame, Over, ServesAsTold, StartsWith, StartsWithBatch, Tells, batch_of, leads_to, reply_to, state_pieces, with_pieces}
 use Rattle.host_serving.proofs.LinkFrames.{batch_link, link_long, link_single, same_calls}
 use Rattle.host_serving.proofs.ServingLemmas.{served_length}
-use Rattle.host_serving.proofs.ItemLemmas.{Answer, Items, StandsAt, answered, forbids_same, items_not_forbidden, items_run, items_same, never_forbidden, pieces_same, shape_along}
+use Rattle.host_serving.proofs.ItemLemmas.{Items, StandsAt, answered, forbids_same, items_not_forbidden, items_run, items_same, never_forbidden, pieces_same, shape_along, took_in}
 
 -- ---- what bytes begin with
 
@@ -134,8 +138,10 @@ breaks_more taken rest bytes at both breaks =
 data AtCall (shape : Shape) (m : Machine) (phase : Phase) (s : MachineState) (call : Call) (rest : List ℕ) : List (List ℕ) → ℕ → ServeEnd → Type 0 where
   Refuses : (Permitted shape phase call → ⊥) → AtCall shape m phase s call rest [] 0 (E.NotPermitted call)
   Frees : Permitted shape phase call → call ≡ C.FreeInstance → AtCall shape m phase s call rest (frame_of (as_sent call (m.look s call)) ∷ []) 1 E.Freed
-  Goes : (pieces : List (List ℕ)) (count : ℕ) (end : ServeEnd) → Permitted shape phase call → call ≢ C.FreeInstance →
-      Comes shape m (next_of shape phase call (Some (m.look s call))) (after m s call) rest pieces count end → AtCall shape m phase s call rest (frame_of (as_sent call (m.look s call)) ∷ pieces) (1 + count) end
+  Cuts : Permitted shape phase call → length rest < bytes_after call → AtCall shape m phase s call rest [] 0 (E.BadFrame (24 + length rest))
+  Goes : (taken given more : List ℕ) (pieces : List (List ℕ)) (count : ℕ) (end : ServeEnd) → Permitted shape phase call → call ≢ C.FreeInstance → rest ≡ taken ++ more → length taken ≡ bytes_after call → Gives m s call given →
+      Comes shape m (next_of shape phase call (Some (reply_to m s call taken))) (leads_to m s call taken) more pieces count end →
+      AtCall shape m phase s call rest (frame_of (as_sent call (reply_to m s call taken)) ∷ (state_pieces given ++ pieces)) (1 + count) end
 
 -- after a batch of calls
 data AtBatch (shape : Shape) (m : Machine) (phase : Phase) (s : MachineState) (calls : List Call) (rest : List ℕ) : List (List ℕ) → ℕ → ServeEnd → Type 0 where
@@ -203,9 +209,12 @@ module _ (shape : Shape) (m : Machine) where
   at_call _ _ _ _ _ _ (Last phase s bytes rest' call' starts' may frees) call rest starts =
       let same = both_calls bytes call' call rest' rest starts' starts in
       moved phase s call' call rest' rest (frame_of (as_sent call' (m.look s call')) ∷ []) 1 E.Freed same.0 same.1 (Frees may frees)
-  at_call _ _ _ _ _ _ (Next phase s bytes rest' call' pieces count end starts' may unfreed comes) call rest starts =
+  at_call _ _ _ _ _ _ (CutState phase s bytes rest' call' starts' may short) call rest starts =
       let same = both_calls bytes call' call rest' rest starts' starts in
-      moved phase s call' call rest' rest (frame_of (as_sent call' (m.look s call')) ∷ pieces) (1 + count) end same.0 same.1 (Goes pieces count end may unfreed comes)
+      moved phase s call' call rest' rest [] 0 (E.BadFrame (24 + length rest')) same.0 same.1 (Cuts may short)
+  at_call _ _ _ _ _ _ (Next phase s bytes rest' call' taken given more pieces count end starts' may unfreed parts whole gives comes) call rest starts =
+      let same = both_calls bytes call' call rest' rest starts' starts in
+      moved phase s call' call rest' rest (frame_of (as_sent call' (reply_to m s call' taken)) ∷ (state_pieces given ++ pieces)) (1 + count) end same.0 same.1 (Goes taken given more pieces count end may unfreed parts whole gives comes)
   at_call _ _ _ _ _ _ (NextBatch phase q s z bytes rest' calls' replies pieces count end starts' items comes) call rest starts = absurd (not_both bytes call calls' rest rest' starts starts')
 
   at_batch : (phase : Phase) (s : MachineState) (bytes : List ℕ) (pieces : List (List ℕ)) (count : ℕ) (end : ServeEnd) → Comes shape m phase s bytes pieces count end →
@@ -218,7 +227,8 @@ module _ (shape : Shape) (m : Machine) where
       let same = both_batches bytes calls' calls rest' rest starts' starts in
       moved_batch phase s calls' calls rest' rest [] 0 (E.NotPermitted call') same.0 same.1 (Halts call' forbidden)
   at_batch _ _ _ _ _ _ (Last phase s bytes rest' call' starts' may frees) calls rest starts = absurd (not_both bytes call' calls rest' rest starts' starts)
-  at_batch _ _ _ _ _ _ (Next phase s bytes rest' call' pieces count end starts' may unfreed comes) calls rest starts = absurd (not_both bytes call' calls rest' rest starts' starts)
+  at_batch _ _ _ _ _ _ (CutState phase s bytes rest' call' starts' may short) calls rest starts = absurd (not_both bytes call' calls rest' rest starts' starts)
+  at_batch _ _ _ _ _ _ (Next phase s bytes rest' call' taken given more pieces count end starts' may unfreed parts whole gives comes) calls rest starts = absurd (not_both bytes call' calls rest' rest starts' starts)
   at_batch _ _ _ _ _ _ (NextBatch phase q s z bytes rest' calls' replies pieces count end starts' items comes) calls rest starts =
       let same = both_batches bytes calls' calls rest' rest starts' starts in
       moved_batch phase s calls' calls rest' rest (batch_of replies ∷ pieces) (length replies + count) end same.0 same.1 (Answers q z replies pieces count end items comes)
@@ -230,7 +240,8 @@ module _ (shape : Shape) (m : Machine) where
   at_end _ _ _ _ _ _ (Forbidden phase s bytes rest call starts cannot) empty = absurd (no_bytes (inl starts.frame) starts.front rest starts.spelled (sym empty ∙ starts.both))
   at_end _ _ _ _ _ _ (ForbiddenItem phase s bytes rest calls call starts forbidden) empty = absurd (no_bytes (inr (length starts.batch.frames)) starts.front rest (batch_starts bytes calls rest starts) (sym empty ∙ starts.both))
   at_end _ _ _ _ _ _ (Last phase s bytes rest call starts may frees) empty = absurd (no_bytes (inl starts.frame) starts.front rest starts.spelled (sym empty ∙ starts.both))
-  at_end _ _ _ _ _ _ (Next phase s bytes rest call pieces count end starts may unfreed comes) empty = absurd (no_bytes (inl starts.frame) starts.front rest starts.spelled (sym empty ∙ starts.both))
+  at_end _ _ _ _ _ _ (CutState phase s bytes rest call starts may short) empty = absurd (no_bytes (inl starts.frame) starts.front rest starts.spelled (sym empty ∙ starts.both))
+  at_end _ _ _ _ _ _ (Next phase s bytes rest call taken given more pieces count end starts may unfreed parts whole gives comes) empty = absurd (no_bytes (inl starts.frame) starts.front rest starts.spelled (sym empty ∙ starts.both))
   at_end _ _ _ _ _ _ (NextBatch phase q s z bytes rest calls replies pieces count end starts items comes) empty = absurd (no_bytes (inr (length starts.batch.frames)) starts.front rest (batch_starts bytes calls rest starts) (sym empty ∙ starts.both))
 
   at_break : (phase : Phase) (s : MachineState) (bytes : List ℕ) (pieces : List (List ℕ)) (count : ℕ) (end : ServeEnd) → Comes shape m phase s bytes pieces count end →
@@ -241,7 +252,8 @@ module _ (shape : Shape) (m : Machine) where
   at_break _ _ _ _ _ _ (Forbidden phase s bytes rest call starts cannot) place breaks = absurd (no_break (inl starts.frame) starts.front rest bytes place starts.spelled starts.both breaks)
   at_break _ _ _ _ _ _ (ForbiddenItem phase s bytes rest calls call starts forbidden) place breaks = absurd (no_break (inr (length starts.batch.frames)) starts.front rest bytes place (batch_starts bytes calls rest starts) starts.both breaks)
   at_break _ _ _ _ _ _ (Last phase s bytes rest call starts may frees) place breaks = absurd (no_break (inl starts.frame) starts.front rest bytes place starts.spelled starts.both breaks)
-  at_break _ _ _ _ _ _ (Next phase s bytes rest call pieces count end starts may unfreed comes) place breaks = absurd (no_break (inl starts.frame) starts.front rest bytes place starts.spelled starts.both breaks)
+  at_break _ _ _ _ _ _ (CutState phase s bytes rest call starts may short) place breaks = absurd (no_break (inl starts.frame) starts.front rest bytes place starts.spelled starts.both breaks)
+  at_break _ _ _ _ _ _ (Next phase s bytes rest call taken given more pieces count end starts may unfreed parts whole gives comes) place breaks = absurd (no_break (inl starts.frame) starts.front rest bytes place starts.spelled starts.both breaks)
   at_break _ _ _ _ _ _ (NextBatch phase q s z bytes rest calls replies pieces count end starts items comes) place breaks = absurd (no_break (inr (length starts.batch.frames)) starts.front rest bytes place (batch_starts bytes calls rest starts) starts.both breaks)
 
   at_cut : (phase : Phase) (s : MachineState) (bytes : List ℕ) (pieces : List (List ℕ)) (count : ℕ) (end : ServeEnd) → Comes shape m phase s bytes pieces count end →
@@ -252,16 +264,17 @@ module _ (shape : Shape) (m : Machine) where
   at_cut _ _ _ _ _ _ (Forbidden phase s bytes rest call starts cannot) some cut = absurd (no_cut (inl starts.frame) starts.front rest bytes starts.spelled starts.both cut)
   at_cut _ _ _ _ _ _ (ForbiddenItem phase s bytes rest calls call starts forbidden) some cut = absurd (no_cut (inr (length starts.batch.frames)) starts.front rest bytes (batch_starts bytes calls rest starts) starts.both cut)
   at_cut _ _ _ _ _ _ (Last phase s bytes rest call starts may frees) some cut = absurd (no_cut (inl starts.frame) starts.front rest bytes starts.spelled starts.both cut)
-  at_cut _ _ _ _ _ _ (Next phase s bytes rest call pieces count end starts may unfreed comes) some cut = absurd (no_cut (inl starts.frame) starts.front rest bytes starts.spelled starts.both cut)
+  at_cut _ _ _ _ _ _ (CutState phase s bytes rest call starts may short) some cut = absurd (no_cut (inl starts.frame) starts.front rest bytes starts.spelled starts.both cut)
+  at_cut _ _ _ _ _ _ (Next phase s bytes rest call taken given more pieces count end starts may unfreed parts whole gives comes) some cut = absurd (no_cut (inl starts.frame) starts.front rest bytes starts.spelled starts.both cut)
   at_cut _ _ _ _ _ _ (NextBatch phase q s z bytes rest calls replies pieces count end starts items comes) some cut = absurd (no_cut (inr (length starts.batch.frames)) starts.front rest bytes (batch_starts bytes calls rest starts) starts.both cut)
 
 -- ---- one frame that was served
 
 -- a call that was taken stands at the start of the bytes
-starts : (old new : Scene) (pieces : List (List ℕ)) (count : ℕ) (end : ServeEnd) (tells : Tells old pieces count end) (call : Call) (read : TakesCall old.input new.input call) →
-    StartsWith tells.bytes call (left_of old.input.left new.input.left tells.bytes read.bytes tells.has read.takes.taken).rest
+starts : (old : Scene) (new : SourceView) (pieces : List (List ℕ)) (count : ℕ) (end : ServeEnd) (tells : Tells old pieces count end) (call : Call) (read : TakesCall old.input new call) →
+    StartsWith tells.bytes call (left_of old.input.left new.left tells.bytes read.bytes tells.has read.takes.taken).rest
 starts old new pieces count end tells call read =
-    record { frame = read.frame; front = read.bytes; spelled = read.spelled; is = read.is; both = (left_of old.input.left new.input.left tells.bytes read.bytes tells.has read.takes.taken).both }
+    record { frame = read.frame; front = read.bytes; spelled = read.spelled; is = read.is; both = (left_of old.input.left new.left tells.bytes read.bytes tells.has read.takes.taken).both }
 
 -- and so do the calls of a batch
 starts_many : (old new : Scene) (pieces : List (List ℕ)) (count : ℕ) (end : ServeEnd) (tells : Tells old pieces count end) (calls : List Call) (read : TakesCalls old new calls) →
@@ -280,17 +293,101 @@ record Further (old new : Scene) (many : ℕ) (pieces : List (List ℕ)) (count 
   tells : Tells new rest left end
   puts : with_pieces new.output rest ≡ with_pieces old.output pieces
 
+-- ---- a call with the bytes that follow it
+
+record SameParts (xs ys u v : List ℕ) : Type 0 where
+  front : xs ≡ ys
+  rest : u ≡ v
+
+-- what is parted at one place is parted in one way
+same_parts : (xs ys u v bytes : List ℕ) → bytes ≡ xs ++ u → bytes ≡ ys ++ v → length xs ≡ length ys → SameParts xs ys u v
+same_parts xs ys u v bytes first second long = record {
+  front = sym (ahead xs u bytes first) ∙ ap (λ (n : ℕ). take n bytes) long ∙ ahead ys v bytes second;
+  rest = sym (behind xs u bytes first) ∙ ap (λ (n : ℕ). drop n bytes) long ∙ behind ys v bytes second;
+}
+
+-- what the machine answers to it
+record Heard (m : Machine) (s : MachineState) (call : Call) (taken : List ℕ) (reply : Reply) (given : List ℕ) (old new : View) : Type 0 where
+  looks : reply ≡ reply_to m s call taken
+  leads : new.state ≡ Some (leads_to m s call taken)
+  gives : Gives m s call given
+  fixed : new.fixed ≡ old.fixed
+  phase : new.phase ≡ next_of old.fixed.shape old.phase call (Some reply)
+
+-- the bytes that follow the reply to a Serialize are those of the state in the slot
+packed : (m : Machine) (s : MachineState) (old : View) (reply : Reply) (given : List ℕ) → old.fixed.machine ≡ Some m → old.state ≡ Some s → reply ≡ m.look s C.Serialize → IsFollowedBy old reply given → Gives m s C.Serialize given
+packed m s old reply given is_machine in_state looks h = (
+  h.count ∙ ap bytes_behind looks,
+  subst (λ (r : Reply). ArePacked (Some m) (Some s) r given) looks
+      (subst (λ (b : Option MachineState). ArePacked (Some m) b reply given) in_state
+      (subst (λ (a : Option Machine). ArePacked a old.state reply given) is_machine h.packed)),
+)
+
+heard : (m : Machine) (s : MachineState) (old new : View) (call : Call) (taken : List ℕ) (reply : Reply) (given : List ℕ) → old.fixed.machine ≡ Some m → old.state ≡ Some s → IsAsked old call taken reply new → IsGiven old call reply given →
+    Heard m s call taken reply given old new
+heard m s old new C.Serialize taken reply given is_machine in_state asked is =
+    let a = answered old.fixed.machine old.state new.state m s C.Serialize reply is_machine in_state asked.state in
+    record { looks = a.looks; leads = a.leads; gives = packed m s old reply given is_machine in_state a.looks is; fixed = asked.fixed; phase = asked.phase }
+heard m s old new (C.Deserialize count point stop) taken reply given is_machine in_state asked is =
+    let a = took_in old.fixed.machine old.state new.state m s (C.Deserialize count point stop) taken reply is_machine in_state asked.state in
+    record { looks = a.0; leads = a.1; gives = is; fixed = asked.fixed; phase = asked.phase }
+heard m s old new call taken reply given is_machine in_state asked is =
+    let a = answered old.fixed.machine old.state new.state m s call reply is_machine in_state asked.state in
+    record { looks = a.looks; leads = a.leads; gives = is; fixed = asked.fixed; phase = asked.phase }
+
+some_same : (a b : List ℕ) → Some a ≡ Some b → a ≡ b
+some_same a b e = cc
+
+no_length : (xs : List ℕ) → length xs ≡ 0 → xs ≡ []
+no_length [] e = refl
+no_length (x ∷ xs) e = absurd (omega (arith, e))
+
+-- so they are told once
+given_once : (m : Machine) (s : MachineState) (reply : Reply) (a b : List ℕ) → length a ≡ bytes_behind reply → ArePacked (Some m) (Some s) reply a → length b ≡ bytes_behind reply → ArePacked (Some m) (Some s) reply b → a ≡ b
+given_once m s (R.Done is_warning (A.Serialize count)) a b long p other q = some_same a b (sym p ∙ q)
+given_once m s reply a b long p other q = no_length a long ∙ sym (no_length b other)
+
+same_given : (m : Machine) (s : MachineState) (call : Call) (a b : List ℕ) → Gives m s call a → Gives m s call b → a ≡ b
+same_given m s C.Serialize a b one other = given_once m s (m.look s C.Serialize) a b one.0 one.1 other.0 other.1
+same_given m s call a b one other = one ∙ sym other
+
+-- the pieces of the bytes that follow a frame, and others after them
+with_pieces_state : (view : SinkView) (given : List ℕ) (pieces : List (List ℕ)) → with_pieces (with_state view given) pieces ≡ with_pieces view (state_pieces given ++ pieces)
+with_pieces_state view [] pieces = refl
+with_pieces_state view (x ∷ xs) pieces = refl
+
 -- the frame that was put is that of the machine's reply
-one_frame : (old new : Scene) (served : Served) (looked : Reply) → ServesOne old new served → served.reply ≡ looked → new.output ≡ with_piece old.output (frame_of (as_sent served.call looked))
-one_frame old new served looked one is = one.put ∙ ap (with_piece old.output) (one.spelled.spelled ∙ ap (λ (r : Reply). frame_of (as_sent served.call r)) is)
+one_frame : (old new : Scene) (served : Served) (looked : Reply) → ServesOne old new served → served.reply ≡ looked → new.output ≡ with_state (with_piece old.output (frame_of (as_sent served.call looked))) served.given
+one_frame old new served looked one is =
+    one.put ∙ ap (λ (l : List ℕ). with_state (with_piece old.output l) served.given) (one.spelled.spelled ∙ ap (λ (r : Reply). frame_of (as_sent served.call r)) is)
+
+-- what was taken of the bytes: the frame, and the bytes that follow it
+module _ (old new : Scene) (pieces : List (List ℕ)) (count : ℕ) (end : ServeEnd) (tells : Tells old pieces count end) (call : Call) (taken : List ℕ) (read : TakesWhole old.input new.input call taken) where
+  abbrev framed : Left read.mid.left tells.bytes read.frame.bytes
+  framed = left_of old.input.left read.mid.left tells.bytes read.frame.bytes tells.has read.frame.takes.taken
+
+  abbrev follows : Left new.input.left framed.rest taken
+  follows = left_of read.mid.left new.input.left framed.rest taken framed.has read.follow.taken
+
+  here : AtCall old.machine.fixed.shape tells.machine old.machine.phase tells.state call framed.rest pieces count end
+  here = at_call old.machine.fixed.shape tells.machine old.machine.phase tells.state tells.bytes pieces count end tells.comes call framed.rest (starts old read.mid pieces count end tells call read.frame)
+
+  -- all were there
+  not_cut : length framed.rest < bytes_after call → ⊥
+  not_cut short = let whole = ap length follows.both ∙ length-append taken follows.rest in let all = read.all in omega (arith, short, whole, all)
+
+heard_here : (old new : Scene) (served : Served) (pieces : List (List ℕ)) (count : ℕ) (end : ServeEnd) (tells : Tells old pieces count end) → IsAnswered old new served →
+    Heard tells.machine tells.state served.call served.taken served.reply served.given old.machine new.machine
+heard_here old new served pieces count end tells a =
+    heard tells.machine tells.state old.machine new.machine served.call served.taken served.reply served.given tells.is_machine tells.in_state a.asked a.given
 
 further_one : (old new : Scene) (served : Served) (pieces : List (List ℕ)) (count : ℕ) (end : ServeEnd) → ServesOne old new served → served.call ≢ C.FreeInstance → Tells old pieces count end → Further old new 1 pieces count end
-further_one old new served pieces count end one unfreed tells = by_call pieces count end (at_call shape m old.machine.phase s tells.bytes pieces count end tells.comes call left.rest (starts old new pieces count end tells call read))
+further_one old new served pieces count end one unfreed tells = by_call pieces count end (here old new pieces count end tells call served.taken read)
   where
     call : Call
     call = served.call
 
-    read : TakesCall old.input new.input served.call
+    read : TakesWhole old.input new.input served.call served.taken
     read = one.answered.read
 
     shape : Shape
@@ -302,34 +399,42 @@ further_one old new served pieces count end one unfreed tells = by_call pieces c
     s : MachineState
     s = tells.state
 
-    left : Left new.input.left tells.bytes read.bytes
-    left = left_of old.input.left new.input.left tells.bytes read.bytes tells.has read.takes.taken
+    first : Left read.mid.left tells.bytes read.frame.bytes
+    first = framed old new pieces count end tells call served.taken read
 
-    answer : Answer served.reply (m.look s served.call) new.machine.state (after m s served.call)
-    answer = answered old.machine.fixed.machine old.machine.state new.machine.state m s served.call served.reply tells.is_machine tells.in_state one.answered.asked.state
+    left : Left new.input.left first.rest served.taken
+    left = follows old new pieces count end tells call served.taken read
 
-    by_call : (pieces : List (List ℕ)) (count : ℕ) (end : ServeEnd) → AtCall shape m old.machine.phase s call left.rest pieces count end → Further old new 1 pieces count end
+    answer : Heard m s served.call served.taken served.reply served.given old.machine new.machine
+    answer = heard_here old new served pieces count end tells one.answered
+
+    by_call : (pieces : List (List ℕ)) (count : ℕ) (end : ServeEnd) → AtCall shape m old.machine.phase s call first.rest pieces count end → Further old new 1 pieces count end
     by_call _ _ _ (Refuses cannot) = absurd (cannot one.answered.permitted)
     by_call _ _ _ (Frees may frees) = absurd (unfreed frees)
-    by_call _ _ _ (Goes rest many end may unfreed comes) =
-        let asked = one.answered.asked in
-        let same_shape : new.machine.fixed.shape ≡ shape = ap (λ f. f.shape) asked.fixed in
-        let same_phase : new.machine.phase ≡ next_of shape old.machine.phase call (Some (m.look s call)) = asked.phase ∙ ap (λ (r : Reply). next_of shape old.machine.phase call (Some r)) answer.looks in
+    by_call _ _ _ (Cuts may short) = absurd (not_cut old new _ _ _ tells call served.taken read short)
+    by_call _ _ _ (Goes taken given more rest many end may unfreed' parts whole gives comes) =
+        let same = same_parts taken served.taken more left.rest first.rest parts left.both (whole ∙ sym read.all) in
+        let state_is : leads_to m s call taken ≡ leads_to m s call served.taken = ap (leads_to m s call) same.front in
+        let reply_is : reply_to m s call taken ≡ served.reply = ap (reply_to m s call) same.front ∙ sym answer.looks in
+        let given_is : given ≡ served.given = same_given m s call given served.given gives answer.gives in
+        let same_shape : new.machine.fixed.shape ≡ shape = ap (λ f. f.shape) answer.fixed in
+        let same_phase : new.machine.phase ≡ next_of shape old.machine.phase call (Some (reply_to m s call taken)) = answer.phase ∙ ap (λ (r : Reply). next_of shape old.machine.phase call (Some r)) (sym reply_is) in
         record {
           rest = rest;
           left = many;
           count_is = refl;
           tells = record {
             machine = m;
-            state = after m s call;
-            bytes = left.rest;
-            is_machine = ap (λ f. f.machine) asked.fixed ∙ tells.is_machine;
-            in_state = answer.leads;
-            has = left.has;
-            comes = subst (λ (sh : Shape). Comes sh m new.machine.phase (after m s call) left.rest rest many end) (sym same_shape)
-                (subst (λ (p : Phase). Comes shape m p (after m s call) left.rest rest many end) (sym same_phase) comes);
+            state = leads_to m s call taken;
+            bytes = more;
+            is_machine = ap (λ f. f.machine) answer.fixed ∙ tells.is_machine;
+            in_state = answer.leads ∙ ap Some (sym state_is);
+            has = left.has ∙ ap Some (sym same.rest);
+            comes = subst (λ (sh : Shape). Comes sh m new.machine.phase (leads_to m s call taken) more rest many end) (sym same_shape)
+                (subst (λ (p : Phase). Comes shape m p (leads_to m s call taken) more rest many end) (sym same_phase) comes);
           };
-          puts = ap (λ (v : SinkView). with_pieces v rest) (one_frame old new served (m.look s call) one answer.looks);
+          puts = ap (λ (v : SinkView). with_pieces v rest) (one_frame old new served (reply_to m s call taken) one (sym reply_is) ∙ ap (with_state (with_piece old.output (frame_of (as_sent call (reply_to m s call taken))))) (sym given_is))
+              ∙ with_pieces_state (with_piece old.output (frame_of (as_sent call (reply_to m s call taken)))) given rest;
         }
 
 further_many : (old new : Scene) (calls : List Call) (replies : List Reply) (pieces : List (List ℕ)) (count : ℕ) (end : ServeEnd) → ServesMany old new calls replies → Tells old pieces count end →
@@ -400,19 +505,30 @@ stays old new pieces end other over still =
 
 module _ (old new : Scene) (pieces : List (List ℕ)) (count : ℕ) (end : ServeEnd) (tells : Tells old pieces count end) where
   freed : (served : Served) → ServesOne old new served → served.call ≡ C.FreeInstance → KeepsTo old new E.Freed pieces end
-  freed served one frees = by_call pieces count end (at_call old.machine.fixed.shape tells.machine old.machine.phase tells.state tells.bytes pieces count end tells.comes served.call left.rest
-      (starts old new pieces count end tells served.call one.answered.read))
+  freed served one frees = by_call pieces count end (here old new pieces count end tells served.call served.taken one.answered.read)
     where
-      left : Left new.input.left tells.bytes one.answered.read.bytes
-      left = left_of old.input.left new.input.left tells.bytes one.answered.read.bytes tells.has one.answered.read.takes.taken
+      first : Left one.answered.read.mid.left tells.bytes one.answered.read.frame.bytes
+      first = framed old new pieces count end tells served.call served.taken one.answered.read
 
-      answer : Answer served.reply (tells.machine.look tells.state served.call) new.machine.state (after tells.machine tells.state served.call)
-      answer = answered old.machine.fixed.machine old.machine.state new.machine.state tells.machine tells.state served.call served.reply tells.is_machine tells.in_state one.answered.asked.state
+      answer : Heard tells.machine tells.state served.call served.taken served.reply served.given old.machine new.machine
+      answer = heard_here old new served pieces count end tells one.answered
 
-      by_call : (pieces : List (List ℕ)) (count : ℕ) (end : ServeEnd) → AtCall old.machine.fixed.shape tells.machine old.machine.phase tells.state served.call left.rest pieces count end → KeepsTo old new E.Freed pieces end
+      -- nothing follows its reply, and the reply is its look
+      alone : (call : Call) (given : List ℕ) → call ≡ C.FreeInstance → Gives tells.machine tells.state call given → given ≡ []
+      alone call given is gives = subst (λ (c : Call). Gives tells.machine tells.state c given) is gives
+
+      looked : (call : Call) (taken : List ℕ) → call ≡ C.FreeInstance → reply_to tells.machine tells.state call taken ≡ tells.machine.look tells.state call
+      looked call taken is = subst (λ (c : Call). reply_to tells.machine tells.state c taken ≡ tells.machine.look tells.state c) (sym is) refl
+
+      by_call : (pieces : List (List ℕ)) (count : ℕ) (end : ServeEnd) → AtCall old.machine.fixed.shape tells.machine old.machine.phase tells.state served.call first.rest pieces count end → KeepsTo old new E.Freed pieces end
       by_call _ _ _ (Refuses cannot) = absurd (cannot one.answered.permitted)
-      by_call _ _ _ (Frees may is) = record { ends = refl; output = one_frame old new served (tells.machine.look tells.state served.call) one answer.looks }
-      by_call _ _ _ (Goes rest more end may unfreed comes) = absurd (unfreed frees)
+      by_call _ _ _ (Frees may is) = record {
+        ends = refl;
+        output = one_frame old new served (tells.machine.look tells.state served.call) one (answer.looks ∙ looked served.call served.taken frees)
+            ∙ ap (with_state (with_piece old.output (frame_of (as_sent served.call (tells.machine.look tells.state served.call))))) (alone served.call served.given frees answer.gives);
+      }
+      by_call _ _ _ (Cuts may short) = absurd (not_cut old new _ _ _ tells served.call served.taken one.answered.read short)
+      by_call _ _ _ (Goes taken given more rest many end may unfreed parts whole gives comes) = absurd (unfreed frees)
 
   ended : EndsBetween old.input new.input → IsStill old new → KeepsTo old new E.Ended pieces end
   ended between still =
@@ -438,9 +554,44 @@ module _ (old new : Scene) (pieces : List (List ℕ)) (count : ℕ) (end : Serve
   no_frame at (inl bad) still = broken at bad still
   no_frame at (inr inside) still = cut_short at inside still
 
+  -- inside the bytes that follow a frame
+  cut_behind : (call : Call) (at : ℕ) → Permitted old.machine.fixed.shape old.machine.phase call → EndsInState old.input new.input call at → IsStill old new → KeepsTo old new (E.BadFrame at) pieces end
+  cut_behind call at may inside still =
+      by_call pieces count end (at_call old.machine.fixed.shape tells.machine old.machine.phase tells.state tells.bytes pieces count end tells.comes call first.rest (starts old inside.mid pieces count end tells call inside.frame))
+    where
+      first : Left inside.mid.left tells.bytes inside.frame.bytes
+      first = left_of old.input.left inside.mid.left tells.bytes inside.frame.bytes tells.has inside.frame.takes.taken
+
+      left : Left new.input.left first.rest inside.ends.state
+      left = left_of inside.mid.left new.input.left first.rest inside.ends.state first.has inside.ends.takes.taken
+
+      all : first.rest ≡ inside.ends.state
+      all = all_taken new.input.left first.rest inside.ends.state left inside.ends.at_end
+
+      as_many : length first.rest ≡ inside.count
+      as_many = ap length all ∙ sym inside.ends.count_is
+
+      -- no more follows the frame
+      short : length first.rest < bytes_after call
+      short = let few = inside.ends.short in let many = ap length all in omega (arith, few, many)
+
+      unfreed : call ≡ C.FreeInstance → ⊥
+      unfreed is = let none : bytes_after call ≡ 0 = ap bytes_after is in let few = short in omega (arith, none, few)
+
+      by_call : (pieces : List (List ℕ)) (count : ℕ) (end : ServeEnd) → AtCall old.machine.fixed.shape tells.machine old.machine.phase tells.state call first.rest pieces count end → KeepsTo old new (E.BadFrame at) pieces end
+      by_call _ _ _ (Refuses cannot) = absurd (cannot may)
+      by_call _ _ _ (Frees may' is) = absurd (unfreed is)
+      by_call _ _ _ (Cuts may' short') = record { ends = ap (λ (n : ℕ). E.BadFrame n) (inside.at_is ∙ ap (λ (n : ℕ). 24 + n) (sym as_many)); output = still.output }
+      by_call _ _ _ (Goes taken given more rest many end may' unfreed' parts whole gives comes) =
+          let long = ap length parts ∙ length-append taken more in let few = short in absurd (omega (arith, few, long, whole))
+
+  lacks_frame : (at : ℕ) → LacksFrame old new at → IsStill old new → KeepsTo old new (E.BadFrame at) pieces end
+  lacks_frame at (inl none) still = no_frame at none still
+  lacks_frame at (inr (call, may, inside)) still = cut_behind call at may inside still
+
   forbidden : (call : Call) → TakesCall old.input new.input call → (Permitted old.machine.fixed.shape old.machine.phase call → ⊥) → IsStill old new → KeepsTo old new (E.NotPermitted call) pieces end
   forbidden call read cannot still =
-      by_call pieces count end (at_call old.machine.fixed.shape tells.machine old.machine.phase tells.state tells.bytes pieces count end tells.comes call left.rest (starts old new pieces count end tells call read))
+      by_call pieces count end (at_call old.machine.fixed.shape tells.machine old.machine.phase tells.state tells.bytes pieces count end tells.comes call left.rest (starts old new.input pieces count end tells call read))
     where
       left : Left new.input.left tells.bytes read.bytes
       left = left_of old.input.left new.input.left tells.bytes read.bytes tells.has read.takes.taken
@@ -448,7 +599,8 @@ module _ (old new : Scene) (pieces : List (List ℕ)) (count : ℕ) (end : Serve
       by_call : (pieces : List (List ℕ)) (count : ℕ) (end : ServeEnd) → AtCall old.machine.fixed.shape tells.machine old.machine.phase tells.state call left.rest pieces count end → KeepsTo old new (E.NotPermitted call) pieces end
       by_call _ _ _ (Refuses refused) = record { ends = refl; output = still.output }
       by_call _ _ _ (Frees may is) = absurd (cannot may)
-      by_call _ _ _ (Goes rest more end may unfreed comes) = absurd (cannot may)
+      by_call _ _ _ (Cuts may short) = absurd (cannot may)
+      by_call _ _ _ (Goes taken given more rest many end may unfreed parts whole gives comes) = absurd (cannot may)
 
   -- a call of a batch
   forbidden_item : (calls : List Call) (call : Call) → TakesCalls old new calls → ForbidsOne old.machine new.machine calls call → new.output ≡ old.output → KeepsTo old new (E.NotPermitted call) pieces end
@@ -478,7 +630,7 @@ module _ (old new : Scene) (pieces : List (List ℕ)) (count : ℕ) (end : Serve
   by_end : (result : ServeEnd) → result ≢ E.TooMany → EndsBy old new result → MayKeepTo old new result pieces end
   by_end E.Freed few h = inl (freed h.0 h.1 h.2)
   by_end E.Ended few h = inl (ended h.0 h.1)
-  by_end (E.BadFrame at) few h = inl (no_frame at h.0 h.1)
+  by_end (E.BadFrame at) few h = inl (lacks_frame at h.0 h.1)
   by_end (E.NotPermitted call) few h = inl (forbids call h)
   by_end E.Failed few h = inr (inl refl)
   by_end E.TooMany few h = absurd (few refl)

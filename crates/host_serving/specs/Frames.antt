@@ -6,12 +6,15 @@ use Rattle.sim_base.specs.Causes.{Rose}
 use Rattle.sim_base.specs.Source.{SourceView}
 use Rattle.fmi_calls.specs.Kinds.{kind_of}
 use Rattle.fmi_calls.specs.declared.call.Call.{Call}
+use Rattle.fmi_calls.specs.declared.call.Call.TheVariants as C
 use Rattle.link_frames.specs.declared.call.CallFrame.{CallFrame}
 use Rattle.link_frames.specs.Batch.{IsBatch, IsCallBatch}
 use Rattle.link_frames.specs.Call.{IsCallFrame}
 use Rattle.exact_parts.specs.Taking.{Breaks, IsFront}
 use Rattle.host_serving.specs.declared.reading.NextFrame.{NextFrame}
 use Rattle.host_serving.specs.declared.reading.NextFrame.TheVariants.{Came, Batch, AtEnd, Bad, Failed, Memory}
+use Rattle.host_serving.specs.declared.state.NextState.{NextState}
+use Rattle.host_serving.specs.declared.state.NextState.TheVariants as S
 
 -- ---- frames of both kinds
 
@@ -78,6 +81,55 @@ ComesTo old new room AtEnd = EndsBetween old new
 ComesTo old new room (Bad at) = IsNoFrame old new at
 ComesTo old new room Failed = Rose old.faults new.faults
 ComesTo old new room Memory = Unit {0}
+
+-- ---- the bytes of a state
+
+-- how many bytes follow the frame of a call: those of the state that Deserialize brings
+abbrev pub bytes_after : Call → ℕ
+bytes_after (C.Deserialize length point stop) = length
+bytes_after call = 0
+
+-- a whole frame of the call was taken, and then the bytes that follow it, and no byte after these
+pub record TakesWhole (old new : SourceView) (call : Call) (state : List ℕ) : Type 0 where
+  pub mid : SourceView
+  pub frame : TakesCall old mid call
+  pub follow : Takes mid new state
+  pub all : length state ≡ bytes_after call
+
+-- fewer bytes were to come, of which so many are gone
+pub record EndsBefore (old new : SourceView) (wanted count : ℕ) : Type 0 where
+  pub state : List ℕ
+  pub takes : Takes old new state
+  pub at_end : IsAtEnd new.left
+  pub short : length state < wanted
+  pub count_is : count ≡ length state
+
+-- the bytes end inside those that follow the frame of the call, of which with its frame so many are there
+pub record EndsInState (old new : SourceView) (call : Call) (at : ℕ) : Type 0 where
+  pub mid : SourceView
+  pub frame : TakesCall old mid call
+  pub count : ℕ
+  pub ends : EndsBefore mid new (bytes_after call) count
+  pub at_is : at ≡ 24 + count
+
+-- so many bytes are to be taken: they are the state; or the bytes end before; or a take failed
+abbrev pub BringsState : SourceView → SourceView → ℕ → NextState → Type 0
+BringsState old new wanted (S.Came state) =
+    Takes old new state.items × (length state.items ≡ wanted)
+BringsState old new wanted (S.Short count) = EndsBefore old new wanted count
+BringsState old new wanted S.Failed = Rose old.faults new.faults
+BringsState old new wanted S.Memory = Unit {0}
+
+-- some bytes more come after those of the state: as many as there is room for, or fewer where the bytes end
+pub record Gains (old new : SourceView) (before after : List ℕ) (room count : ℕ) : Type 0 where
+  pub part : List ℕ
+  pub takes : Takes old new part
+  pub joined : after ≡ before ++ part
+  pub size : length part ≡ count
+  pub within : count ≤ room
+  pub at_end : count < room → IsAtEnd new.left
+
+-- ---- rooms
 
 -- a call stands at this place of a batch in a room
 abbrev pub IsItem : List ℕ → ℕ → Type 0

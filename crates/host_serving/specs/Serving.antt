@@ -11,13 +11,13 @@ use Rattle.fmi_calls.specs.declared.call.Reply.{Reply}
 use Rattle.fmi_calls.specs.declared.call.Reply.TheVariants as R
 use Rattle.fmi_calls.specs.Kinds.{kind_of, kind_of_reply}
 use Rattle.link_frames.specs.Batch.{IsBatch}
-use Rattle.link_frames.specs.Reply.{IsReplyFrame}
+use Rattle.link_frames.specs.Reply.{CanBeTold, IsReplyFrame}
 use Rattle.fmu_peer.specs.Many.{AnsweredFirst, Talks, exchanges}
 use Rattle.fmu_peer.specs.Talk.{AllGood}
-use Rattle.fmu_peer.specs.View.{View, Asked}
+use Rattle.fmu_peer.specs.View.{View, Asked, AskedWith, IsFollowedBy}
 use Rattle.host_serving.specs.declared.serving.ServeEnd.{ServeEnd}
 use Rattle.host_serving.specs.declared.serving.ServeEnd.TheVariants as E
-use Rattle.host_serving.specs.Frames.{EndsBetween, IsBatchOfCalls, IsNoFrame, Takes, TakesCall}
+use Rattle.host_serving.specs.Frames.{EndsBetween, EndsInState, IsBatchOfCalls, IsNoFrame, Takes, TakesCall, TakesWhole}
 use Rattle.host_serving.specs.declared.serving.Next.{Next}
 use Rattle.host_serving.specs.declared.serving.Next.TheVariants as N
 
@@ -30,10 +30,12 @@ pub record Scene : Type 0 where
 abbrev pub scene : SourceView → SinkView → View → Scene
 scene input output machine = record { input = input; output = output; machine = machine }
 
--- a call with its reply
+-- a call with its reply, and with the bytes that follow the one, and those that follow the other
 pub record Served : Type 0 where
   pub call : Call
+  pub taken : List ℕ
   pub reply : Reply
+  pub given : List ℕ
 
 -- ---- a single call
 
@@ -43,18 +45,35 @@ as_sent (C.Instantiate event_mode early_return true) (R.Done is_warning (A.Insta
     R.Done is_warning (A.Instantiate true)
 as_sent call reply = reply
 
--- the next frame is that of a call which is permitted, and the FMU was asked it alone, with this reply
-pub record IsAnswered (old new : Scene) (served : Served) : Type 0 where
-  pub read : TakesCall old.input new.input served.call
-  pub permitted : Permitted old.machine.fixed.shape old.machine.phase served.call
-  pub asked : Asked old.machine served.call (Ok served.reply) new.machine
+-- the FMU was asked the call alone, a Deserialize with the bytes that follow it, and gave this reply
+abbrev pub IsAsked : View → Call → List ℕ → Reply → View → Type 0
+IsAsked old (C.Deserialize length point stop) taken reply new =
+    AskedWith old (C.Deserialize length point stop) taken (Ok reply) new
+IsAsked old call taken reply new = Asked old call (Ok reply) new
 
--- and the reply's frame was put, in one piece
+-- these bytes follow the reply: those of a state that of a Serialize, and none any other
+abbrev pub IsGiven : View → Call → Reply → List ℕ → Type 0
+IsGiven old C.Serialize reply given = IsFollowedBy old reply given
+IsGiven old call reply given = given ≡ []
+
+-- the next frame is that of a call which is permitted, and the FMU was asked it alone, with the bytes that follow it, and gave this reply and the bytes that follow that
+pub record IsAnswered (old new : Scene) (served : Served) : Type 0 where
+  pub read : TakesWhole old.input new.input served.call served.taken
+  pub permitted : Permitted old.machine.fixed.shape old.machine.phase served.call
+  pub asked : IsAsked old.machine served.call served.taken served.reply new.machine
+  pub given : IsGiven old.machine served.call served.reply served.given
+
+-- the bytes that follow a frame are one more piece, and where there are none so is nothing
+abbrev pub with_state : SinkView → List ℕ → SinkView
+with_state view [] = view
+with_state view (byte ∷ bytes) = with_piece view (byte ∷ bytes)
+
+-- and the reply's frame was put, in one piece, and the bytes that follow it in another
 pub record ServesOne (old new : Scene) (served : Served) : Type 0 where
   pub answered : IsAnswered old new served
   pub piece : List ℕ
   pub spelled : IsReplyFrame (as_sent served.call served.reply) piece
-  pub put : new.output ≡ with_piece old.output piece
+  pub put : new.output ≡ with_state (with_piece old.output piece) served.given
 
 -- ---- the calls of a batch
 
@@ -63,7 +82,7 @@ abbrev pub served_of : List Call → List Reply → List Served
 served_of [] replies = []
 served_of (call ∷ calls) [] = []
 served_of (call ∷ calls) (reply ∷ replies) =
-    record { call = call; reply = reply } ∷ served_of calls replies
+    record { call = call; taken = []; reply = reply; given = [] } ∷ served_of calls replies
 
 -- the next frame is the batch of these calls
 pub record TakesCalls (old new : Scene) (calls : List Call) : Type 0 where
@@ -138,14 +157,16 @@ pub record IsStill (old new : Scene) : Type 0 where
   pub output : new.output ≡ old.output
   pub machine : new.machine ≡ old.machine
 
--- a count of faults rose: that of the input; or of the FMU, to a call that was read; or of the output, at the frame of a reply; or a call of a batch got no reply that can be put
+-- a count of faults rose: that of the input; or of the FMU, to a call that was read; or of the output, at the frame of a reply or after it; or a call got a reply that no frame tells; or a call of a batch got no reply that can be put
 pub data LosesLink (old new : Scene) : Type 0 where
   OfInput : Rose old.input.faults new.input.faults → IsStill old new → LosesLink old new
-  OfMachine : (call : Call) → TakesCall old.input new.input call →
+  OfMachine : (call : Call) (taken : List ℕ) → TakesWhole old.input new.input call taken →
       Permitted old.machine.fixed.shape old.machine.phase call →
       Rose old.machine.faults new.machine.faults → new.output ≡ old.output → LosesLink old new
   OfOutput : (served : Served) → IsAnswered old new served →
       Rose old.output.faults new.output.faults → LosesLink old new
+  OfReply : (served : Served) → IsAnswered old new served → (CanBeTold served.reply → ⊥) →
+      new.output ≡ old.output → LosesLink old new
   OfItem : (calls : List Call) → TakesCalls old new calls →
       LosesOne old.machine new.machine calls → new.output ≡ old.output → LosesLink old new
   OfBatch : (calls : List Call) (replies : List Reply) → AreAnswered old new calls replies →
@@ -159,12 +180,19 @@ Forbids old new call =
     ((calls : List Call) × TakesCalls old new calls ×
     ForbidsOne old.machine new.machine calls call × (new.output ≡ old.output))
 
+-- no frame begins so; or the bytes end inside those that follow the frame of a call which is permitted
+abbrev pub LacksFrame : Scene → Scene → ℕ → Type 0
+LacksFrame old new at =
+    IsNoFrame old.input new.input at ⊎
+    ((call : Call) × Permitted old.machine.fixed.shape old.machine.phase call ×
+    EndsInState old.input new.input call at)
+
 -- what ends the serving, right after the calls that were served
 abbrev pub EndsBy : Scene → Scene → ServeEnd → Type 0
 EndsBy old new E.Freed =
     (served : Served) × ServesOne old new served × (served.call ≡ C.FreeInstance)
 EndsBy old new E.Ended = EndsBetween old.input new.input × IsStill old new
-EndsBy old new (E.BadFrame at) = IsNoFrame old.input new.input at × IsStill old new
+EndsBy old new (E.BadFrame at) = LacksFrame old new at × IsStill old new
 EndsBy old new (E.NotPermitted call) = Forbids old new call
 EndsBy old new E.Failed = LosesLink old new
 EndsBy old new E.TooMany = new ≡ old
@@ -180,6 +208,16 @@ Steps old new (N.Ends end) = (end ≢ E.TooMany) × EndsBy old new end
 abbrev pub EndsBehind : Call → Next → Type 0
 EndsBehind call (N.Served count) = (count ≡ 1) × (call ≢ C.FreeInstance)
 EndsBehind call (N.Ends end) = (end ≡ E.Freed) × (call ≡ C.FreeInstance)
+
+-- what became of a reply: it was put, and the bytes that follow it, and its call may end the serving; or a put failed; or no frame tells it
+pub data PutsReply (old new : SinkView) (call : Call) (reply : Reply) (given : List ℕ) : Next →
+    Type 0 where
+  IsPut : (piece : List ℕ) (next : Next) → IsReplyFrame (as_sent call reply) piece →
+      new ≡ with_state (with_piece old piece) given → EndsBehind call next →
+      PutsReply old new call reply given next
+  PutFails : Rose old.faults new.faults → PutsReply old new call reply given (N.Ends E.Failed)
+  Untold : (CanBeTold reply → ⊥) → new ≡ old →
+      PutsReply old new call reply given (N.Ends E.Failed)
 
 -- as many calls were served as are counted exactly where they were too many
 abbrev pub IsCounted : ServeEnd → ℕ → Type 0

@@ -12,15 +12,41 @@ use Rattle.link_frames.specs.Call.{IsCallFrame}
 use Rattle.link_frames.specs.Reply.{frame_of}
 use Rattle.exact_parts.specs.Taking.{Breaks, IsFront}
 use Rattle.link_frames.specs.declared.call.CallFrame.{CallFrame}
-use Rattle.fmu_peer.specs.Machine.{Machine, MachineState, after}
+use Rattle.fmu_peer.specs.Machine.{Machine, MachineState, after, bytes_behind, taken_in}
+use Rattle.fmu_peer.specs.View.{ArePacked}
 use Rattle.host_serving.specs.declared.serving.ServeEnd.{ServeEnd}
 use Rattle.host_serving.specs.declared.serving.ServeEnd.TheVariants as E
 use Rattle.fmi_calls.specs.Worth.{grade_of}
 use Rattle.fmi_calls.specs.declared.call.Grade.TheVariants as G
 use Rattle.link_frames.specs.Batch.{batch_head}
 use Rattle.link_frames.specs.Head.{spelling}
-use Rattle.host_serving.specs.Frames.{IsBatchOfCalls, IsLinkFrame}
+use Rattle.host_serving.specs.Frames.{IsBatchOfCalls, IsLinkFrame, bytes_after}
 use Rattle.host_serving.specs.Serving.{Scene, as_sent}
+
+-- ---- what a machine answers
+
+-- its reply to the call with the bytes that follow it
+abbrev pub reply_to : Machine → MachineState → Call → List ℕ → Reply
+reply_to m s (C.Deserialize length point stop) taken =
+    m.look_at s (C.Deserialize length point stop) taken
+reply_to m s call taken = m.look s call
+
+-- the state that it is in after that
+abbrev pub leads_to : Machine → MachineState → Call → List ℕ → MachineState
+leads_to m s (C.Deserialize length point stop) taken = taken_in m s taken
+leads_to m s call taken = after m s call
+
+-- these bytes follow its reply: those of the state in its slot, where the reply to a Serialize tells of it
+abbrev pub Gives : Machine → MachineState → Call → List ℕ → Type 0
+Gives m s C.Serialize given =
+    (length given ≡ bytes_behind (m.look s C.Serialize)) ×
+    ArePacked (Some m) (Some s) (m.look s C.Serialize) given
+Gives m s call given = given ≡ []
+
+-- the piece of the bytes that follow a frame, where there are some
+abbrev pub state_pieces : List ℕ → List (List ℕ)
+state_pieces [] = []
+state_pieces (byte ∷ bytes) = (byte ∷ bytes) ∷ []
 
 -- ---- what the bytes ask for
 
@@ -70,7 +96,7 @@ frames_of (reply ∷ replies) = frame_of reply ++ frames_of replies
 abbrev pub batch_of : List Reply → List ℕ
 batch_of replies = spelling (batch_head (length replies)) ++ frames_of replies
 
--- in this phase and this state of the machine the bytes come to these pieces, one for each frame that is served, for so many calls, and to this end: no byte is left; or one of them is the first that continues no frame; or they end inside a frame; or the next call isn't permitted, or one of the next batch; or it is FreeInstance, whatever follows; or it is another, or a batch, and what follows comes to the other pieces and to the end
+-- in this phase and this state of the machine the bytes come to these pieces, one for each frame that is served and one for each state that is given, for so many calls, and to this end: no byte is left; or one of them is the first that continues no frame; or they end inside a frame, or inside what follows it; or the next call isn't permitted, or one of the next batch; or it is FreeInstance, whatever follows; or it is another, or a batch, and what follows comes to the other pieces and to the end
 pub data Comes (shape : Shape) (m : Machine) : Phase → MachineState → List ℕ → List (List ℕ) → ℕ →
     ServeEnd → Type 0 where
   Over : (phase : Phase) (s : MachineState) → Comes shape m phase s [] [] 0 E.Ended
@@ -78,6 +104,9 @@ pub data Comes (shape : Shape) (m : Machine) : Phase → MachineState → List �
       Breaks IsLinkFrame bytes at → Comes shape m phase s bytes [] 0 (E.BadFrame at)
   CutFrame : (phase : Phase) (s : MachineState) (bytes : List ℕ) → 0 < length bytes →
       IsFront IsLinkFrame bytes → Comes shape m phase s bytes [] 0 (E.BadFrame (length bytes))
+  CutState : (phase : Phase) (s : MachineState) (bytes rest : List ℕ) (call : Call) →
+      StartsWith bytes call rest → Permitted shape phase call → length rest < bytes_after call →
+      Comes shape m phase s bytes [] 0 (E.BadFrame (24 + length rest))
   Forbidden : (phase : Phase) (s : MachineState) (bytes rest : List ℕ) (call : Call) →
       StartsWith bytes call rest →
       (Permitted shape phase call → ⊥) → Comes shape m phase s bytes [] 0 (E.NotPermitted call)
@@ -88,10 +117,13 @@ pub data Comes (shape : Shape) (m : Machine) : Phase → MachineState → List �
       StartsWith bytes call rest → Permitted shape phase call → call ≡ C.FreeInstance →
       Comes shape m phase s bytes (frame_of (as_sent call (m.look s call)) ∷ []) 1 E.Freed
   Next : (phase : Phase) (s : MachineState) (bytes rest : List ℕ) (call : Call)
-      (pieces : List (List ℕ)) (count : ℕ) (end : ServeEnd) → StartsWith bytes call rest →
-      Permitted shape phase call → call ≢ C.FreeInstance →
-      Comes shape m (next_of shape phase call (Some (m.look s call))) (after m s call) rest pieces count end →
-      Comes shape m phase s bytes (frame_of (as_sent call (m.look s call)) ∷ pieces) (1 + count) end
+      (taken given more : List ℕ) (pieces : List (List ℕ)) (count : ℕ) (end : ServeEnd) →
+      StartsWith bytes call rest → Permitted shape phase call → call ≢ C.FreeInstance →
+      rest ≡ taken ++ more → length taken ≡ bytes_after call → Gives m s call given →
+      Comes shape m (next_of shape phase call (Some (reply_to m s call taken)))
+      (leads_to m s call taken) more pieces count end →
+      Comes shape m phase s bytes (frame_of (as_sent call (reply_to m s call taken)) ∷
+      (state_pieces given ++ pieces)) (1 + count) end
   NextBatch : (phase q : Phase) (s z : MachineState) (bytes rest : List ℕ) (calls : List Call)
       (replies : List Reply) (pieces : List (List ℕ)) (count : ℕ) (end : ServeEnd) →
       StartsWithBatch bytes calls rest → ItemsCome shape m phase s calls replies q z →

@@ -3,5 +3,6 @@
 
 mod reading;
 mod serving;
+mod state;
 
 pub use serving::{ServeEnd, serve};

@@ -172,7 +172,8 @@ fn next_of_frame(frame: CallFrame) -> NextFrame
     NextFrame::Came(frame.call)
 }
 
-fn front_of(bytes: &[u8], count: usize) -> &[u8]
+/// The first bytes, so many.
+pub(crate) fn front_of(bytes: &[u8], count: usize) -> &[u8]
     requires { count ≤ length bytes.now }
     ensures { result.now ≡ take count bytes.now }
 {
@@ -248,8 +249,8 @@ fn number_at(bytes: &[u8], place: usize) -> u64
     ])
 }
 
-// Takes bytes from the source until the room is full or the source ends, and answers how many.
-fn fill<I: Source>(input: &mut I, into: &mut [u8]) -> Result<usize, SourceFault>
+/// Takes bytes from the source until the room is full or the source ends, and answers how many.
+pub(crate) fn fill<I: Source>(input: &mut I, into: &mut [u8]) -> Result<usize, SourceFault>
     ensures bound { IfOk result (λ n. n ≤ length into.new) }
     ensures takes { IfOk result (λ n. Takes (I.view input.old) (I.view input.new)
         (take n into.new)) }

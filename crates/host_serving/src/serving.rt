@@ -1,19 +1,28 @@
 //! Calls are served one after another.
-ghost use Rattle.std.specs.Prelude.{◌≡◌, ◌≤◌, ◌+◌, ◌*◌, ◌↔◌, IfOk, IsTrue, List, length, take};
+ghost use Rattle.std.specs.Prelude.{◌≡◌, ◌≤◌, ◌+◌, ◌*◌, ◌↔◌, false, IfOk, IsTrue, List, OnErr, length, take};
+ghost use Rattle.sim_base.specs.Causes.{Rose};
+ghost use Rattle.sim_base.specs.Sink.{with_piece};
 ghost use Rattle.sim_base.specs.Source.{SourceView};
+ghost use Rattle.fmi_calls.specs.Permission.{Permitted};
 ghost use Rattle.fmi_calls.specs.Kinds.{kind_of, kind_of_reply};
 ghost use Rattle.fmi_calls.specs.declared.call.Call.{Call};
+ghost use Rattle.fmu_peer.specs.View.{IsDeserialize, carries_bytes};
 ghost use Rattle.link_frames.specs.Batch.{CanAnswer, IsCallBatch};
+ghost use Rattle.link_frames.specs.Reply.{CanBeTold};
 ghost use Rattle.host_serving.specs.Frames.{IsBatchOfCalls, TakesBatch, TakesCall};
-ghost use Rattle.host_serving.specs.Serving.{AnswersItems, EndsBehind, HasServed, Steps, as_sent, scene};
+ghost use Rattle.host_serving.specs.Serving.{AnswersItems, EndsBehind, HasServed, PutsReply, Steps, as_sent, scene, with_state};
 ghost use Rattle.host_serving.specs.Told.{ServesAsTold};
 
 use crate::reading::{MOST_BYTES, NextFrame, item, next_frame};
+use crate::state::{NextState, next_state};
 use fmi_calls::{BadStatus, Call, Content, Grade, Kind, Reply, grade, permitted};
 use fmu_peer::Peer;
 use link_frames::{MOST_ITEMS, put_batch_reply, put_reply};
-use sim_base::{Sink, Source};
+use sim_base::{Sink, SinkFault, Source};
 use std::alloc::Global;
+
+// The bytes of the longest state.
+const MOST_STATE: usize = 1 << 20;
 
 /// Why serving ended.
 #[derive(Clone, Copy, Debug, Drop, PartialEq, Eq)]
@@ -23,22 +32,24 @@ pub enum ServeEnd {
     /// The input ends between two frames.
     Ended,
     /// The byte at this place of a frame, from 0, is the first that continues none; or the input ends inside a frame, which has
-    /// so many bytes.
+    /// so many bytes, with those of a state that follow it.
     BadFrame { at: u64 },
     /// FMI 3.0 doesn't permit this call in the state of the instance.
     NotPermitted { call: Call },
-    /// A take, a put or a call failed, or the reply to a call of a batch isn't of the call's kind.
+    /// A take, a put or a call failed, or the reply to a call of a batch isn't of the call's kind, or a reply tells of a state
+    /// that no frame can tell of.
     Failed,
     /// As many calls were served as are counted: 2^64 - 1. A batch in which that is reached is served to its end.
     TooMany,
-    /// Out of memory for the texts of a frame.
+    /// Out of memory for the texts of a frame, or for the bytes of a state.
     Memory,
 }
 
 /// Serves the calls that come as frames, one after another: asks the machine each call that is permitted, and puts the frame
 /// of its reply. The calls of a batch are answered up to the first whose reply isn't good, by one batch of replies; where one
-/// of them isn't permitted nothing is put for them. It ends after FreeInstance, or where a frame, a call, a count or the input
-/// ends it.
+/// of them isn't permitted nothing is put for them. The bytes of a state are taken after the frame of a Deserialize, once that
+/// is permitted, and put after the reply to a Serialize. It ends after FreeInstance, or where a frame, a call, a count or the
+/// input ends it.
 pub fn serve<I: Source, O: Sink, M: Peer>(
     alloc: Global,
     input: &mut I,
@@ -80,7 +91,7 @@ fn serve_next<I: Source, O: Sink, M: Peer>(
         (scene (I.view input.new) (O.view output.new) (M.view machine.new)) result }
 {
     match next_frame(alloc, input, room) {
-        NextFrame::Came(call) => serve_call(call, output, machine),
+        NextFrame::Came(call) => serve_call(alloc, call, input, output, machine),
         NextFrame::Batch(count) => serve_batch(room, count, output, machine),
         NextFrame::AtEnd => Next::Ends(ServeEnd::Ended),
         NextFrame::Bad { at } => Next::Ends(ServeEnd::BadFrame { at }),
@@ -90,23 +101,126 @@ fn serve_next<I: Source, O: Sink, M: Peer>(
 }
 
 // Serves one call.
-fn serve_call<O: Sink, M: Peer>(call: Call, output: &mut O, machine: &mut M) -> Next
-    ensures { (input read : SourceView) → TakesCall input read call →
-        Steps (scene input (O.view output.old) (M.view machine.old))
-        (scene read (O.view output.new) (M.view machine.new)) result }
+fn serve_call<I: Source, O: Sink, M: Peer>(
+    alloc: Global,
+    call: Call,
+    input: &mut I,
+    output: &mut O,
+    machine: &mut M,
+) -> Next
+    ensures { (before : SourceView) → TakesCall before (I.view input.old) call →
+        Steps (scene before (O.view output.old) (M.view machine.old))
+        (scene (I.view input.new) (O.view output.new) (M.view machine.new)) result }
 {
     if !permitted(machine.shape(), machine.phase(), &call) {
         return Next::Ends(ServeEnd::NotPermitted { call });
     }
-    let reply = match machine.call(&call) {
-        Ok(reply) => as_sent(&call, reply),
-        Err(_) => return Next::Ends(ServeEnd::Failed),
-    };
-    let mut frame = [0; 24];
-    put_reply(&reply, &mut frame);
-    match output.put(&frame) {
-        Ok(()) => end_behind(call),
+    match call {
+        Call::Serialize => serve_serialize(alloc, output, machine),
+        Call::Deserialize { length, .. } => {
+            serve_deserialize(alloc, &call, length, input, output, machine)
+        }
+        _ => serve_plain(&call, output, machine),
+    }
+}
+
+// Asks the machine a call that isn't followed by bytes, and whose reply isn't, and puts the reply.
+fn serve_plain<O: Sink, M: Peer>(call: &Call, output: &mut O, machine: &mut M) -> Next
+    requires permitted { Permitted (M.view machine.old).fixed.shape (M.view machine.old).phase
+        call.now }
+    requires plain { carries_bytes call.now ≡ false }
+    ensures { (before read : SourceView) → TakesCall before read call.now →
+        Steps (scene before (O.view output.old) (M.view machine.old))
+        (scene read (O.view output.new) (M.view machine.new)) result }
+{
+    match machine.call(call) {
+        Ok(reply) => put_answer(call, reply, &[], output),
         Err(_) => Next::Ends(ServeEnd::Failed),
+    }
+}
+
+// Asks the machine a Serialize, and puts its reply and the bytes of the state.
+fn serve_serialize<O: Sink, M: Peer>(alloc: Global, output: &mut O, machine: &mut M) -> Next
+    requires { Permitted (M.view machine.old).fixed.shape (M.view machine.old).phase Call.Serialize }
+    ensures { (before read : SourceView) → TakesCall before read Call.Serialize →
+        Steps (scene before (O.view output.old) (M.view machine.old))
+        (scene read (O.view output.new) (M.view machine.new)) result }
+{
+    let Ok(mut state) = Vec::with_capacity(alloc, MOST_STATE) else {
+        return Next::Ends(ServeEnd::Memory);
+    };
+    match machine.serialize(&mut state) {
+        Ok(reply) => put_answer(&Call::Serialize, reply, state.as_slice(), output),
+        Err(_) => Next::Ends(ServeEnd::Failed),
+    }
+}
+
+// Takes the bytes that follow a Deserialize, asks the machine it with them, and puts the reply.
+fn serve_deserialize<I: Source, O: Sink, M: Peer>(
+    alloc: Global,
+    call: &Call,
+    length: u32,
+    input: &mut I,
+    output: &mut O,
+    machine: &mut M,
+) -> Next
+    requires permitted { Permitted (M.view machine.old).fixed.shape (M.view machine.old).phase
+        call.now }
+    requires kind { IsDeserialize call.now length }
+    ensures { (before : SourceView) → TakesCall before (I.view input.old) call.now →
+        Steps (scene before (O.view output.old) (M.view machine.old))
+        (scene (I.view input.new) (O.view output.new) (M.view machine.new)) result }
+{
+    let state = match next_state(alloc, input, length as usize) {
+        NextState::Came(state) => state,
+        NextState::Short { count } => return Next::Ends(ServeEnd::BadFrame { at: 24 + count }),
+        NextState::Failed => return Next::Ends(ServeEnd::Failed),
+        NextState::Memory => return Next::Ends(ServeEnd::Memory),
+    };
+    match machine.deserialize(call, state.as_slice()) {
+        Ok(reply) => put_answer(call, reply, &[], output),
+        Err(_) => Next::Ends(ServeEnd::Failed),
+    }
+}
+
+// Puts the reply to a call, and the bytes that follow it.
+fn put_answer<O: Sink>(call: &Call, reply: Reply, state: &[u8], output: &mut O) -> Next
+    ensures { PutsReply (O.view output.old) (O.view output.new) call.now reply state.now result }
+{
+    if !can_be_told(&reply) {
+        return Next::Ends(ServeEnd::Failed);
+    }
+    let mut frame = [0; 24];
+    put_reply(&as_sent(call, reply), &mut frame);
+    match put_both(&frame, state, output) {
+        Ok(()) => end_behind(*call),
+        Err(_) => Next::Ends(ServeEnd::Failed),
+    }
+}
+
+// Puts a frame, and the bytes that follow it, if any do.
+fn put_both<O: Sink>(frame: &[u8], state: &[u8], output: &mut O) -> Result<(), SinkFault>
+    ensures put { IfOk result (λ done. O.view output.new ≡
+        with_state (with_piece (O.view output.old) frame.now) state.now) }
+    ensures rose { OnErr result (Rose (O.view output.old).faults (O.view output.new).faults) }
+{
+    output.put(frame)?;
+    if state.is_empty() {
+        return Ok(());
+    }
+    output.put(state)
+}
+
+// Whether a reply has a frame: it tells of no state that is too long.
+fn can_be_told(reply: &Reply) -> bool
+    ensures { IsTrue result ↔ CanBeTold reply.now }
+{
+    match reply {
+        Reply::Done {
+            content: Content::Serialize { length },
+            ..
+        } => *length as usize <= MOST_STATE,
+        _ => true,
     }
 }
 

@@ -9,7 +9,7 @@ use Rattle.value_types.specs.declared.shape.Variable.{Variable}
 use Rattle.doc_tree.specs.declared.rule.FlatteningRule.{FlatteningRule}
 use Rattle.doc_tree.specs.declared.rule.FlatteningRule.TheVariants as f
 use Rattle.doc_tree.specs.declared.rule.Rule.{Rule}
-use Rattle.doc_tree.specs.declared.rule.Rule.TheVariants.{Document, Description, System as OfSystem, Nesting, Flattening, Loop, SavesNoState, TooManyPorts, Parameters}
+use Rattle.doc_tree.specs.declared.rule.Rule.TheVariants.{Document, Description, System as OfSystem, Nesting, Flattening, Loop, SavesNoState, TooManyPorts, Parameters, CannotBeHeld}
 use Rattle.parameter_values.specs.declared.change.Change.{Change}
 use Rattle.system_model.specs.declared.system.Component.{Component}
 use Rattle.system_model.specs.declared.system.Port.{Port}
@@ -307,6 +307,7 @@ violates t u same shapes Loop node h = absurd h
 violates t u same shapes SavesNoState node h = no_saved_state t u same shapes node h
 violates t u same shapes TooManyPorts node h = too_many_ports t u same shapes node h
 violates t u same shapes (Parameters rule) node h = absurd h
+violates t u same shapes CannotBeHeld node h = absurd h
 
 -- no element of the one breaks a rule, where none of the other does
 pub fits_too : (t u : SystemTree) → without_numbers t ≡ without_numbers u → (shapes : List Shape) → IsFitting t shapes → IsFitting u shapes

@@ -1,5 +1,5 @@
 -- The step that a run can't make is one, and so is the value that it loses.
-use Rattle.std.proofs.Common.{◌≡◌, ◌≢◌, ℕ, suc, ◌≤◌, Bool, true, false, ◌&&◌, List, refl, sym, ◌∙◌, ap, subst, arith, ℤ}
+use Rattle.std.proofs.Common.{◌≡◌, ℕ, suc, ◌≤◌, Bool, true, false, List, refl, sym, ◌∙◌, ap, subst, arith, ℤ}
 use Rattle.std.specs.Prelude.{Option, Some, ◌==◌, if◌then◌else◌, slice_get}
 use Rattle.std.specs.List.{list_any, position}
 use Rattle.std.proofs.lemmas.List.Folds.{list_any_at}
@@ -24,7 +24,7 @@ use Rattle.run_model.specs.Trace.{Leads, LeadsBy}
 use Rattle.event_iteration.specs.Lost.{IsFirstLost}
 use Rattle.event_iteration.specs.declared.lost.LostValue.{LostValue}
 use Rattle.machine_courses.specs.Fronts.{AtTheStart, InInstant, LacksStepAt, LosesAt}
-use Rattle.inlined_runs.specs.Orders.{FixedOnce, LostOnce}
+use Rattle.inlined_runs.specs.Shorts.{FixedOnce, LostOnce}
 
 -- ---- one step
 

@@ -1,8 +1,8 @@
 -- Two calls of the program that come to the same.
-use Rattle.std.proofs.Common.{◌≡◌, ◌≢◌, ◌⊎◌, inl, inr, ℕ, zero, suc, ◌+◌, ◌<◌, List, [], ◌∷◌, ◌++◌, Option, Some, None, length, map, refl, sym, ◌∙◌, ap, subst, arith}
+use Rattle.std.proofs.Common.{◌≡◌, ◌⊎◌, inl, inr, ℕ, List, [], ◌∷◌, Option, Some, None, length, map, refl, sym, ◌∙◌, ap, subst, arith}
 use Rattle.std.specs.Prelude.{All, slice_get, codes}
 use Rattle.std.proofs.lemmas.List.{append_cancel_left, length-map}
-use Rattle.std.proofs.lemmas.Option.{get_or_from_slice_get, none-some as none_some, same_Some, slice_get-map, slice_get_within}
+use Rattle.std.proofs.lemmas.Option.{get_or_from_slice_get, same_Some, slice_get-map, slice_get_within}
 use Rattle.std.specs.Option.{option_map}
 use Rattle.sim_base.specs.Causes.{Rose}
 use Rattle.sim_base.specs.Sink.{SinkView, with_piece}
@@ -31,7 +31,7 @@ use Rattle.machine_courses.specs.Fronts.{LacksStepAt, LosesAt}
 use Rattle.machine_courses.specs.Outcomes.{PutsTrace}
 use Rattle.step_master.specs.Traced.{IsRunOf, SomeRose, output_of}
 use Rattle.step_master.specs.Traced as T
-use Rattle.command_line.specs.Line.{Check, IsLine, Line, One, RunLine, bench_row, check_row, one_row, run_in, run_row, trace_check_row}
+use Rattle.command_line.specs.Line.{Asked, IsLine, Line, RunLine, run_in}
 use Rattle.command_line.specs.Line as L
 use Rattle.system_loading.specs.Assembly.{HaveSameParts}
 use Rattle.system_files.specs.declared.loaded.Loaded.{Loaded}
@@ -43,52 +43,16 @@ use Rattle.run_program.specs.Rows as rows
 use Rattle.run_program.specs.Rows.{Answers, AnswersOr11, HasEnded, IsSilent, IsToFind, KeepsSystemRows, ReportsEnd, RunsLoaded, WritesSize, memory_line}
 use Rattle.run_program.specs.Runs.{HasOneTrace, TracesOnce, names_of, port_name}
 use Rattle.run_program.specs.TraceCheck.{KeepsRows}
-use Rattle.inlined_runs.specs.Orders.{AreOfSameParts, BehaveAlike, FixedOnce, LostOnce, TraceAlike}
+use Rattle.alike_runs.specs.Alike.{AreAlike, BehaveAlike, TraceAlike}
+use Rattle.run_program.proofs.CallerLemmas.{first_state, system_rows}
+use Rattle.inlined_runs.specs.Shorts.{FixedOnce, LostOnce}
 use Rattle.inlined_runs.specs.Twins.{AnswerAlike, IsUnhindered, RunAlike, TellAlike, TellMachines, ToldUnknown, run_of}
-use Rattle.inlined_runs.proofs.Orders.{lacks_alike, loses_alike}
+use Rattle.alike_runs.proofs.Alike.{lacks_alike, loses_alike}
 
 -- ---- lists
 
-head_same : {X : Type 0} (x y : X) (xs ys : List X) → x ∷ xs ≡ y ∷ ys → x ≡ y
-head_same x y xs ys e = cc
-
 all_at : {X : Type 0} (P : X → Type 0) (xs : List X) (k : ℕ) (x : X) → All P xs → slice_get xs k ≡ Some x → P x
 all_at P xs k x all here = subst P (get_or_from_slice_get xs k x x here) (all k x (slice_get_within xs k x here))
-
--- ---- a line of a system is none of another command
-
-abbrev first_of_word : List ℕ → ℕ
-first_of_word [] = 0
-first_of_word (x ∷ xs) = x
-
-name_same : (words : List (List ℕ)) (x y : List ℕ) (xs ys : List (List ℕ)) → words ≡ x ∷ xs → words ≡ y ∷ ys → x ≡ y
-name_same words x y xs ys a b = head_same x y xs ys (sym a ∙ b)
-
-abbrev pub row_name : Line → List ℕ
-row_name (One line) = one_row.name
-row_name (L.Run line) = run_row.name
-row_name (Check line) = check_row.name
-
-named : (words : List (List ℕ)) (line : Line) (x : IsLine words line) → x.name ≡ row_name line
-named words (One line) x = x.asks.0
-named words (L.Run line) x = x.asks.0
-named words (Check line) x = x.asks.0
-
-not_trace_row : (line : Line) → row_name line ≡ trace_check_row.name → ⊥
-not_trace_row (One line) e = let first = ap first_of_word e in omega (arith, first)
-not_trace_row (L.Run line) e = let first = ap first_of_word e in omega (arith, first)
-not_trace_row (Check line) e = let first = ap first_of_word e in omega (arith, first)
-
-not_bench_row : (line : Line) → row_name line ≡ bench_row.name → ⊥
-not_bench_row (One line) e = let first = ap first_of_word e in omega (arith, first)
-not_bench_row (L.Run line) e = let first = ap first_of_word e in omega (arith, first)
-not_bench_row (Check line) e = let first = ap first_of_word e in omega (arith, first)
-
-system_rows : (h : Happened) (line : Line) → KeepsRows h → IsLine h.words line → KeepsSystemRows h
-system_rows h line keeps x =
-    keeps.system
-    (λ trace y. not_trace_row line (sym (named h.words line x) ∙ name_same h.words x.name y.name x.is.rest y.is.rest x.is.begins y.is.begins ∙ y.asks.0))
-    (λ bench y. not_bench_row line (sym (named h.words line x) ∙ name_same h.words x.name y.name x.is.rest y.is.rest x.is.begins y.is.begins ∙ y.asks.0))
 
 -- ---- the machines of peers
 
@@ -101,15 +65,6 @@ fixed_of v = v.fixed
 fused : (vs : List View) → map machine_of vs ≡ map (λ (f : Fixed). f.machine) (map fixed_of vs)
 fused [] = refl
 fused (v ∷ vs) = ap (λ (ms : List (Option Machine)). v.fixed.machine ∷ ms) (fused vs)
-
--- the state of a peer that was started is the first of its machine
-first_state : (host : List ℕ) (folders : List (List ℕ)) (cs : List Component) (vs : List View) (k : ℕ) (v : View) → AreStarted host folders cs vs → slice_get vs k ≡ Some v →
-    v.state ≡ option_map (λ (m : Machine). m.first) v.fixed.machine
-first_state host folders cs [] k v are here = absurd (none_some v here)
-first_state host folders [] (w ∷ vs) k v are here = absurd are
-first_state host [] (c ∷ cs) (w ∷ vs) k v are here = absurd are
-first_state host (f ∷ folders) (c ∷ cs) (w ∷ vs) zero v are here = subst (λ (x : View). x.state ≡ option_map (λ (m : Machine). m.first) x.fixed.machine) (same_Some w v here) are.0.state
-first_state host (f ∷ folders) (c ∷ cs) (w ∷ vs) (suc k) v are here = first_state host folders cs vs k v are.1 here
 
 -- peers that tell these machines when they are taken back told them from the start
 tell_machines : (host : List ℕ) (folders : List (List ℕ)) (cs : List Component) (olds news : List View) (machines : List Machine) → AreStarted host folders cs olds →
@@ -166,8 +121,8 @@ pub record Ran (h : Happened) (asked : RunLine) (loaded : Loaded) (machines : Li
   pub machines_are : AreMachines (run_of asked made machines)
   pub came : Came h (run_of asked made machines)
 
-of_same : (asked : RunLine) (one other : Loaded) (machines : List Machine) → HaveSameParts one.system other.system → one.bound ≡ other.bound → AreOfSameParts (run_of asked one machines) (run_of asked other machines)
-of_same asked one other machines parts bound = record { parts = parts; bound = bound; machines = refl; plan = refl }
+of_same : (asked : RunLine) (one other : Loaded) (machines : List Machine) → HaveSameParts one.system other.system → one.bound ≡ other.bound → AreAlike (run_of asked one machines) (run_of asked other machines)
+of_same asked one other machines parts bound = record { components = parts.0; ports = parts.1; bound = bound; machines = refl; plan = refl }
 
 turned : (one other : System) → HaveSameParts one other → HaveSameParts other one
 turned one other parts = (sym parts.0, sym parts.1)
@@ -231,6 +186,7 @@ module _ (h : Happened) (asked : RunLine) (loaded : Loaded) (machines : List Mac
       by (inl said) = ran K.Range at w.0 w.1.0 (lost, told.1.0, told.1.2.0, w.1.1, told.1.1, told.1.2.1, said.0, said.1)
       by (inr cut) = absurd (hinders.puts cut.0)
   of_end (E.Bad bad) w told = absurd (quiet w.1)
+  of_end (E.Held point) w told = absurd w.1
   of_end E.WriteFault w told = by (subst (λ e. Puts (end_message e) (end_status e)) told.1 told.2)
     where
       by : Puts (Some (codes "write\n")) 10 → Ran h asked loaded machines
@@ -242,13 +198,13 @@ module _ (h : Happened) (asked : RunLine) (loaded : Loaded) (machines : List Mac
 
 -- ---- two of them
 
-pieces_same : (r q : Run) (is : List Instant) (kind : EndKind) (point : ℕ) → AreOfSameParts r q → trace_pieces r.system r.plan is kind point ≡ trace_pieces q.system q.plan is kind point
+pieces_same : (r q : Run) (is : List Instant) (kind : EndKind) (point : ℕ) → AreAlike r q → trace_pieces r.system r.plan is kind point ≡ trace_pieces q.system q.plan is kind point
 pieces_same r q is kind point same =
-    ap (λ (cs : List Component). trace_pieces (record r.system { components = cs }) r.plan is kind point) same.parts.0
-    ∙ ap (λ (ps : List Port). trace_pieces (record r.system { components = q.system.components; ports = ps }) r.plan is kind point) same.parts.1
+    ap (λ (cs : List Component). trace_pieces (record r.system { components = cs }) r.plan is kind point) same.components
+    ∙ ap (λ (ps : List Port). trace_pieces (record r.system { components = q.system.components; ports = ps }) r.plan is kind point) same.ports
     ∙ ap (λ (plan : Plan). trace_pieces q.system plan is kind point) same.plan
 
-moved_told : (h : Happened) (r q : Run) (kind : EndKind) (point : ℕ) → AreOfSameParts r q → IsTold h r kind point → IsTold h q kind point
+moved_told : (h : Happened) (r q : Run) (kind : EndKind) (point : ℕ) → AreAlike r q → IsTold h r kind point → IsTold h q kind point
 moved_told h r q K.Stop point same told = told
 moved_told h r q K.Asked point same told = told
 moved_told h r q K.Limit point same told = told
@@ -257,7 +213,7 @@ moved_told h r q K.Fixed point same told = (
   told.1,
   told.2,
   lacks_alike r q same told.0 point told.1 told.3,
-  subst (λ (cs : List Component). slice_get (map (λ (c : Component). c.name) cs) told.0 ≡ Some told.2) same.parts.0 told.4,
+  subst (λ (cs : List Component). slice_get (map (λ (c : Component). c.name) cs) told.0 ≡ Some told.2) same.components told.4,
   told.5,
   told.6,
 )
@@ -266,14 +222,14 @@ moved_told h r q K.Range point same told = (
   told.1,
   told.2,
   loses_alike r q same told.0 point told.3,
-  subst (λ (ps : List Port). slice_get (map port_name ps) told.0.port.0 ≡ Some told.1) same.parts.1 told.4,
-  subst (λ (cs : List Component). slice_get (map (λ (c : Component). c.name) cs) told.1.component.0 ≡ Some told.2) same.parts.0 told.5,
+  subst (λ (ps : List Port). slice_get (map port_name ps) told.0.port.0 ≡ Some told.1) same.ports told.4,
+  subst (λ (cs : List Component). slice_get (map (λ (c : Component). c.name) cs) told.1.component.0 ≡ Some told.2) same.components told.5,
   told.6,
   told.7,
 )
 moved_told h r q K.Fault point same told = told
 
-moved : TraceAlike → (h : Happened) (r q : Run) → AreOfSameParts r q → Came h r → Came h q
+moved : TraceAlike → (h : Happened) (r q : Run) → AreAlike r q → Came h r → Came h q
 moved trace h r q same x = record {
   is = x.is;
   kind = x.kind;
@@ -398,6 +354,7 @@ silent h line (rows.Ended end finished runs) = by end finished runs.reports
     by (E.FixedStep component at e) never told = absurd never
     by (E.Range lost at) never told = absurd never
     by (E.Bad bad) never told = absurd never
+    by (E.Held point) never told = absurd never
     by E.WriteFault never told = absurd never
 
 pub record Sized (h : Happened) (loaded : Loaded) : Type 0 where

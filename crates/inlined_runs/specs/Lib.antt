@@ -1,2 +1,2 @@
-pub mod Orders
+pub mod Shorts
 pub mod Twins

@@ -1,14 +1,9 @@
-ghost use Rattle.inlined_runs.specs.Orders.{BehaveAlike, FixedOnce, LostOnce, TraceAlike};
+ghost use Rattle.inlined_runs.specs.Shorts.{FixedOnce, LostOnce};
 ghost use Rattle.inlined_runs.specs.Twins.{AreFoundAlike, RunAlike, TellAlike, ToldUnknown};
 
+use alike_runs::orders_and_workers_are_free;
 use inlined_answers::inlined_answers;
 use run_model::{one_next, one_solution, one_trace, situation_laws};
-
-/// Laws: runs that differ in the orders of their ports alone have the same trace, and behave well together.
-pub fn orders_are_free()
-    ensures trace { TraceAlike }
-    ensures behaved { BehaveAlike }
-{}
 
 /// A law: where a run of machines ends before a step whose size a component can't take, that is at one point, and the
 /// component and the end of that step are the same.
@@ -42,7 +37,7 @@ pub fn inlined_runs()
 {
     inlined_answers();
     one_trace();
-    orders_are_free();
+    orders_and_workers_are_free();
     one_fixed_end();
     one_lost_value();
 }

@@ -3,4 +3,4 @@
 
 mod laws;
 
-pub use laws::{inlined_runs, one_fixed_end, one_lost_value, orders_are_free};
+pub use laws::{inlined_runs, one_fixed_end, one_lost_value};

@@ -35,6 +35,8 @@ call_detail K.Restore t u = refl
 call_detail K.Free t u = refl
 call_detail K.Terminate t u = refl
 call_detail K.FreeInstance t u = refl
+call_detail K.Serialize t u = refl
+call_detail K.Deserialize t u = refl
 
 call_flags : (kind : Kind) (t : PortType) → (call_row kind t).flags ≡ zero_only
 call_flags K.Instantiate t = refl
@@ -55,6 +57,8 @@ call_flags K.Restore t = refl
 call_flags K.Free t = refl
 call_flags K.Terminate t = refl
 call_flags K.FreeInstance t = refl
+call_flags K.Serialize t = refl
+call_flags K.Deserialize t = refl
 
 interval_detail : (test : Bool) → (if test then row status_span zero_only (between 0 2) any any else row status_span zero_only (between 0 2) zero_only zero_only).detail ≡ status_span
 interval_detail true = refl
@@ -87,6 +91,8 @@ done_detail K.Restore f r = refl
 done_detail K.Free f r = refl
 done_detail K.Terminate f r = refl
 done_detail K.FreeInstance f r = refl
+done_detail K.Serialize f r = refl
+done_detail K.Deserialize f r = refl
 
 done_flags : (kind : Kind) (f r g s : ℕ) → (done_row kind f r).flags ≡ (done_row kind g s).flags
 done_flags K.Instantiate f r g s = refl
@@ -107,6 +113,8 @@ done_flags K.Restore f r g s = refl
 done_flags K.Free f r g s = refl
 done_flags K.Terminate f r g s = refl
 done_flags K.FreeInstance f r g s = refl
+done_flags K.Serialize f r g s = refl
+done_flags K.Deserialize f r g s = refl
 
 done_reference : (kind : Kind) (f r s : ℕ) → (done_row kind f r).reference ≡ (done_row kind f s).reference
 done_reference K.Instantiate f r s = refl
@@ -127,6 +135,8 @@ done_reference K.Restore f r s = refl
 done_reference K.Free f r s = refl
 done_reference K.Terminate f r s = refl
 done_reference K.FreeInstance f r s = refl
+done_reference K.Serialize f r s = refl
+done_reference K.Deserialize f r s = refl
 
 reply_detail : (bad : Bool) (kind : Kind) (f r : ℕ) → (if bad then plain_reply else done_row kind f r).detail ≡ status_span
 reply_detail true kind f r = refl

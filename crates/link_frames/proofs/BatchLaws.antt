@@ -44,7 +44,7 @@ kind_of_reply_head (Refused kind status) = refl
 
 -- no single frame has the kind of a batch
 not_19 : (kind : Kind) (n : ℕ) → n ≡ (facts_of kind).number → n ≡ 19 → ⊥
-not_19 kind n is e = let upto = (number_in kind).upto in omega (arith, upto, is, e)
+not_19 kind n is e = (number_in kind).named (sym is ∙ e)
 
 pub call_batches_apart : AreApart IsCallFrame IsCallBatch
 call_batches_apart frame count bytes more = (

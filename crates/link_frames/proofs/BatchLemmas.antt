@@ -22,13 +22,13 @@ use Rattle.link_frames.specs.Batch.{AreFrames, BatchParts, CountOf, FirstOf, IsB
 use Rattle.link_frames.specs.Call.{IsCallFrame, TextsOf, call_at, call_by, frame_at, name_len, text_len, token_len}
 use Rattle.exact_parts.specs.Field.{Field, InSpans}
 use Rattle.link_frames.specs.Head.{head, numbers_of, spelling}
-use Rattle.link_frames.specs.Layout.{between, kind_at, kinds_of, kinds_of_items}
+use Rattle.link_frames.specs.Layout.{between, kind_at, kind_numbers, kinds_of, kinds_of_items}
 use Rattle.link_frames.specs.Numbers.{Reads}
 use Rattle.link_frames.specs.Reply.{IsReplyFrame, content_at, reply_at, reply_by, bad_status_at}
 use Rattle.exact_parts.specs.Taking.{AreSingle}
 use Rattle.exact_parts.proofs.CallerLemmas.{Followed, Same, behind_single, made_single}
 use Rattle.link_frames.proofs.CallLemmas.{call_same}
-use Rattle.link_frames.proofs.HeadLemmas.{IsKindNumber, in_between, in_zero, is_between, is_zero, head_reads, kind_again, kinds_in, read_head}
+use Rattle.link_frames.proofs.HeadLemmas.{IsKindNumber, in_between, in_kinds, in_zero, is_between, is_zero, head_reads, kind_again, kinds_in, read_head}
 use Rattle.link_frames.proofs.NumbersLemmas.{filled_7, reads_single}
 use Rattle.link_frames.proofs.ReplyLemmas.{reply_same}
 
@@ -148,29 +148,29 @@ with_span : (size : ℕ) (spans other : Spans) (n : ℕ) (bytes : List ℕ) → 
 with_span size spans other n bytes f h = record { size_is = f.size_is; are_bytes = f.are_bytes; number = f.number; span = h }
 
 wide : (items : Items) (n : ℕ) → InSpans (kinds_of_items items) n → IsKindNumber n
-wide Either n h = let b = is_between 8 9 n h in record { from = omega (arith, b.from); upto = omega (arith, b.upto) }
-wide Gets n h = let b = is_between 8 8 n h in record { from = omega (arith, b.from); upto = omega (arith, b.upto) }
-wide Sets n h = let b = is_between 9 9 n h in record { from = omega (arith, b.from); upto = omega (arith, b.upto) }
+wide Either n h = let upto = (is_between 8 9 n h).upto in record { from = omega (arith, (is_between 8 9 n h).from); upto = omega (arith, upto); named = λ e. absurd (omega (arith, e, upto)) }
+wide Gets n h = let upto = (is_between 8 8 n h).upto in record { from = omega (arith, (is_between 8 8 n h).from); upto = omega (arith, upto); named = λ e. absurd (omega (arith, e, upto)) }
+wide Sets n h = let upto = (is_between 9 9 n h).upto in record { from = omega (arith, (is_between 9 9 n h).from); upto = omega (arith, upto); named = λ e. absurd (omega (arith, e, upto)) }
 
 as_call : (items : Items) (ns bytes : List ℕ) → Reads (CallItem items) 7 [] ns bytes → Reads OfCall 7 [] ns bytes
 as_call items ns bytes p =
     let w = wide items p.number p.is_first.span in
-    record { number = p.number; front = p.front; rest = p.rest; is_first = with_span 1 (kinds_of_items items) (between 1 18) p.number p.front p.is_first (in_between 1 18 p.number w.from w.upto); is_next = p.is_next; both = p.both }
+    record { number = p.number; front = p.front; rest = p.rest; is_first = with_span 1 (kinds_of_items items) kind_numbers p.number p.front p.is_first (in_kinds p.number w); is_next = p.is_next; both = p.both }
 
 call_as : (items : Items) (ns bytes : List ℕ) → Reads OfCall 7 [] ns bytes → InSpans (kinds_of_items items) (slice_index ns 0) → Reads (CallItem items) 7 [] ns bytes
 call_as items ns bytes p h =
     let at : InSpans (kinds_of_items items) p.number = subst (InSpans (kinds_of_items items)) (sym (first_is OfCall ns bytes p)) h in
-    record { number = p.number; front = p.front; rest = p.rest; is_first = with_span 1 (between 1 18) (kinds_of_items items) p.number p.front p.is_first at; is_next = p.is_next; both = p.both }
+    record { number = p.number; front = p.front; rest = p.rest; is_first = with_span 1 kind_numbers (kinds_of_items items) p.number p.front p.is_first at; is_next = p.is_next; both = p.both }
 
 as_reply : (items : Items) (ns bytes : List ℕ) → Reads (ReplyItem items) 7 [] ns bytes → Reads OfReply 7 [] ns bytes
 as_reply items ns bytes p =
     let w = wide items p.number p.is_first.span in
-    record { number = p.number; front = p.front; rest = p.rest; is_first = with_span 1 (kinds_of_items items) (between 1 18) p.number p.front p.is_first (in_between 1 18 p.number w.from w.upto); is_next = p.is_next; both = p.both }
+    record { number = p.number; front = p.front; rest = p.rest; is_first = with_span 1 (kinds_of_items items) kind_numbers p.number p.front p.is_first (in_kinds p.number w); is_next = p.is_next; both = p.both }
 
 reply_as : (items : Items) (ns bytes : List ℕ) → Reads OfReply 7 [] ns bytes → InSpans (kinds_of_items items) (slice_index ns 0) → Reads (ReplyItem items) 7 [] ns bytes
 reply_as items ns bytes p h =
     let at : InSpans (kinds_of_items items) p.number = subst (InSpans (kinds_of_items items)) (sym (first_is OfReply ns bytes p)) h in
-    record { number = p.number; front = p.front; rest = p.rest; is_first = with_span 1 (between 1 18) (kinds_of_items items) p.number p.front p.is_first at; is_next = p.is_next; both = p.both }
+    record { number = p.number; front = p.front; rest = p.rest; is_first = with_span 1 kind_numbers (kinds_of_items items) p.number p.front p.is_first at; is_next = p.is_next; both = p.both }
 
 -- from one restriction to another
 again : (side : Side) (items other : Items) (ns bytes : List ℕ) → Reads (item_form side items) 7 [] ns bytes → InSpans (kinds_of_items other) (slice_index ns 0) → Reads (item_form side other) 7 [] ns bytes
@@ -226,6 +226,8 @@ kind_by K.Restore d r a b = refl
 kind_by K.Free d r a b = refl
 kind_by K.Terminate d r a b = refl
 kind_by K.FreeInstance d r a b = refl
+kind_by K.Serialize d r a b = refl
+kind_by K.Deserialize d r a b = refl
 
 kind_content : (kind : Kind) (f q a b : ℕ) → kind_of_content (content_at kind f q a b) ≡ kind
 kind_content K.Instantiate f q a b = refl
@@ -246,6 +248,8 @@ kind_content K.Restore f q a b = refl
 kind_content K.Free f q a b = refl
 kind_content K.Terminate f q a b = refl
 kind_content K.FreeInstance f q a b = refl
+kind_content K.Serialize f q a b = refl
+kind_content K.Deserialize f q a b = refl
 
 kind_reply : (kind : Kind) (s f q a b : ℕ) → kind_of_reply (reply_by kind s f q a b) ≡ kind
 kind_reply kind s f q a b = (elim (nat_lt s 2) as (λ t. kind_of_reply (if t then Reply.Done (s == 1) (content_at kind f q a b) else Reply.Refused kind (bad_status_at s)) ≡ kind) [

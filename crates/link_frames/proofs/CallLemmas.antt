@@ -59,6 +59,8 @@ call_again C.Restore n t h = refl
 call_again C.Free n t h = refl
 call_again C.Terminate n t h = refl
 call_again C.FreeInstance n t h = refl
+call_again C.Serialize n t h = refl
+call_again (C.Deserialize room point stop) n t h = refl
 
 -- ---- the numbers of a call lie in their spans
 
@@ -100,6 +102,8 @@ call_allowed C.Restore n t h r = record { detail = in_zero; flags = in_zero; ref
 call_allowed C.Free n t h r = record { detail = in_zero; flags = in_zero; reference = in_zero; first = in_zero; last = in_zero }
 call_allowed C.Terminate n t h r = record { detail = in_zero; flags = in_zero; reference = in_zero; first = in_zero; last = in_zero }
 call_allowed C.FreeInstance n t h r = record { detail = in_zero; flags = in_zero; reference = in_zero; first = in_zero; last = in_zero }
+call_allowed C.Serialize n t h r = record { detail = in_zero; flags = in_zero; reference = in_zero; first = in_zero; last = in_zero }
+call_allowed (C.Deserialize room point stop) n t h r = record { detail = in_zero; flags = in_zero; reference = reference_in room r.reference; first = in_any point r.first; last = in_any stop r.last }
 
 detail_small : (call : Call) (n t : ℕ) → CanBeSent call n t → detail_of call < 256
 detail_small (C.Instantiate event_mode early_return batches) n t h = omega arith
@@ -120,6 +124,8 @@ detail_small C.Restore n t h = omega arith
 detail_small C.Free n t h = omega arith
 detail_small C.Terminate n t h = omega arith
 detail_small C.FreeInstance n t h = omega arith
+detail_small C.Serialize n t h = omega arith
+detail_small (C.Deserialize room point stop) n t h = omega arith
 
 call_head : (call : Call) (n t : ℕ) → CanBeSent call n t → InRange (head_of_call call n t) → IsHead OfCall (head_of_call call n t)
 call_head call n t h r = record {
@@ -171,6 +177,8 @@ says K.Restore k d f r a b h = record { head_is = plain_again K.Restore d f r a 
 says K.Free k d f r a b h = record { head_is = plain_again K.Free d f r a b h.detail h.flags h.reference h.first h.last; can_be_sent = tt }
 says K.Terminate k d f r a b h = record { head_is = plain_again K.Terminate d f r a b h.detail h.flags h.reference h.first h.last; can_be_sent = tt }
 says K.FreeInstance k d f r a b h = record { head_is = plain_again K.FreeInstance d f r a b h.detail h.flags h.reference h.first h.last; can_be_sent = tt }
+says K.Serialize k d f r a b h = record { head_is = plain_again K.Serialize d f r a b h.detail h.flags h.reference h.first h.last; can_be_sent = tt }
+says K.Deserialize k d f r a b h = record { head_is = head_same _ 0 0 r a b _ d f r a b refl (sym (is_zero d h.detail)) (sym (is_zero f h.flags)) refl refl refl; can_be_sent = tt }
 
 -- the text of a call is sent, where it has the length that the numbers tell
 sent_is : (kind : Kind) (d r a b : ℕ) (len : ℕ) (text : List ℕ) → length text ≡ text_len kind len → sent (call_by kind d r a b) text ≡ text
@@ -192,6 +200,8 @@ sent_is K.Restore d r a b len text e = sym (nil_from_length text e)
 sent_is K.Free d r a b len text e = sym (nil_from_length text e)
 sent_is K.Terminate d r a b len text e = sym (nil_from_length text e)
 sent_is K.FreeInstance d r a b len text e = sym (nil_from_length text e)
+sent_is K.Serialize d r a b len text e = sym (nil_from_length text e)
+sent_is K.Deserialize d r a b len text e = sym (nil_from_length text e)
 
 sent_text : (call : Call) (text : List ℕ) → IsUtf8 text → IsUtf8 (sent call text)
 sent_text (C.Instantiate event_mode early_return batches) text h = h
@@ -212,6 +222,8 @@ sent_text C.Restore text h = IsUtf8-nil
 sent_text C.Free text h = IsUtf8-nil
 sent_text C.Terminate text h = IsUtf8-nil
 sent_text C.FreeInstance text h = IsUtf8-nil
+sent_text C.Serialize text h = IsUtf8-nil
+sent_text (C.Deserialize room point stop) text h = IsUtf8-nil
 
 name_length : (call : Call) (name : List ℕ) → length (sent call name) ≡ text_len (kind_of call) (first_of call (length name))
 name_length (C.Instantiate event_mode early_return batches) name = refl
@@ -232,6 +244,8 @@ name_length C.Restore name = refl
 name_length C.Free name = refl
 name_length C.Terminate name = refl
 name_length C.FreeInstance name = refl
+name_length C.Serialize name = refl
+name_length (C.Deserialize room point stop) name = refl
 
 token_length : (call : Call) (token : List ℕ) → length (sent call token) ≡ text_len (kind_of call) (last_of call (length token))
 token_length (C.Instantiate event_mode early_return batches) token = refl
@@ -252,6 +266,8 @@ token_length C.Restore token = refl
 token_length C.Free token = refl
 token_length C.Terminate token = refl
 token_length C.FreeInstance token = refl
+token_length C.Serialize token = refl
+token_length (C.Deserialize room point stop) token = refl
 
 text_most : (kind : Kind) (k d f r a b : ℕ) → Allowed OfCall kind (head k d f r a b) → (text_len kind a ≤ text_max) × (text_len kind b ≤ text_max)
 text_most K.Instantiate k d f r a b h = ((is_between 1 text_max a h.first).upto, (is_between 0 text_max b h.last).upto)
@@ -272,6 +288,8 @@ text_most K.Restore k d f r a b h = (omega arith, omega arith)
 text_most K.Free k d f r a b h = (omega arith, omega arith)
 text_most K.Terminate k d f r a b h = (omega arith, omega arith)
 text_most K.FreeInstance k d f r a b h = (omega arith, omega arith)
+text_most K.Serialize k d f r a b h = (omega arith, omega arith)
+text_most K.Deserialize k d f r a b h = (omega arith, omega arith)
 
 pub call_numbers : (numbers bytes : List ℕ) → Reads OfCall 7 [] numbers bytes → IsCallNumbers numbers
 call_numbers numbers bytes reads =
@@ -394,6 +412,8 @@ resent C.Restore name token bytes h = record { can_be_sent = h.can_be_sent; name
 resent C.Free name token bytes h = record { can_be_sent = h.can_be_sent; name_text = IsUtf8-nil; token_text = IsUtf8-nil; in_range = h.in_range; spelled = h.spelled }
 resent C.Terminate name token bytes h = record { can_be_sent = h.can_be_sent; name_text = IsUtf8-nil; token_text = IsUtf8-nil; in_range = h.in_range; spelled = h.spelled }
 resent C.FreeInstance name token bytes h = record { can_be_sent = h.can_be_sent; name_text = IsUtf8-nil; token_text = IsUtf8-nil; in_range = h.in_range; spelled = h.spelled }
+resent C.Serialize name token bytes h = record { can_be_sent = h.can_be_sent; name_text = IsUtf8-nil; token_text = IsUtf8-nil; in_range = h.in_range; spelled = h.spelled }
+resent (C.Deserialize room point stop) name token bytes h = record { can_be_sent = h.can_be_sent; name_text = IsUtf8-nil; token_text = IsUtf8-nil; in_range = h.in_range; spelled = h.spelled }
 
 told_is : (frame : CallFrame) (bytes : List ℕ) → Told frame bytes → IsCallFrame frame bytes
 told_is frame bytes t =
@@ -439,6 +459,8 @@ part_sent C.Restore name token bytes i j h le = sym (past bytes i j (bare (head_
 part_sent C.Free name token bytes i j h le = sym (past bytes i j (bare (head_of_call C.Free (length name) (length token)) bytes h.spelled) le)
 part_sent C.Terminate name token bytes i j h le = sym (past bytes i j (bare (head_of_call C.Terminate (length name) (length token)) bytes h.spelled) le)
 part_sent C.FreeInstance name token bytes i j h le = sym (past bytes i j (bare (head_of_call C.FreeInstance (length name) (length token)) bytes h.spelled) le)
+part_sent C.Serialize name token bytes i j h le = sym (past bytes i j (bare (head_of_call C.Serialize (length name) (length token)) bytes h.spelled) le)
+part_sent (C.Deserialize room point stop) name token bytes i j h le = sym (past bytes i j (bare (head_of_call (C.Deserialize room point stop) (length name) (length token)) bytes h.spelled) le)
 
 is_told : (frame : CallFrame) (bytes : List ℕ) → IsCallFrame frame bytes → Told frame bytes
 is_told frame bytes f =

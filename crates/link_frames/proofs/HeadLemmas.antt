@@ -1,5 +1,6 @@
 -- The head of a frame and the numbers that are read from it.
 use Rattle.std.proofs.Common.{◌≡◌, ℕ, zero, suc, ◌-◌, ◌<◌, ◌≤◌, ◌^◌, inl, inr, List, [], ◌∷◌, ◌++◌, length, refl, sym, ap, ◌∙◌, append-nil, arith}
+use Rattle.std.proofs.lemmas.Bool.{cases_lt}
 use Rattle.std.specs.Int.{w32, w64, to_be_bytes}
 use Rattle.fmi_calls.specs.KindFacts.{facts_of}
 use Rattle.fmi_calls.specs.declared.call.Kind.{Kind}
@@ -9,7 +10,7 @@ use Rattle.link_frames.specs.declared.layout.Form.{Form}
 use Rattle.exact_parts.specs.Field.{InSpans}
 use Rattle.exact_parts.proofs.CallerLemmas.{field_1, field_4, field_8, only_1, only_4, only_8}
 use Rattle.link_frames.specs.Head.{InRange, head, numbers_of, spelling}
-use Rattle.link_frames.specs.Layout.{any, between, kind_at, kinds_of, row_by, zero_only}
+use Rattle.link_frames.specs.Layout.{any, between, kind_at, kind_numbers, kinds_of, row_by, zero_only}
 use Rattle.link_frames.specs.Numbers.{Reads}
 
 -- ---- numbers of kinds
@@ -33,30 +34,35 @@ number_again K.Restore = refl
 number_again K.Free = refl
 number_again K.Terminate = refl
 number_again K.FreeInstance = refl
+number_again K.Serialize = refl
+number_again K.Deserialize = refl
 
 pub record IsKindNumber (n : ℕ) : Type 0 where
   pub from : 1 ≤ n
-  pub upto : n ≤ 18
+  pub upto : n ≤ 21
+  pub named : n ≡ 19 → ⊥
 
 pub number_in : (kind : Kind) → IsKindNumber (facts_of kind).number
-number_in K.Instantiate = record { from = omega arith; upto = omega arith }
-number_in K.EnterInitialization = record { from = omega arith; upto = omega arith }
-number_in K.ExitInitialization = record { from = omega arith; upto = omega arith }
-number_in K.EnterEvent = record { from = omega arith; upto = omega arith }
-number_in K.EnterStep = record { from = omega arith; upto = omega arith }
-number_in K.DoStep = record { from = omega arith; upto = omega arith }
-number_in K.Update = record { from = omega arith; upto = omega arith }
-number_in K.Get = record { from = omega arith; upto = omega arith }
-number_in K.Set = record { from = omega arith; upto = omega arith }
-number_in K.GetClock = record { from = omega arith; upto = omega arith }
-number_in K.SetClock = record { from = omega arith; upto = omega arith }
-number_in K.GetInterval = record { from = omega arith; upto = omega arith }
-number_in K.GetShift = record { from = omega arith; upto = omega arith }
-number_in K.Save = record { from = omega arith; upto = omega arith }
-number_in K.Restore = record { from = omega arith; upto = omega arith }
-number_in K.Free = record { from = omega arith; upto = omega arith }
-number_in K.Terminate = record { from = omega arith; upto = omega arith }
-number_in K.FreeInstance = record { from = omega arith; upto = omega arith }
+number_in K.Instantiate = record { from = omega arith; upto = omega arith; named = λ e. absurd (omega (arith, e)) }
+number_in K.EnterInitialization = record { from = omega arith; upto = omega arith; named = λ e. absurd (omega (arith, e)) }
+number_in K.ExitInitialization = record { from = omega arith; upto = omega arith; named = λ e. absurd (omega (arith, e)) }
+number_in K.EnterEvent = record { from = omega arith; upto = omega arith; named = λ e. absurd (omega (arith, e)) }
+number_in K.EnterStep = record { from = omega arith; upto = omega arith; named = λ e. absurd (omega (arith, e)) }
+number_in K.DoStep = record { from = omega arith; upto = omega arith; named = λ e. absurd (omega (arith, e)) }
+number_in K.Update = record { from = omega arith; upto = omega arith; named = λ e. absurd (omega (arith, e)) }
+number_in K.Get = record { from = omega arith; upto = omega arith; named = λ e. absurd (omega (arith, e)) }
+number_in K.Set = record { from = omega arith; upto = omega arith; named = λ e. absurd (omega (arith, e)) }
+number_in K.GetClock = record { from = omega arith; upto = omega arith; named = λ e. absurd (omega (arith, e)) }
+number_in K.SetClock = record { from = omega arith; upto = omega arith; named = λ e. absurd (omega (arith, e)) }
+number_in K.GetInterval = record { from = omega arith; upto = omega arith; named = λ e. absurd (omega (arith, e)) }
+number_in K.GetShift = record { from = omega arith; upto = omega arith; named = λ e. absurd (omega (arith, e)) }
+number_in K.Save = record { from = omega arith; upto = omega arith; named = λ e. absurd (omega (arith, e)) }
+number_in K.Restore = record { from = omega arith; upto = omega arith; named = λ e. absurd (omega (arith, e)) }
+number_in K.Free = record { from = omega arith; upto = omega arith; named = λ e. absurd (omega (arith, e)) }
+number_in K.Terminate = record { from = omega arith; upto = omega arith; named = λ e. absurd (omega (arith, e)) }
+number_in K.FreeInstance = record { from = omega arith; upto = omega arith; named = λ e. absurd (omega (arith, e)) }
+number_in K.Serialize = record { from = omega arith; upto = omega arith; named = λ e. absurd (omega (arith, e)) }
+number_in K.Deserialize = record { from = omega arith; upto = omega arith; named = λ e. absurd (omega (arith, e)) }
 
 pub kind_again : (n : ℕ) → IsKindNumber n → (facts_of (kind_at n)).number ≡ n
 kind_again zero h = absurd (omega (arith, h.from))
@@ -78,7 +84,10 @@ kind_again (suc (suc (suc (suc (suc (suc (suc (suc (suc (suc (suc (suc (suc (suc
 kind_again (suc (suc (suc (suc (suc (suc (suc (suc (suc (suc (suc (suc (suc (suc (suc (suc zero)))))))))))))))) h = refl
 kind_again (suc (suc (suc (suc (suc (suc (suc (suc (suc (suc (suc (suc (suc (suc (suc (suc (suc zero))))))))))))))))) h = refl
 kind_again (suc (suc (suc (suc (suc (suc (suc (suc (suc (suc (suc (suc (suc (suc (suc (suc (suc (suc zero)))))))))))))))))) h = refl
-kind_again (suc (suc (suc (suc (suc (suc (suc (suc (suc (suc (suc (suc (suc (suc (suc (suc (suc (suc (suc n))))))))))))))))))) h = absurd (omega (arith, h.upto))
+kind_again (suc (suc (suc (suc (suc (suc (suc (suc (suc (suc (suc (suc (suc (suc (suc (suc (suc (suc (suc zero))))))))))))))))))) h = absurd (h.named refl)
+kind_again (suc (suc (suc (suc (suc (suc (suc (suc (suc (suc (suc (suc (suc (suc (suc (suc (suc (suc (suc (suc zero)))))))))))))))))))) h = refl
+kind_again (suc (suc (suc (suc (suc (suc (suc (suc (suc (suc (suc (suc (suc (suc (suc (suc (suc (suc (suc (suc (suc zero))))))))))))))))))))) h = refl
+kind_again (suc (suc (suc (suc (suc (suc (suc (suc (suc (suc (suc (suc (suc (suc (suc (suc (suc (suc (suc (suc (suc (suc n)))))))))))))))))))))) h = absurd (omega (arith, h.upto))
 
 -- ---- numbers in spans
 
@@ -96,11 +105,26 @@ is_between low high n h =
       | inr s ↦ record { from = s.from; upto = s.upto }
     ]
 
-pub in_kinds : (n : ℕ) → IsKindNumber n → InSpans (between 1 18) n
-in_kinds n h = in_between 1 18 n h.from h.upto
+-- after 18 comes 20
+twenty : (n : ℕ) → 18 < n → (n ≡ 19 → ⊥) → 20 ≤ n
+twenty n late other = (elim (cases_lt n 20) [
+  | inl below ↦ absurd (other (omega (arith, late, below)))
+  | inr from ↦ from
+])
 
-pub kinds_in : (n : ℕ) → InSpans (between 1 18) n → IsKindNumber n
-kinds_in n h = let b = is_between 1 18 n h in record { from = b.from; upto = b.upto }
+-- a kind's number lies in the spans, and what lies in them is one
+pub in_kinds : (n : ℕ) → IsKindNumber n → InSpans kind_numbers n
+in_kinds n h = (elim (cases_lt 18 n) [
+  | inl late ↦ inr (record { from = twenty n late h.named; upto = h.upto })
+  | inr early ↦ inl (record { from = h.from; upto = early })
+])
+
+pub kinds_in : (n : ℕ) → InSpans kind_numbers n → IsKindNumber n
+kinds_in n h =
+    elim h [
+      | inl s ↦ let upto = s.upto in record { from = s.from; upto = omega (arith, upto); named = λ e. absurd (omega (arith, e, upto)) }
+      | inr s ↦ let from = s.from in record { from = omega (arith, from); upto = s.upto; named = λ e. absurd (omega (arith, e, from)) }
+    ]
 
 pub kind_small : (kind : Kind) → (facts_of kind).number < 256
 kind_small kind = let k = number_in kind in omega (arith, k.upto)

@@ -1,5 +1,5 @@
 -- A batch that grows by one frame after another.
-use Rattle.std.proofs.Common.{◌≡◌, ℕ, ◌+◌, ◌<◌, List, [], ◌∷◌, ◌++◌, length, take, get_or, refl, sym, ap, subst, ◌∙◌, append_assoc, append-nil, arith}
+use Rattle.std.proofs.Common.{◌≡◌, ℕ, ◌+◌, ◌<◌, List, [], ◌∷◌, ◌++◌, length, take, get_or, refl, sym, ap, subst, ◌∙◌, append_assoc, append-nil, arith, inl, inr}
 use Rattle.std.proofs.lemmas.List.{length-map, map-append, take_more}
 use Rattle.fmi_calls.specs.Kinds.{kind_of, kind_of_reply}
 use Rattle.fmi_calls.specs.declared.call.Call.{Call}
@@ -9,8 +9,9 @@ use Rattle.link_frames.specs.declared.call.CallFrame.{CallFrame}
 use Rattle.link_frames.specs.Batch.{AreFrames, CanAnswer, CanBeBatched, kind_of_first_reply, IsBatch, batch_head, frames_of, kind_of_first}
 use Rattle.link_frames.specs.Call.{IsCallFrame, IsFrameOf, frame_with}
 use Rattle.link_frames.specs.Head.{spelling}
-use Rattle.link_frames.specs.Reply.{IsReplyFrame}
+use Rattle.link_frames.specs.Reply.{CanBeTold, IsReplyFrame}
 use Rattle.link_frames.proofs.CallLemmas.{frame_taken}
+use Rattle.link_frames.proofs.ReplyLemmas.{item_told}
 
 pub frames_push : {V : Type 0} (frame : V → List ℕ → Type 0) (kind : V → Kind) (one : Kind) (vs : List V) (v : V) (bytes front : List ℕ) →
     AreFrames frame kind one vs bytes → frame v front → kind v ≡ one → AreFrames frame kind one (vs ++ v ∷ []) (bytes ++ front)
@@ -35,6 +36,12 @@ replies_put replies bytes out can are spelled = record {
   frames = are;
   spelled = spelled;
 }
+
+-- each reply of a batch can be told
+pub each_told : (replies : List Reply) (i : ℕ) (d : Reply) → CanAnswer replies → i < length replies → CanBeTold (get_or replies i d)
+each_told replies i d can lt =
+    let e = can.one_kind i d lt in
+    item_told (get_or replies i d) (elim can.reads_or_sets [ inl g ↦ inl (e ∙ g) | inr s ↦ inr (e ∙ s) ])
 
 abbrev kind_in : CallFrame → Kind
 kind_in f = kind_of f.call

@@ -1,7 +1,8 @@
 -- Replies and their frames.
-use Rattle.std.proofs.Common.{◌≡◌, ℕ, zero, suc, ◌+◌, ◌/◌, ◌%◌, ◌<◌, ◌≤◌, ◌^◌, Bool, true, false, eqb, List, [], Some, None, refl, sym, ap, subst, ◌∙◌, arith}
+use Rattle.std.proofs.Common.{◌≡◌, ℕ, zero, suc, ◌+◌, ◌/◌, ◌%◌, ◌<◌, ◌≤◌, ◌^◌, Bool, true, false, eqb, inl, inr, List, [], Some, None, refl, sym, ap, subst, ◌∙◌, arith}
+use Rattle.std.specs.Prelude.{◌⊎◌, slice_index}
 use Rattle.fmi_calls.specs.KindFacts.{facts_of}
-use Rattle.fmi_calls.specs.Kinds.{kind_of_content}
+use Rattle.fmi_calls.specs.Kinds.{kind_of_content, kind_of_reply}
 use Rattle.fmi_calls.specs.declared.call.BadStatus.{BadStatus}
 use Rattle.fmi_calls.specs.declared.call.BadStatus.TheVariants as B
 use Rattle.fmi_calls.specs.declared.call.Content.{Content}
@@ -15,9 +16,9 @@ use Rattle.link_frames.specs.declared.head.Head.{Head}
 use Rattle.link_frames.specs.declared.layout.Form.TheVariants.{OfReply}
 use Rattle.exact_parts.specs.Field.{InSpans}
 use Rattle.link_frames.specs.Head.{InRange, flag, head, numbers_of, spelling}
-use Rattle.link_frames.specs.Layout.{between, done_row, kind_at}
+use Rattle.link_frames.specs.Layout.{between, done_row, kind_at, state_max}
 use Rattle.link_frames.specs.Numbers.{Reads}
-use Rattle.link_frames.specs.Reply.{IsReplyFrame, bad_number, content_at, first_of, flags_of, head_of_content, head_of_reply, last_of, qualifier_of, reply_at, reply_by}
+use Rattle.link_frames.specs.Reply.{CanBeTold, IsReplyFrame, bad_number, content_at, first_of, flags_of, head_of_content, head_of_reply, last_of, qualifier_of, reply_at, reply_by}
 use Rattle.exact_parts.specs.Taking.{AreSingle}
 use Rattle.link_frames.proofs.HeadLemmas.{Allowed, IsHead, head_reads, head_same, in_any, in_between, in_kinds, in_zero, is_between, is_zero, kind_again, kind_small, kinds_in, number_again, number_in, read_head}
 use Rattle.exact_parts.proofs.CallerLemmas.{Same, made_single}
@@ -61,6 +62,8 @@ content_again A.Restore = refl
 content_again A.Free = refl
 content_again A.Terminate = refl
 content_again A.FreeInstance = refl
+content_again (A.Serialize room) = refl
+content_again A.Deserialize = refl
 
 done_again : (is_warning : Bool) (content : Content) → reply_by (kind_of_content content) (flag is_warning 1) (flags_of content) (qualifier_of content) (first_of content) (last_of content) ≡ Done is_warning content
 done_again true content = ap (λ (c : Content). Done true c) (content_again content)
@@ -94,35 +97,37 @@ flags_in false true false = in_between 0 7 _ (omega arith) (omega arith)
 flags_in false false true = in_between 0 7 _ (omega arith) (omega arith)
 flags_in false false false = in_between 0 7 _ (omega arith) (omega arith)
 
-content_holds : (content : Content) → first_of content < 2 ^ 64 → last_of content < 2 ^ 64 → Holds (kind_of_content content) (flags_of content) (qualifier_of content) (first_of content) (last_of content)
-content_holds (A.Instantiate true) first last = record { flags = in_between 0 1 1 (omega arith) (omega arith); reference = in_zero; first = in_zero; last = in_zero }
-content_holds (A.Instantiate false) first last = record { flags = in_between 0 1 0 (omega arith) (omega arith); reference = in_zero; first = in_zero; last = in_zero }
-content_holds A.EnterInitialization first last = record { flags = in_zero; reference = in_zero; first = in_zero; last = in_zero }
-content_holds A.ExitInitialization first last = record { flags = in_zero; reference = in_zero; first = in_zero; last = in_zero }
-content_holds A.EnterEvent first last = record { flags = in_zero; reference = in_zero; first = in_zero; last = in_zero }
-content_holds A.EnterStep first last = record { flags = in_zero; reference = in_zero; first = in_zero; last = in_zero }
-content_holds (A.DoStep a b c end) first last = record { flags = flags_in a b c; reference = in_zero; first = in_any end first; last = in_zero }
-content_holds (A.Update true true (Some time)) first last = record { flags = flags_in true true true; reference = in_zero; first = in_any time first; last = in_zero }
-content_holds (A.Update true true None) first last = record { flags = flags_in true true false; reference = in_zero; first = in_zero; last = in_zero }
-content_holds (A.Update true false (Some time)) first last = record { flags = flags_in true false true; reference = in_zero; first = in_any time first; last = in_zero }
-content_holds (A.Update true false None) first last = record { flags = flags_in true false false; reference = in_zero; first = in_zero; last = in_zero }
-content_holds (A.Update false true (Some time)) first last = record { flags = flags_in false true true; reference = in_zero; first = in_any time first; last = in_zero }
-content_holds (A.Update false true None) first last = record { flags = flags_in false true false; reference = in_zero; first = in_zero; last = in_zero }
-content_holds (A.Update false false (Some time)) first last = record { flags = flags_in false false true; reference = in_zero; first = in_any time first; last = in_zero }
-content_holds (A.Update false false None) first last = record { flags = flags_in false false false; reference = in_zero; first = in_zero; last = in_zero }
-content_holds (A.Get word) first last = record { flags = in_zero; reference = in_zero; first = in_any word first; last = in_zero }
-content_holds A.Set first last = record { flags = in_zero; reference = in_zero; first = in_zero; last = in_zero }
-content_holds (A.GetClock word) first last = record { flags = in_zero; reference = in_zero; first = in_any word first; last = in_zero }
-content_holds A.SetClock first last = record { flags = in_zero; reference = in_zero; first = in_zero; last = in_zero }
-content_holds (A.GetInterval NotYetKnown) first last = record { flags = in_zero; reference = in_between 0 2 0 (omega arith) (omega arith); first = in_zero; last = in_zero }
-content_holds (A.GetInterval (Unchanged fraction)) first last = record { flags = in_zero; reference = in_between 0 2 1 (omega arith) (omega arith); first = in_any fraction.counter first; last = in_any fraction.resolution last }
-content_holds (A.GetInterval (Changed fraction)) first last = record { flags = in_zero; reference = in_between 0 2 2 (omega arith) (omega arith); first = in_any fraction.counter first; last = in_any fraction.resolution last }
-content_holds (A.GetShift shift) first last = record { flags = in_zero; reference = in_zero; first = in_any shift.counter first; last = in_any shift.resolution last }
-content_holds A.Save first last = record { flags = in_zero; reference = in_zero; first = in_zero; last = in_zero }
-content_holds A.Restore first last = record { flags = in_zero; reference = in_zero; first = in_zero; last = in_zero }
-content_holds A.Free first last = record { flags = in_zero; reference = in_zero; first = in_zero; last = in_zero }
-content_holds A.Terminate first last = record { flags = in_zero; reference = in_zero; first = in_zero; last = in_zero }
-content_holds A.FreeInstance first last = record { flags = in_zero; reference = in_zero; first = in_zero; last = in_zero }
+content_holds : (content : Content) (w : Bool) → CanBeTold (Done w content) → first_of content < 2 ^ 64 → last_of content < 2 ^ 64 → Holds (kind_of_content content) (flags_of content) (qualifier_of content) (first_of content) (last_of content)
+content_holds (A.Instantiate true) w told first last = record { flags = in_between 0 1 1 (omega arith) (omega arith); reference = in_zero; first = in_zero; last = in_zero }
+content_holds (A.Instantiate false) w told first last = record { flags = in_between 0 1 0 (omega arith) (omega arith); reference = in_zero; first = in_zero; last = in_zero }
+content_holds A.EnterInitialization w told first last = record { flags = in_zero; reference = in_zero; first = in_zero; last = in_zero }
+content_holds A.ExitInitialization w told first last = record { flags = in_zero; reference = in_zero; first = in_zero; last = in_zero }
+content_holds A.EnterEvent w told first last = record { flags = in_zero; reference = in_zero; first = in_zero; last = in_zero }
+content_holds A.EnterStep w told first last = record { flags = in_zero; reference = in_zero; first = in_zero; last = in_zero }
+content_holds (A.DoStep a b c end) w told first last = record { flags = flags_in a b c; reference = in_zero; first = in_any end first; last = in_zero }
+content_holds (A.Update true true (Some time)) w told first last = record { flags = flags_in true true true; reference = in_zero; first = in_any time first; last = in_zero }
+content_holds (A.Update true true None) w told first last = record { flags = flags_in true true false; reference = in_zero; first = in_zero; last = in_zero }
+content_holds (A.Update true false (Some time)) w told first last = record { flags = flags_in true false true; reference = in_zero; first = in_any time first; last = in_zero }
+content_holds (A.Update true false None) w told first last = record { flags = flags_in true false false; reference = in_zero; first = in_zero; last = in_zero }
+content_holds (A.Update false true (Some time)) w told first last = record { flags = flags_in false true true; reference = in_zero; first = in_any time first; last = in_zero }
+content_holds (A.Update false true None) w told first last = record { flags = flags_in false true false; reference = in_zero; first = in_zero; last = in_zero }
+content_holds (A.Update false false (Some time)) w told first last = record { flags = flags_in false false true; reference = in_zero; first = in_any time first; last = in_zero }
+content_holds (A.Update false false None) w told first last = record { flags = flags_in false false false; reference = in_zero; first = in_zero; last = in_zero }
+content_holds (A.Get word) w told first last = record { flags = in_zero; reference = in_zero; first = in_any word first; last = in_zero }
+content_holds A.Set w told first last = record { flags = in_zero; reference = in_zero; first = in_zero; last = in_zero }
+content_holds (A.GetClock word) w told first last = record { flags = in_zero; reference = in_zero; first = in_any word first; last = in_zero }
+content_holds A.SetClock w told first last = record { flags = in_zero; reference = in_zero; first = in_zero; last = in_zero }
+content_holds (A.GetInterval NotYetKnown) w told first last = record { flags = in_zero; reference = in_between 0 2 0 (omega arith) (omega arith); first = in_zero; last = in_zero }
+content_holds (A.GetInterval (Unchanged fraction)) w told first last = record { flags = in_zero; reference = in_between 0 2 1 (omega arith) (omega arith); first = in_any fraction.counter first; last = in_any fraction.resolution last }
+content_holds (A.GetInterval (Changed fraction)) w told first last = record { flags = in_zero; reference = in_between 0 2 2 (omega arith) (omega arith); first = in_any fraction.counter first; last = in_any fraction.resolution last }
+content_holds (A.GetShift shift) w told first last = record { flags = in_zero; reference = in_zero; first = in_any shift.counter first; last = in_any shift.resolution last }
+content_holds A.Save w told first last = record { flags = in_zero; reference = in_zero; first = in_zero; last = in_zero }
+content_holds A.Restore w told first last = record { flags = in_zero; reference = in_zero; first = in_zero; last = in_zero }
+content_holds A.Free w told first last = record { flags = in_zero; reference = in_zero; first = in_zero; last = in_zero }
+content_holds A.Terminate w told first last = record { flags = in_zero; reference = in_zero; first = in_zero; last = in_zero }
+content_holds A.FreeInstance w told first last = record { flags = in_zero; reference = in_zero; first = in_zero; last = in_zero }
+content_holds (A.Serialize room) w told first last = record { flags = in_zero; reference = in_between 0 state_max room (omega arith) told; first = in_zero; last = in_zero }
+content_holds A.Deserialize w told first last = record { flags = in_zero; reference = in_zero; first = in_zero; last = in_zero }
 
 status_in : (kind : Kind) (status : ℕ) → status ≤ 4 → InSpans (done_row kind 0 0).detail status
 status_in K.Instantiate status le = in_between 0 4 status (omega arith) le
@@ -143,6 +148,8 @@ status_in K.Restore status le = in_between 0 4 status (omega arith) le
 status_in K.Free status le = in_between 0 4 status (omega arith) le
 status_in K.Terminate status le = in_between 0 4 status (omega arith) le
 status_in K.FreeInstance status le = in_between 0 4 status (omega arith) le
+status_in K.Serialize status le = in_between 0 4 status (omega arith) le
+status_in K.Deserialize status le = in_between 0 4 status (omega arith) le
 
 status_most : (kind : Kind) (status : ℕ) → InSpans (done_row kind 0 0).detail status → status ≤ 4
 status_most K.Instantiate status h = (is_between 0 4 status h).upto
@@ -163,6 +170,8 @@ status_most K.Restore status h = (is_between 0 4 status h).upto
 status_most K.Free status h = (is_between 0 4 status h).upto
 status_most K.Terminate status h = (is_between 0 4 status h).upto
 status_most K.FreeInstance status h = (is_between 0 4 status h).upto
+status_most K.Serialize status h = (is_between 0 4 status h).upto
+status_most K.Deserialize status h = (is_between 0 4 status h).upto
 
 done_allowed : (w : Bool) (kind : Kind) (f q a b : ℕ) → Holds kind f q a b → Allowed OfReply kind (head (facts_of kind).number (flag w 1) f q a b)
 done_allowed true kind f q a b h = record { detail = status_in kind 1 (omega arith); flags = h.flags; reference = h.reference; first = h.first; last = h.last }
@@ -206,9 +215,11 @@ flags_small A.Restore = omega arith
 flags_small A.Free = omega arith
 flags_small A.Terminate = omega arith
 flags_small A.FreeInstance = omega arith
+flags_small (A.Serialize room) = omega arith
+flags_small A.Deserialize = omega arith
 
-reply_head : (reply : Reply) → InRange (head_of_reply reply) → IsHead OfReply (head_of_reply reply)
-reply_head (Done w content) r =
+reply_head : (reply : Reply) → CanBeTold reply → InRange (head_of_reply reply) → IsHead OfReply (head_of_reply reply)
+reply_head (Done w content) told r =
     let kind = kind_of_content content in
     record {
       kind = in_kinds _ (number_in kind);
@@ -216,9 +227,9 @@ reply_head (Done w content) r =
       detail = flag_small w;
       flags = flags_small content;
       in_range = r;
-      allowed = at_number kind (head_of_reply (Done w content)) refl (done_allowed w kind _ _ _ _ (content_holds content r.first r.last));
+      allowed = at_number kind (head_of_reply (Done w content)) refl (done_allowed w kind _ _ _ _ (content_holds content w told r.first r.last));
     }
-reply_head (Refused kind status) r = record {
+reply_head (Refused kind status) told r = record {
   kind = in_kinds _ (number_in kind);
   small = kind_small kind;
   detail = bad_small status;
@@ -284,6 +295,8 @@ content_head K.Restore s f q a b h = plain_again K.Restore s f q a b h.flags h.r
 content_head K.Free s f q a b h = plain_again K.Free s f q a b h.flags h.reference h.first h.last
 content_head K.Terminate s f q a b h = plain_again K.Terminate s f q a b h.flags h.reference h.first h.last
 content_head K.FreeInstance s f q a b h = plain_again K.FreeInstance s f q a b h.flags h.reference h.first h.last
+content_head K.Serialize s f q a b h = head_same _ _ 0 q 0 0 _ _ f q a b refl refl (sym (is_zero f h.flags)) refl (sym (is_zero a h.first)) (sym (is_zero b h.last))
+content_head K.Deserialize s f q a b h = plain_again K.Deserialize s f q a b h.flags h.reference h.first h.last
 
 by_again : (kind : Kind) (k s f q a b : ℕ) → Allowed OfReply kind (head k s f q a b) → head_of_reply (reply_by kind s f q a b) ≡ head (facts_of kind).number s f q a b
 by_again kind k zero f q a b h = content_head kind 0 f q a b (record { flags = h.flags; reference = h.reference; first = h.first; last = h.last })
@@ -300,14 +313,82 @@ head_again h is =
 
 -- ---- what is read is a frame
 
+-- a length that is read is one that can be told
+content_told : (kind : Kind) (w : Bool) (f q a b : ℕ) → InSpans (done_row kind f 0).reference q → CanBeTold (Done w (content_at kind f q a b))
+content_told K.Serialize w f q a b h = (is_between 0 state_max q h).upto
+content_told K.Instantiate w f q a b h = tt
+content_told K.EnterInitialization w f q a b h = tt
+content_told K.ExitInitialization w f q a b h = tt
+content_told K.EnterEvent w f q a b h = tt
+content_told K.EnterStep w f q a b h = tt
+content_told K.DoStep w f q a b h = tt
+content_told K.Update w f q a b h = tt
+content_told K.Get w f q a b h = tt
+content_told K.Set w f q a b h = tt
+content_told K.GetClock w f q a b h = tt
+content_told K.SetClock w f q a b h = tt
+content_told K.GetInterval w f q a b h = tt
+content_told K.GetShift w f q a b h = tt
+content_told K.Save w f q a b h = tt
+content_told K.Restore w f q a b h = tt
+content_told K.Free w f q a b h = tt
+content_told K.Terminate w f q a b h = tt
+content_told K.FreeInstance w f q a b h = tt
+content_told K.Deserialize w f q a b h = tt
+
+by_told : (kind : Kind) (k s f q a b : ℕ) → Allowed OfReply kind (head k s f q a b) → CanBeTold (reply_by kind s f q a b)
+by_told kind k zero f q a b h = content_told kind false f q a b h.reference
+by_told kind k (suc zero) f q a b h = content_told kind true f q a b h.reference
+by_told kind k (suc (suc zero)) f q a b h = tt
+by_told kind k (suc (suc (suc zero))) f q a b h = tt
+by_told kind k (suc (suc (suc (suc zero)))) f q a b h = tt
+by_told kind k (suc (suc (suc (suc (suc s))))) f q a b h = absurd (omega (arith, status_most kind _ h.detail))
+
+head_told : (h : Head) → IsHead OfReply h → CanBeTold (reply_at (numbers_of h))
+head_told h is = by_told (kind_at h.kind) h.kind h.detail h.flags h.reference h.first h.last is.allowed
+
 reply_frame : (numbers bytes : List ℕ) → Reads OfReply 7 [] numbers bytes → IsReplyFrame (reply_at numbers) bytes
 reply_frame numbers bytes reads =
     let r = read_head OfReply numbers bytes reads in
     let is : head_of_reply (reply_at numbers) ≡ r.head = ap (λ (ns : List ℕ). head_of_reply (reply_at ns)) r.all_is ∙ head_again r.head r.is in
     record {
+      can_be_told = subst (λ (ns : List ℕ). CanBeTold (reply_at ns)) (sym r.all_is) (head_told r.head r.is);
       in_range = subst InRange (sym is) r.is.in_range;
       spelled = r.spelled ∙ ap spelling (sym is);
     }
+
+-- the qualifier that is read has room in its bytes
+pub qualifier_small : (numbers bytes : List ℕ) → Reads OfReply 7 [] numbers bytes → slice_index numbers 4 < 2 ^ 32
+qualifier_small numbers bytes reads =
+    let r = read_head OfReply numbers bytes reads in
+    rw r.all_is r.is.in_range.reference
+
+-- a reply to Get or Set has no length
+of_item : (kind : Kind) → (kind ≡ K.Get) ⊎ (kind ≡ K.Set) → (facts_of kind).number ≡ 20 → ⊥
+of_item kind sort is = elim sort [ inl e ↦ let n = ap (λ (k : Kind). (facts_of k).number) e in omega (arith, n, is) | inr e ↦ let n = ap (λ (k : Kind). (facts_of k).number) e in omega (arith, n, is) ]
+
+pub item_told : (reply : Reply) → (kind_of_reply reply ≡ K.Get) ⊎ (kind_of_reply reply ≡ K.Set) → CanBeTold reply
+item_told (Done w (A.Serialize room)) sort = absurd (of_item K.Serialize sort refl)
+item_told (Done w (A.Instantiate batches)) sort = tt
+item_told (Done w A.EnterInitialization) sort = tt
+item_told (Done w A.ExitInitialization) sort = tt
+item_told (Done w A.EnterEvent) sort = tt
+item_told (Done w A.EnterStep) sort = tt
+item_told (Done w (A.DoStep event_needed terminate early end)) sort = tt
+item_told (Done w (A.Update again terminate event_time)) sort = tt
+item_told (Done w (A.Get word)) sort = tt
+item_told (Done w A.Set) sort = tt
+item_told (Done w (A.GetClock word)) sort = tt
+item_told (Done w A.SetClock) sort = tt
+item_told (Done w (A.GetInterval interval)) sort = tt
+item_told (Done w (A.GetShift shift)) sort = tt
+item_told (Done w A.Save) sort = tt
+item_told (Done w A.Restore) sort = tt
+item_told (Done w A.Free) sort = tt
+item_told (Done w A.Deserialize) sort = tt
+item_told (Done w A.Terminate) sort = tt
+item_told (Done w A.FreeInstance) sort = tt
+item_told (Refused kind status) sort = tt
 
 pub reply_same : Same (Reads OfReply 7 []) reply_at IsReplyFrame
 reply_same = record {
@@ -317,7 +398,7 @@ reply_same = record {
       record {
         value = numbers_of h;
         is = sym (reply_again reply);
-        spelled = subst (Reads OfReply 7 [] (numbers_of h)) (sym frame.spelled) (head_reads OfReply h (reply_head reply frame.in_range));
+        spelled = subst (Reads OfReply 7 [] (numbers_of h)) (sym frame.spelled) (head_reads OfReply h (reply_head reply frame.can_be_told frame.in_range));
       };
 }
 

@@ -12,7 +12,7 @@ use Rattle.link_frames.specs.declared.layout.Items.{Items}
 use Rattle.link_frames.specs.declared.layout.Items.TheVariants.{Either, Gets, Sets}
 use Rattle.link_frames.specs.declared.layout.Row.{Row}
 use Rattle.exact_parts.specs.Field.{IsSane}
-use Rattle.link_frames.specs.Layout.{any, between, call_row, done_row, kind_at, kinds_of, kinds_of_items, of_clock, plain_call, plain_reply, row, row_by, row_of, size_at, spans_at, status_span, text_max, type_at, words, zero_only}
+use Rattle.link_frames.specs.Layout.{any, between, call_row, done_row, kind_at, kind_numbers, kinds_of, kinds_of_items, of_clock, plain_call, plain_reply, row, row_by, row_of, size_at, spans_at, state_max, status_span, text_max, type_at, words, zero_only}
 
 record IsSaneRow (row : Row) : Type 0 where
   detail : IsSane 1 row.detail
@@ -83,6 +83,8 @@ call_sane K.Restore port_type = plain_call_sane
 call_sane K.Free port_type = plain_call_sane
 call_sane K.Terminate port_type = plain_call_sane
 call_sane K.FreeInstance port_type = plain_call_sane
+call_sane K.Serialize port_type = plain_call_sane
+call_sane K.Deserialize port_type = record { detail = zero_1; flags = zero_1; reference = between_4 0 _ (omega arith) (omega arith); first = any_8; last = any_8 }
 
 status_1 : IsSane 1 status_span
 status_1 = record { one = omega arith; other = omega arith; fits = omega arith }
@@ -117,6 +119,8 @@ done_sane K.Restore flags qualifier = plain_reply_sane
 done_sane K.Free flags qualifier = plain_reply_sane
 done_sane K.Terminate flags qualifier = plain_reply_sane
 done_sane K.FreeInstance flags qualifier = plain_reply_sane
+done_sane K.Serialize flags qualifier = record { detail = status_1; flags = zero_1; reference = between_4 0 state_max (omega arith) (omega arith); first = zero_8; last = zero_8 }
+done_sane K.Deserialize flags qualifier = plain_reply_sane
 
 reply_sane : (bad : Bool) (kind : Kind) (flags qualifier : ℕ) → IsSaneRow (if bad then plain_reply else done_row kind flags qualifier)
 reply_sane true kind flags qualifier = plain_reply_sane
@@ -134,9 +138,12 @@ items_sane Either = between_1 8 9 (omega arith) (omega arith)
 items_sane Gets = between_1 8 8 (omega arith) (omega arith)
 items_sane Sets = between_1 9 9 (omega arith) (omega arith)
 
+numbers_sane : IsSane 1 kind_numbers
+numbers_sane = record { one = omega arith; other = omega arith; fits = omega arith }
+
 kinds_sane : (form : Form) → IsSane 1 (kinds_of form)
-kinds_sane OfCall = between_1 1 18 (omega arith) (omega arith)
-kinds_sane OfReply = between_1 1 18 (omega arith) (omega arith)
+kinds_sane OfCall = numbers_sane
+kinds_sane OfReply = numbers_sane
 kinds_sane OfBatch = between_1 19 19 (omega arith) (omega arith)
 kinds_sane (CallItem items) = items_sane items
 kinds_sane (ReplyItem items) = items_sane items

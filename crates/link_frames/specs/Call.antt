@@ -38,14 +38,16 @@ reference_of (C.GetClock reference) = reference
 reference_of (C.SetClock reference) = reference
 reference_of (C.GetInterval reference) = reference
 reference_of (C.GetShift reference) = reference
+reference_of (C.Deserialize room point stop) = room
 reference_of call = 0
 
--- the length of the name, the start, the point where a step begins, or a value's word
+-- the length of the name, the start, the point where a step begins or that a state has, or a value's word
 abbrev pub first_of : Call → ℕ → ℕ
 first_of (C.Instantiate event_mode early_return batches) name_len = name_len
 first_of (C.EnterInitialization start stop) name_len = start
 first_of (C.DoStep at size) name_len = at
 first_of (C.Set kind reference value) name_len = word_of value
+first_of (C.Deserialize room point stop) name_len = point
 first_of call name_len = 0
 
 -- the length of the token, the stop, or the size of a step
@@ -53,6 +55,7 @@ abbrev pub last_of : Call → ℕ → ℕ
 last_of (C.Instantiate event_mode early_return batches) token_len = token_len
 last_of (C.EnterInitialization start stop) token_len = stop
 last_of (C.DoStep at size) token_len = size
+last_of (C.Deserialize room point stop) token_len = stop
 last_of call token_len = 0
 
 -- the numbers of a call whose texts have these lengths
@@ -137,6 +140,8 @@ call_by K.Restore detail reference first last = C.Restore
 call_by K.Free detail reference first last = C.Free
 call_by K.Terminate detail reference first last = C.Terminate
 call_by K.FreeInstance detail reference first last = C.FreeInstance
+call_by K.Serialize detail reference first last = C.Serialize
+call_by K.Deserialize detail reference first last = C.Deserialize reference first last
 
 -- the call of the seven numbers
 abbrev pub call_at : List ℕ → Call

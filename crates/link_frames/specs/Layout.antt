@@ -20,9 +20,9 @@ abbrev pub kinds : List Kind
 kinds =
     K.Instantiate ∷ K.EnterInitialization ∷ K.ExitInitialization ∷ K.EnterEvent ∷ K.EnterStep ∷
     K.DoStep ∷ K.Update ∷ K.Get ∷ K.Set ∷ K.GetClock ∷ K.SetClock ∷ K.GetInterval ∷ K.GetShift ∷
-    K.Save ∷ K.Restore ∷ K.Free ∷ K.Terminate ∷ K.FreeInstance ∷ []
+    K.Save ∷ K.Restore ∷ K.Free ∷ K.Terminate ∷ K.FreeInstance ∷ K.Serialize ∷ K.Deserialize ∷ []
 
--- the kind with a number from 1 to 18
+-- the kind with a number from 1 to 18, or 20 or 21
 abbrev pub kind_at : ℕ → Kind
 kind_at number = unwrap_or (find (λ kind. (facts_of kind).number == number) kinds) K.FreeInstance
 
@@ -103,11 +103,15 @@ text_max = 2 ^ 24
 abbrev pub plain_call : Row
 plain_call = row zero_only zero_only zero_only zero_only zero_only
 
+-- the greatest length of a state, in bytes
+abbrev pub state_max : ℕ
+state_max = 2 ^ 20
+
 -- a call that names a Clock
 abbrev pub of_clock : Row
 of_clock = row zero_only zero_only any_reference zero_only zero_only
 
--- a call: type, 0, reference, and two numbers, the first of Set by the type. Of Instantiate the reference has bit 0 for event mode, bit 1 for early return and bit 2 for batches, and the numbers are the lengths of the name and the token
+-- a call: type, 0, reference, and two numbers, the first of Set by the type. Of Deserialize the reference is the length of the state, and the numbers are its point and the stop. Of Instantiate the reference has bit 0 for event mode, bit 1 for early return and bit 2 for batches, and the numbers are the lengths of the name and the token
 abbrev pub call_row : Kind → PortType → Row
 call_row K.Instantiate kind =
     row zero_only zero_only (between 0 7) (between 1 text_max) (between 0 text_max)
@@ -128,6 +132,8 @@ call_row K.Restore kind = plain_call
 call_row K.Free kind = plain_call
 call_row K.Terminate kind = plain_call
 call_row K.FreeInstance kind = plain_call
+call_row K.Serialize kind = plain_call
+call_row K.Deserialize kind = row zero_only zero_only any_reference any any
 
 -- the statuses
 abbrev pub status_span : Spans
@@ -165,6 +171,9 @@ done_row K.Restore flags qualifier = plain_reply
 done_row K.Free flags qualifier = plain_reply
 done_row K.Terminate flags qualifier = plain_reply
 done_row K.FreeInstance flags qualifier = plain_reply
+done_row K.Serialize flags qualifier =
+    row status_span zero_only (between 0 state_max) zero_only zero_only
+done_row K.Deserialize flags qualifier = plain_reply
 
 -- a reply: with another status than OK and Warning all after it is 0
 abbrev pub reply_row : Kind → ℕ → ℕ → ℕ → Row
@@ -197,10 +206,15 @@ kinds_of_items Either = between 8 9
 kinds_of_items Gets = between 8 8
 kinds_of_items Sets = between 9 9
 
+-- the numbers of the kinds of single frames: 19 is that of a batch
+abbrev pub kind_numbers : Spans
+kind_numbers =
+    record { one = record { low = 1; high = 18 }; other = record { low = 20; high = 21 } }
+
 -- the numbers of the kinds that a frame of the form may have
 abbrev pub kinds_of : Form → Spans
-kinds_of OfCall = between 1 18
-kinds_of OfReply = between 1 18
+kinds_of OfCall = kind_numbers
+kinds_of OfReply = kind_numbers
 kinds_of OfBatch = between 19 19
 kinds_of (CallItem items) = kinds_of_items items
 kinds_of (ReplyItem items) = kinds_of_items items

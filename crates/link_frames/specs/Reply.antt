@@ -1,5 +1,5 @@
 -- Replies as frames (FMI 3.0, 2.2.3: status returned by functions; 4.2.1.2: fmi3DoStep; 2.2.9: Clocks, fmi3GetInterval and fmi3GetShift; fmi3UpdateDiscreteStates): status 0 OK, 1 Warning, 2 Discard, 3 Error, 4 Fatal.
-use Rattle.std.specs.Prelude.{◌≡◌, ℕ, ◌+◌, ◌/◌, ◌%◌, ◌==◌, nat_lt, List, slice_index, Some, None, is_some, if◌then◌else◌}
+use Rattle.std.specs.Prelude.{◌≡◌, ℕ, ◌+◌, ◌/◌, ◌%◌, ◌==◌, ◌≤◌, nat_lt, List, slice_index, Some, None, is_some, if◌then◌else◌}
 use Rattle.std.specs.Option.{unwrap_or}
 use Rattle.clock_fraction.specs.declared.fraction.Fraction.{Fraction}
 use Rattle.fmi_calls.specs.KindFacts.{facts_of}
@@ -16,7 +16,7 @@ use Rattle.fmi_calls.specs.declared.call.Reply.{Reply}
 use Rattle.fmi_calls.specs.declared.call.Reply.TheVariants.{Done, Refused}
 use Rattle.link_frames.specs.declared.head.Head.{Head}
 use Rattle.link_frames.specs.Head.{InRange, flag, head, spelling}
-use Rattle.link_frames.specs.Layout.{kind_at}
+use Rattle.link_frames.specs.Layout.{kind_at, state_max}
 
 -- ---- from a reply to its numbers
 
@@ -29,11 +29,12 @@ flags_of (A.Update again terminate event_time) =
     flag again 1 + flag terminate 2 + flag (is_some event_time) 4
 flags_of content = 0
 
--- of an interval: not yet known 0, unchanged 1, changed 2
+-- of an interval: not yet known 0, unchanged 1, changed 2; of Serialize the length of the state
 abbrev pub qualifier_of : Content → ℕ
 qualifier_of (A.GetInterval NotYetKnown) = 0
 qualifier_of (A.GetInterval (Unchanged fraction)) = 1
 qualifier_of (A.GetInterval (Changed fraction)) = 2
+qualifier_of (A.Serialize room) = room
 qualifier_of content = 0
 
 -- the end of a step, the next event time, a value's word, or the counter of an interval or a shift
@@ -84,8 +85,14 @@ head_of_reply (Refused kind status) = head (facts_of kind).number (bad_number st
 abbrev pub frame_of : Reply → List ℕ
 frame_of reply = spelling (head_of_reply reply)
 
+-- a state that is told has at most 2^20 bytes
+abbrev pub CanBeTold : Reply → Type 0
+CanBeTold (Done is_warning (A.Serialize room)) = room ≤ state_max
+CanBeTold reply = Unit {0}
+
 -- a reply and the bytes of its frame
 pub record IsReplyFrame (reply : Reply) (bytes : List ℕ) : Type 0 where
+  pub can_be_told : CanBeTold reply
   pub in_range : InRange (head_of_reply reply)
   pub spelled : bytes ≡ spelling (head_of_reply reply)
 
@@ -124,6 +131,8 @@ content_at K.Restore flags qualifier first last = A.Restore
 content_at K.Free flags qualifier first last = A.Free
 content_at K.Terminate flags qualifier first last = A.Terminate
 content_at K.FreeInstance flags qualifier first last = A.FreeInstance
+content_at K.Serialize flags qualifier first last = A.Serialize qualifier
+content_at K.Deserialize flags qualifier first last = A.Deserialize
 
 -- the status of a number from 2 to 4
 abbrev pub bad_status_at : ℕ → BadStatus

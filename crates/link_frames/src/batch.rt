@@ -6,7 +6,7 @@ ghost use Rattle.link_frames.specs.declared.call.CallFrame.{CallFrame as CallFra
 ghost use Rattle.link_frames.specs.Batch.{BatchParts, CanAnswer, CanBeBatched, CountOf, IsHeadOf, batch_head, IsBatch, frames_of, FirstOf, IsCallBatch, IsReplyBatch, ItemsOf, item_form, items_at};
 ghost use Rattle.exact_parts.specs.Taking.{Takes};
 ghost use Rattle.link_frames.specs.Head.{spelling};
-ghost use Rattle.link_frames.specs.Reply.{IsReplyFrame};
+ghost use Rattle.link_frames.specs.Reply.{CanBeTold, IsReplyFrame};
 ghost use Rattle.exact_parts.specs.declared.taken.Taken.{Taken as TakenSpec};
 
 use crate::call::{put_at, put_call};
@@ -197,6 +197,7 @@ pub fn put_batch(calls: &[Call], out: &mut [u8]) -> usize
 }
 
 fn frame_of_reply(reply: &Reply) -> [u8; 24]
+    requires { CanBeTold reply.now }
     ensures { IsReplyFrame reply.now result }
 {
     let mut frame = [0; 24];

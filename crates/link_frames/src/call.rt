@@ -81,7 +81,18 @@ fn head_of_call(call: &Call, name_len: u64, token_len: u64) -> Head
         | Call::Restore
         | Call::Free
         | Call::Terminate
-        | Call::FreeInstance => plain,
+        | Call::FreeInstance
+        | Call::Serialize => plain,
+        Call::Deserialize {
+            length,
+            point,
+            stop,
+        } => Head {
+            reference: length,
+            first: point,
+            last: stop,
+            ..plain
+        },
     }
 }
 
@@ -146,6 +157,12 @@ fn call_at(numbers: &Numbers) -> Call
         Kind::Free => Call::Free,
         Kind::Terminate => Call::Terminate,
         Kind::FreeInstance => Call::FreeInstance,
+        Kind::Serialize => Call::Serialize,
+        Kind::Deserialize => Call::Deserialize {
+            length: reference,
+            point: first,
+            stop: last,
+        },
     }
 }
 

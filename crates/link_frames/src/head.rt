@@ -8,7 +8,7 @@ pub(crate) struct Head {
     /// the type of the variable, or the status
     pub detail: u8,
     pub flags: u8,
-    /// the value reference, or the qualifier of an interval
+    /// the value reference, the qualifier of an interval, or the length of a state
     pub reference: u32,
     pub first: u64,
     pub last: u64,

@@ -1,5 +1,5 @@
 ghost use Rattle.std.specs.Prelude.{◌≡◌, ◌<◌, slice_index};
-ghost use Rattle.link_frames.specs.Layout.{any, any_reference, around_zero, batch_row, between, call_row, done_row, interval_row, kind_at, kinds_of, kinds_of_items, of_clock, plain_call, plain_reply, reply_row, row_of, size_at, spans_at, text_max, type_at, type_number, words, zero_only};
+ghost use Rattle.link_frames.specs.Layout.{any, any_reference, around_zero, batch_row, between, call_row, done_row, interval_row, kind_at, kind_numbers, kinds_of, kinds_of_items, of_clock, plain_call, plain_reply, reply_row, row_of, size_at, spans_at, text_max, type_at, type_number, words, zero_only};
 
 use exact_parts::{Span, Spans};
 use fmi_calls::Kind;
@@ -30,13 +30,15 @@ pub(crate) struct Row {
     /// the type of the variable, or the status
     pub detail: Spans,
     pub flags: Spans,
-    /// the value reference, or the qualifier of an interval
+    /// the value reference, the qualifier of an interval, or the length of a state
     pub reference: Spans,
     pub first: Spans,
     pub last: Spans,
 }
 
 const TEXT_MAX: u64 = 1 << 24;
+
+const STATE_MAX: u64 = 1 << 20;
 
 /// The kind with this number.
 pub(crate) fn kind_at(number: u64) -> Kind
@@ -60,6 +62,8 @@ pub(crate) fn kind_at(number: u64) -> Kind
         15 => Kind::Restore,
         16 => Kind::Free,
         17 => Kind::Terminate,
+        20 => Kind::Serialize,
+        21 => Kind::Deserialize,
         _ => Kind::FreeInstance,
     }
 }
@@ -216,7 +220,14 @@ fn call_row(kind: Kind, port_type: PortType) -> Row
         | Kind::Restore
         | Kind::Free
         | Kind::Terminate
-        | Kind::FreeInstance => plain_call(),
+        | Kind::FreeInstance
+        | Kind::Serialize => plain_call(),
+        Kind::Deserialize => Row {
+            reference: any_reference(),
+            first: any(),
+            last: any(),
+            ..plain_call()
+        },
     }
 }
 
@@ -268,7 +279,12 @@ fn done_row(kind: Kind, flags: u64, qualifier: u64) -> Row
         | Kind::Restore
         | Kind::Free
         | Kind::Terminate
-        | Kind::FreeInstance => plain_reply(),
+        | Kind::FreeInstance
+        | Kind::Deserialize => plain_reply(),
+        Kind::Serialize => Row {
+            reference: between(0, STATE_MAX),
+            ..plain_reply()
+        },
     }
 }
 
@@ -314,12 +330,22 @@ fn kinds_of_items(items: Items) -> Spans
     }
 }
 
+// The numbers of the kinds of single frames: 19 is that of a batch.
+fn kind_numbers() -> Spans
+    ensures { result ≡ kind_numbers }
+{
+    Spans {
+        one: Span { low: 1, high: 18 },
+        other: Span { low: 20, high: 21 },
+    }
+}
+
 /// The numbers of the kinds that a frame of the form may have.
 pub(crate) fn kinds_of(form: Form) -> Spans
     ensures { result ≡ kinds_of form }
 {
     match form {
-        Form::OfCall | Form::OfReply => between(1, 18),
+        Form::OfCall | Form::OfReply => kind_numbers(),
         Form::OfBatch => between(19, 19),
         Form::CallItem(items) | Form::ReplyItem(items) => kinds_of_items(items),
     }

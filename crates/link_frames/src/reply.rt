@@ -1,6 +1,6 @@
-ghost use Rattle.std.specs.Prelude.{◌≡◌};
+ghost use Rattle.std.specs.Prelude.{◌≡◌, ◌<◌, ◌^◌, slice_index};
 ghost use Rattle.link_frames.specs.Head.{spelling};
-ghost use Rattle.link_frames.specs.Reply.{IsReplyFrame, bad_number, bad_status_at, content_at, fraction_at, head_of_content, head_of_reply, interval_at, reply_at, with_interval};
+ghost use Rattle.link_frames.specs.Reply.{CanBeTold, IsReplyFrame, bad_number, bad_status_at, content_at, fraction_at, frame_of, head_of_content, head_of_reply, interval_at, reply_at, with_interval};
 ghost use Rattle.exact_parts.specs.Taking.{Takes};
 ghost use Rattle.exact_parts.specs.declared.taken.Taken.{Taken as TakenSpec};
 
@@ -76,7 +76,12 @@ fn head_of_content(status: u8, content: &Content) -> Head
         | Content::Restore
         | Content::Free
         | Content::Terminate
-        | Content::FreeInstance => plain,
+        | Content::FreeInstance
+        | Content::Deserialize => plain,
+        Content::Serialize { length } => Head {
+            reference: length,
+            ..plain
+        },
     }
 }
 
@@ -133,6 +138,7 @@ fn interval_at(qualifier: u64, fraction: Fraction) -> Interval
 }
 
 fn content_at(kind: Kind, flags: u64, qualifier: u64, first: u64, last: u64) -> Content
+    requires { qualifier < 2 ^ 32 }
     ensures { result ≡ content_at kind flags qualifier first last }
 {
     let fraction = Fraction {
@@ -171,6 +177,10 @@ fn content_at(kind: Kind, flags: u64, qualifier: u64, first: u64, last: u64) -> 
         Kind::Free => Content::Free,
         Kind::Terminate => Content::Terminate,
         Kind::FreeInstance => Content::FreeInstance,
+        Kind::Serialize => Content::Serialize {
+            length: qualifier as u32,
+        },
+        Kind::Deserialize => Content::Deserialize,
     }
 }
 
@@ -185,6 +195,7 @@ fn bad_status_at(status: u64) -> BadStatus
 }
 
 fn reply_at(numbers: &Numbers) -> Reply
+    requires { slice_index numbers.now 4 < 2 ^ 32 }
     ensures { result ≡ reply_at numbers.now }
 {
     let [kind, status, flags, _, qualifier, first, last] = *numbers;
@@ -202,9 +213,10 @@ fn reply_at(numbers: &Numbers) -> Reply
     }
 }
 
-/// Puts the frame of a reply, 24 bytes.
+/// Puts the frame of a reply, 24 bytes: that of Serialize tells of at most 2^20 bytes.
 pub fn put_reply(reply: &Reply, out: &mut [u8; 24])
-    ensures { IsReplyFrame reply.now out.new }
+    ensures spelled { out.new ≡ frame_of reply.now }
+    ensures frame { CanBeTold reply.now → IsReplyFrame reply.now out.new }
 {
     *out = spell(head_of_reply(reply));
 }

@@ -24,8 +24,8 @@ use Rattle.step_agreement.specs.OverMachines.{IgnoreSlots}
 use Rattle.step_agreement.specs.Saving.{IsGoodOutcome}
 use Rattle.step_agreement.proofs.CallerLemmas.{HasAlong, IsAlong, along_agreement}
 use Rattle.rollback.specs.StepsBy.{all_at}
-use Rattle.event_iteration.proofs.ByLog.{IsRead, last_alone_is_bad, made_all, reads_stay, replies_first, replies_then, states_on}
-use Rattle.calling_sequence.specs.Course.{Agreed, Before, Configured, Course, Departing, Entered, Found, Left, Leaving, Made, Place, Read, Rearmed, Saved, Seen, Short, Spot, Stepped, Timed, part_at, shown}
+use Rattle.event_iteration.proofs.ByLog.{AreAll, IsRead, last_alone_is_bad, made_all, reads_stay, replies_first, replies_then, states_on}
+use Rattle.calling_sequence.specs.Course.{Agreed, Before, Configured, Course, CourseIn, Departing, Entered, Extent, Found, Left, Leaving, Made, Place, Read, Rearmed, Restored, Saved, Seen, Short, Spot, Stepped, Timed, Whole, first_of, part_at, shown}
 use Rattle.calling_sequence.specs.Parts.{Agreement, Calls, Does, Part, Round, Walk}
 use Rattle.system_model.specs.Plans.{IsPlan}
 use Rattle.calling_sequence.proofs.Along.{along}
@@ -99,10 +99,10 @@ trace_seen r s is x kind end leads =
 module _ (r : Run) (sound : IsSound r.system) (plan : IsPlan r.plan) (machines : AreMachines r) (ignore : IgnoreSlots r) where
   -- ---- all along
 
-  -- the log is good, and leads the machines there
-  pub record Stands (p : Place) (log : List Sent) (is : List Instant) : Type 0 where
+  -- after these instants and from these states on, the log is good, and leads the machines there
+  pub record Stands (front : List Instant) (base : List MachineState) (p : Place) (log : List Sent) (is : List Instant) : Type 0 where
     pub good : All (IsGoodOf (shapes_of r.system)) log
-    pub at : At r p is (states_by r (I.instantiated r) log)
+    pub at : At r p (front ++ is) (states_by r base log)
 
   abbrev Good : List Sent → Type 0
   Good log = All (IsGoodOf (shapes_of r.system)) log
@@ -130,23 +130,29 @@ module _ (r : Run) (sound : IsSound r.system) (plan : IsPlan r.plan) (machines :
         all_good t (Unfit i e) log good has = has
         all_good t (Fails bad) log good has = absurd good
 
-  pub stands : (p : Place) (log : List Sent) (is : List Instant) → Course r.system r.bound r.plan p log is → AreReplies r (I.instantiated r) log → Stands p log is
-  stands p log is course = along r.system r.bound r.plan (λ q l js. AreReplies r first l → Stands q l js)
-      (λ replies. record { good = All-nil GoodSent; at = (refl, reads_stay r first (made_all r machines) [] (All-nil IsRead)) })
-      (λ q next values front more js course before does leads replies.
-      let old = before (replies_first r first front more replies) in
-      let behind = replies_then r first front more old.good replies in
-      record {
-        good = All-append GoodSent front more old.good (does_good (part_at r.system r.bound r.plan q) values more does);
-        at = subst (At r next (js ++ shown next)) (sym (states_on r first front more)) (row r sound plan machines ignore q next values more leads js (states_by r first front) old.at does behind);
-      })
-      p log is course
-    where
-      first : List MachineState
-      first = I.instantiated r
+  module _ (extent : Extent) (front : List Instant) (base : List MachineState) (all : AreAll r base) (begins : At r (first_of extent) front base) where
+    pub stands_in : (p : Place) (log : List Sent) (is : List Instant) → CourseIn r.system r.bound r.plan extent p log is → AreReplies r base log → Stands front base p log is
+    stands_in p log is course = along r.system r.bound r.plan extent (λ q l js. AreReplies r base l → Stands front base q l js)
+        (λ replies. record {
+          good = All-nil GoodSent;
+          at = subst (λ (js : List Instant). At r (first_of extent) js (states_by r base [])) (sym (append-nil front)) (subst (At r (first_of extent) front) (sym (reads_stay r base all [] (All-nil IsRead))) begins);
+        })
+        (λ q next values before more js course old_stands does leads within replies.
+        let old = old_stands (replies_first r base before more replies) in
+        let behind = replies_then r base before more old.good replies in
+        record {
+          good = All-append GoodSent before more old.good (does_good (part_at r.system r.bound r.plan q) values more does);
+          at = subst (λ (ks : List Instant). At r next ks (states_by r base (before ++ more))) (append_assoc front js (shown next))
+              (subst (At r next ((front ++ js) ++ shown next)) (sym (states_on r base before more)) (row r sound plan machines ignore q next values more leads (front ++ js) (states_by r base before) old.at does behind));
+        })
+        p log is course
+      where
+        GoodSent : Sent → Type 0
+        GoodSent = IsGoodOf (shapes_of r.system)
 
-      GoodSent : Sent → Type 0
-      GoodSent = IsGoodOf (shapes_of r.system)
+  -- of a whole run
+  pub stands : (p : Place) (log : List Sent) (is : List Instant) → Course r.system r.bound r.plan p log is → AreReplies r (I.instantiated r) log → Stands [] (I.instantiated r) p log is
+  stands = stands_in Whole [] (I.instantiated r) (made_all r machines) (refl, refl)
 
   -- ---- the instants so far
 
@@ -172,10 +178,11 @@ module _ (r : Run) (sound : IsSound r.system) (plan : IsPlan r.plan) (machines :
   front_at (Read s) is ss (f, timers) = ahead s is f.z f.at
   front_at (Rearmed s) is ss (f, kept, timers) = ahead s is f.z f.at
   front_at (Seen s again asked) is ss x = past s is x.sees
-  front_at (Leaving w) is ss (g, at) = past w.s is g.sees
-  front_at (Left w) is ss (g, at) = past w.s is g.sees
-  front_at (Departing w) is ss (g, at) = past w.s is g.sees
-  front_at (Saved w) is ss (g, at) = past w.s is g.sees
-  front_at (Short w component end) is ss (g, lacks) = past w.s is g.sees
-  front_at (Agreed w point asked) is ss (l, at) = past w.s is l.goes.sees
-  front_at (Stepped s asked) is ss x = past x.w.s is x.lands.goes.sees
+  front_at (Leaving w) is ss (g, at) = past (record w.s { n = g.n }) is g.sees
+  front_at (Left w) is ss (g, at) = past (record w.s { n = g.n }) is g.sees
+  front_at (Departing w) is ss (g, at) = past (record w.s { n = g.n }) is g.sees
+  front_at (Saved w) is ss (g, at) = past (record w.s { n = g.n }) is g.sees
+  front_at (Short w component end) is ss (g, lacks) = past (record w.s { n = g.n }) is g.sees
+  front_at (Agreed w point asked) is ss (l, at) = past (record w.s { n = l.goes.n }) is l.goes.sees
+  front_at (Restored s) is ss x = past (record s { n = x.n }) is x.sees
+  front_at (Stepped s asked) is ss x = past (record x.w.s { n = x.lands.goes.n }) is x.lands.goes.sees

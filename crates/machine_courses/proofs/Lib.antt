@@ -1,4 +1,5 @@
 pub mod Bare
+pub mod Near
 pub mod Steps
 pub mod Places
 pub mod Following
@@ -15,3 +16,10 @@ pub mod StepCalls
 pub mod Bounds
 pub mod Rest
 pub mod TraceLaw
+pub mod Words
+pub mod HeldLaw
+pub mod EarlyLaw
+pub mod SameCourses
+pub mod RestLaw
+pub mod KeptCalls
+pub mod HeldWell

@@ -59,7 +59,7 @@ only_link m shape s e es why h well is = by why is where
   by (Refused c status) (reply, at, result, status_is, grade) = absurd (let wrong = sym grade ∙ good c reply at result in cc)
   by (Misreply c reply) (at, result, grade) = absurd (let wrong = sym grade ∙ good c reply at result in cc)
 
-link_lost : (shape : Shape) (why : Why) (e : Exchange) → IsLink why → IsWhy shape why e → is_err e.result ≡ true
+pub link_lost : (shape : Shape) (why : Why) (e : Exchange) → IsLink why → IsWhy shape why e → is_err e.result ≡ true
 link_lost shape (Refused call status) e l w = absurd l
 link_lost shape (Misreply call reply) e l w = absurd l
 link_lost shape (Link call fault) e l w = ap (λ (r : Result _ PeerFault). is_err r) w.1

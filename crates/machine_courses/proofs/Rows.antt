@@ -9,7 +9,7 @@ use Rattle.fmu_peer.specs.Machine.{MachineState, after}
 use Rattle.system_model.specs.Ports.{numbers}
 use Rattle.system_model.specs.Sound.{IsSound}
 use Rattle.system_model.specs.Text.{Instant}
-use Rattle.run_model.specs.AfterInstant.{Again as Repeats, Done, following, goes_again, updated, written}
+use Rattle.run_model.specs.AfterInstant.{Again as Repeats, Done, following, goes_again, next_timers, updated, written}
 use Rattle.run_model.specs.Initial as I
 use Rattle.run_model.specs.Machines.{AreMachines, IsSituation}
 use Rattle.run_model.specs.Run.{Run, Situation, Timer, each}
@@ -30,15 +30,18 @@ use Rattle.event_iteration.specs.Updates.{events_told}
 use Rattle.event_iteration.specs.Settings.{entered_step}
 use Rattle.event_iteration.proofs.ByLog.{AreAll, IsRead, fixed_by_log, initial_by_log, instant_by_log, intervals_by_log, reads_stay, sets_by_log, stage_states, updated_all, updates_by_log}
 use Rattle.calling_sequence.specs.Calls.{IsStep}
-use Rattle.calling_sequence.specs.Course.{Again, Agreed, Agreeing, Arrives, Begins, Binds, Departing, Enters, Exits, Finds, Frees, GoesOn, Leaves, Leaving, LeadsTo, Left, Place, Reads, Rearming, Saved, Saves, Sets, Short, Spot, Stepped, Stopping, Times, Updates, Way, part_at, shown}
+use Rattle.calling_sequence.specs.Course.{Again, Agreed, Agreeing, Arrives, Begins, Binds, Departing, Enters, Exits, Finds, Frees, GoesOn, Leaves, Leaving, LeadsTo, Left, Place, Reads, Rearming, Resumes, Saved, Saves, Sets, Short, Spot, Stepped, Stopping, Times, Updates, Way, part_at, shown}
 use Rattle.calling_sequence.specs.Parts.{AllAgree, Does}
 use Rattle.system_model.specs.Plans.{IsPlan}
+use Rattle.run_rest.specs.Snapshot.{time_up_to, up_to}
+use Rattle.run_rest.proofs.CallerLemmas.{any_across}
 use Rattle.machine_courses.specs.Fronts.{AtFirst, CameTo, Onward}
 use Rattle.machine_courses.proofs.Bare.{AreBare, bare_at, bare_updated}
 use Rattle.machine_courses.proofs.Following.{by_answers, following_by, leads_by, same_instant, situation_by}
 use Rattle.machine_courses.proofs.Losing.{all_bad_same}
-use Rattle.machine_courses.proofs.Places.{At, Comes, Goes, IsWithin, Says, Sees, over}
-use Rattle.machine_courses.proofs.Steps.{after_step, agreed, arrived_is, falls_short, freed_by_log, lands, saved, saved_by_log}
+use Rattle.machine_courses.proofs.Near.{alike_same, rearms_across, step_near, ticks_across}
+use Rattle.machine_courses.proofs.Places.{At, Comes, CountAs, Goes, IsWithin, Says, Sees, gone, over}
+use Rattle.machine_courses.proofs.Steps.{after_step, agreed, arrived_is, entering_all, falls_short, freed_by_log, lands, saved, saved_by_log}
 use Rattle.machine_courses.proofs.Parameters.{configured_states}
 
 -- where the limit isn't reached one more instant is below it
@@ -74,7 +77,7 @@ module _ (r : Run) (s : Spot) (ticks : ℕ → Bool) (is : List Instant) (ss : L
   ticks_at =
       subst (λ (k : ℕ). AreTicks r.system r.plan.start c.z.timers c.z.t k ticks) (sym c.at.number)
       (subst (λ (k : ℕ). AreTicks r.system r.plan.start c.z.timers k s.n ticks) (sym c.at.point)
-      (subst (λ (ts : List Timer). AreTicks r.system r.plan.start ts s.t s.n ticks) (sym c.timers) c.begins.are_ticks))
+      (ticks_across r.plan c.z.timers s.timers c.timers r.system s.t s.n ticks c.at.within.ended c.begins.are_ticks))
 
   pub walk_at : (P : ℕ → List (Option ℤ) → Type 0) → P s.n s.values → P c.z.n c.z.before
   walk_at P h = subst (λ (n : ℕ). P n c.z.before) (sym c.at.number) (subst (P s.n) (sym c.values) h)
@@ -104,7 +107,7 @@ module _ (r : Run) (sound : IsSound r.system) (plan : IsPlan r.plan) (machines :
   -- a step from a point that is done
   module _ (w : Way) (is : List Instant) (g : Goes r w is) where
     abbrev u : Situation
-    u = over r w.s is g.sees
+    u = gone r w is g
 
     pub at_point : u.t ≡ w.s.t
     at_point = g.sees.at.point
@@ -118,10 +121,10 @@ module _ (r : Run) (sound : IsSound r.system) (plan : IsPlan r.plan) (machines :
         record { begun = omega (arith, begun, here, later); ended = omega (arith, last, most); below = some }
 
     pub goes_all : AreAll r u.states
-    goes_all = over_all w.s is g.sees
+    goes_all = over_all (record w.s { n = g.n }) is g.sees
 
     pub goes_bare : AreBare u.states
-    goes_bare = over_bare w.s is g.sees
+    goes_bare = over_bare (record w.s { n = g.n }) is g.sees
 
     -- the agreement is one of their run
     pub agrees_here : (log : List Sent) (outcome : Outcome) → AllAgree r.system w.s.t r.plan.step w.to log outcome → AllAgree r.system u.t r.plan.step w.to log outcome
@@ -143,7 +146,7 @@ module _ (r : Run) (sound : IsSound r.system) (plan : IsPlan r.plan) (machines :
         z = I.beginning r at.initial;
         at = record { came = AtFirst (I.beginning r at.initial) (is ++ []) at.initial at.solves kept refl (append-nil is ∙ none); point = refl; number = refl; within = record { begun = omega arith; ended = plan.ordered; below = plan.limit_above } };
         values = refl;
-        timers = sym timers_are;
+        timers = alike_same (up_to r.plan.stop) _ _ (sym timers_are);
         begins = subst (λ (x : Spot). Begins r.system r.plan x ticks) s_is begins;
         states = sends r more ss (I.initialized r at.initial) at.states everyone (λ (shape : Shape). C.ExitInitialization) does;
       })
@@ -160,9 +163,9 @@ module _ (r : Run) (sound : IsSound r.system) (plan : IsPlan r.plan) (machines :
       )
   row _ _ _ _ (Rearming s values next more kept rearms) is ss (f, timers) does replies =
       let z = f.z in
-      let own : Rearms r.system r.plan.resolution z.t s.values z.timers next more =
-      subst (λ (k : ℕ). Rearms r.system r.plan.resolution k s.values z.timers next more) (sym f.at.point) (subst (λ (ts : List Timer). Rearms r.system r.plan.resolution s.t s.values ts next more) (sym timers) rearms) in
-      let told = intervals_by_log r z s.values next more sound machines (situation_by r sound machines z is f.at.came) own (inside r more ss (written r z s.values) f.states replies) in (
+      let near = rearms_across r.system r.plan.stop r.plan.resolution z.t s.values z.timers s.timers next more timers
+      (subst (λ (k : ℕ). Rearms r.system r.plan.resolution k s.values s.timers next more) (sym f.at.point) rearms) in
+      let told = intervals_by_log r z s.values near.others more sound machines (situation_by r sound machines z is f.at.came) near.rearms (inside r more ss (written r z s.values) f.states replies) in (
         record {
           z = z;
           at = record { came = subst (CameTo r z) (sym (append-nil is)) f.at.came; point = f.at.point; number = f.at.number; within = f.at.within };
@@ -170,14 +173,17 @@ module _ (r : Run) (sound : IsSound r.system) (plan : IsPlan r.plan) (machines :
           states = behind r more ss (written r z s.values) (written r z s.values) f.states told.0;
         },
         kept,
-        sym told.1,
+        subst (λ (ts : List Timer). CountAs r ts next) told.1 near.alike,
       )
   row _ _ _ _ (Updates s values more events again asked events_are again_is asked_is) is ss (f, kept, timers) does replies =
       let z = f.z in
+      let point = f.at.point in
+      let ended = f.at.within.ended in
+      let within : z.t ≤ r.plan.stop = omega (arith, point, ended) in
       let told = updates_by_log r z s.values more machines (situation_by r sound machines z is f.at.came) does (inside r more ss (written r z s.values) f.states replies) in
       record {
-        sees = record { z = z; earlier = is; at = record { came = f.at.came; point = f.at.point; number = f.at.number; within = f.at.within }; solves = f.solves; timers = timers; events = sym (events_are ∙ ap (λ (k : ℕ). events_told k (shapes_of r.system) more) (sym f.at.point) ∙ told.3); kept = kept; is_is = ap (λ (i : Instant). is ++ i ∷ []) (same_instant s z f.at.point f.at.number) };
-        again_is = again_is ∙ ap₂ ◌||◌ told.1 (ap (λ (k : ℕ). is_some_armed k s.timers) (sym f.at.point) ∙ ap (is_some_armed z.t) (sym timers));
+        sees = record { z = z; earlier = is; at = record { came = f.at.came; point = f.at.point; number = f.at.number; within = f.at.within }; solves = f.solves; timers = timers; events = alike_same (time_up_to r.plan.stop) _ _ (sym (events_are ∙ ap (λ (k : ℕ). events_told k (shapes_of r.system) more) (sym f.at.point) ∙ told.3)); kept = kept; is_is = ap (λ (i : Instant). is ++ i ∷ []) (same_instant s z f.at.point f.at.number) };
+        again_is = again_is ∙ ap₂ ◌||◌ told.1 (ap (λ (k : ℕ). is_some_armed k s.timers) (sym f.at.point) ∙ sym (any_across r.plan.stop z.t (next_timers r z s.values) s.timers within timers));
         asked_is = asked_is ∙ told.2;
         states = behind r more ss (written r z s.values) (updated r z s.values).states f.states told.0;
       }
@@ -195,10 +201,10 @@ module _ (r : Run) (sound : IsSound r.system) (plan : IsPlan r.plan) (machines :
   row _ _ _ _ (GoesOn w values more step) is ss x does replies =
       let z = over r w.s is x.sees in
       let own : IsStep r.system r.plan z.timers z.events z.t w.to =
-      subst (λ (ts : List Timer). IsStep r.system r.plan ts z.events z.t w.to) (sym x.sees.timers)
-      (subst (λ (es : List (Option ℕ)). IsStep r.system r.plan w.s.timers es z.t w.to) (sym x.sees.events) (subst (λ (k : ℕ). IsStep r.system r.plan w.s.timers w.s.events k w.to) (sym x.sees.at.point) step)) in
+      step_near r z.timers w.s.timers z.events w.s.events x.sees.timers x.sees.events z.t w.to
+      (subst (λ (k : ℕ). IsStep r.system r.plan w.s.timers w.s.events k w.to) (sym x.sees.at.point) step) in
       subst (λ (js : List Instant). At r (Leaving w) js (states_by r ss more)) (sym (append-nil is))
-      (record { sees = x.sees; done = follows w.s false false is ss x; step = own }, behind r more ss z.states z.states x.states (stays r more z.states (over_all w.s is x.sees) does))
+      (record { n = w.s.n; sees = x.sees; done = follows w.s false false is ss x; step = own }, behind r more ss z.states z.states x.states (stays r more z.states (over_all w.s is x.sees) does))
   row _ _ _ _ (Leaves w values more) is ss (g, at) does replies =
       subst (λ (js : List Instant). At r (Left w) js (states_by r ss more)) (sym (append-nil is))
       (g, sends r more ss (u w is g).states at has_events (λ (shape : Shape). C.EnterStep) does)
@@ -236,9 +242,19 @@ module _ (r : Run) (sound : IsSound r.system) (plan : IsPlan r.plan) (machines :
       let leads = leads_by r g.sees.z x.w.s.values Done (P.GoesOn next) g.done (P.ByStep (P.GoesOn next) x.lands.asks s.t x.lands.made (sym x.lands.asked_is) refl) in
       record {
         z = next;
-        at = record { came = subst (CameTo r next) (sym (append-nil is)) (leads_on x.w.s is g.sees next leads); point = refl; number = refl; within = step_within x.w is g s x.lands.later x.lands.within };
+        at = record { came = subst (CameTo r next) (sym (append-nil is)) (leads_on (record x.w.s { n = g.n }) is g.sees next leads); point = refl; number = refl; within = step_within x.w is g s x.lands.later x.lands.within };
         values = x.values;
-        timers = g.sees.timers ∙ x.timers;
+        timers = subst (λ (ts : List Timer). CountAs r (next_timers r g.sees.z x.w.s.values) ts) x.timers g.sees.timers;
         begins = begins;
         states = sends r more ss (after_step r z x.lands.asks) x.states has_events (λ (shape : Shape). C.EnterEvent) does ∙ arrived_is r z (goes_all x.w is g) x.lands.asks s.t;
       }
+  row _ _ _ _ (Resumes w values more step) is ss x does replies =
+      let z = updated r x.sees.z w.s.values in
+      let s : Spot = record w.s { n = x.n } in
+      let own : IsStep r.system r.plan z.timers z.events z.t w.to =
+      step_near r z.timers w.s.timers z.events w.s.events x.sees.timers x.sees.events z.t w.to
+      (subst (λ (k : ℕ). IsStep r.system r.plan w.s.timers w.s.events k w.to) (sym x.sees.at.point) step) in
+      subst (λ (js : List Instant). At r (Left w) js (states_by r ss more)) (sym (append-nil is)) (
+        record { n = x.n; sees = x.sees; done = x.done; step = own },
+        behind r more ss (entered_step r z) (entered_step r z) x.states (stays r more (entered_step r z) (entering_all r z (over_all s is x.sees)) does),
+      )

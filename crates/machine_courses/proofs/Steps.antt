@@ -28,6 +28,7 @@ use Rattle.step_agreement.specs.Saving.{AreAllAt, is_saved}
 use Rattle.step_agreement.proofs.CallerLemmas.{IsKept, agrees_over_machines, meets_within, puts_back_saved, saved_in}
 use Rattle.rollback.specs.StepsBy.{all_at, some_ask_from}
 use Rattle.rollback.proofs.CallerLemmas.{some_ask_is}
+use Rattle.event_iteration.specs.Settings.{entered_step}
 use Rattle.event_iteration.proofs.ByLog.{AreAll, all_on, each_each, each_same, part_all, stage_states}
 use Rattle.calling_sequence.specs.Calls.{IsBoundOf, first_unfit, freeing, saving}
 use Rattle.calling_sequence.specs.Parts.{AllAgree}
@@ -105,6 +106,10 @@ module _ (r : Run) (z : Situation) (all : AreAll r z.states) where
   -- those with event mode are in Step Mode, and of the others the inputs are set
   pub departing_all : AreAll r (departing r z)
   departing_all = all_on r z.states all (λ i c m state. if c.shape.has_event_mode then after m state C.EnterStep else state_with r.system.ports z.before i m state)
+
+  -- and those with event mode alone
+  pub entering_all : AreAll r (entered_step r z)
+  entering_all = all_on r z.states all (λ i c m state. if c.shape.has_event_mode then after m state C.EnterStep else state)
 
   pub saved_all : AreAll r (saved r z)
   saved_all = all_on r (departing r z) departing_all (λ i c m s. with_slot (slot_in (saves r i) s) s)

@@ -1,5 +1,5 @@
 -- Machines that behave well get no bad answer: of a log of them the text of their trace is put, but for a call or a put that failed.
-use Rattle.std.proofs.Common.{◌≡◌, ◌⊎◌, ℕ, true, false, List, [], ◌∷◌, ◌++◌, inl, inr, refl, sym, ap, ◌∙◌, append_assoc, length, map}
+use Rattle.std.proofs.Common.{◌≡◌, ◌⊎◌, ℕ, true, false, List, [], ◌∷◌, ◌++◌, inl, inr, refl, sym, ap, ◌∙◌, append_assoc, length, map, subst}
 use Rattle.std.specs.Prelude.{◌==◌}
 use Rattle.std.proofs.lemmas.List.{length-map, map-append}
 use Rattle.value_types.specs.declared.shape.Shape.{Shape}
@@ -29,22 +29,23 @@ use Rattle.step_agreement.specs.OverMachines.{IgnoreSlots}
 use Rattle.event_iteration.specs.Explains.{ExplainsUntil}
 use Rattle.event_iteration.specs.Instants.{in_instant}
 use Rattle.event_iteration.specs.Settings.{entered_step}
-use Rattle.event_iteration.proofs.ByLog.{configured_all, initialized_all, replies_first, replies_then}
+use Rattle.run_model.specs.Trace.{IsTrace}
+use Rattle.event_iteration.proofs.ByLog.{AreAll, configured_all, initialized_all, made_all, replies_first, replies_then}
 use Rattle.calling_sequence.specs.declared.run_end.RunEnd.{RunEnd}
 use Rattle.calling_sequence.specs.declared.run_end.RunEnd.TheVariants as E
-use Rattle.calling_sequence.specs.Course.{Agreed, Before, Configured, Course, Departing, Entered, Found, Left, Leaving, Made, Place, Read, Rearmed, Saved, Seen, Short, Stepped, Timed, Way, part_at}
-use Rattle.calling_sequence.specs.Ends.{Awaits, Badly, EndLine, EndsBy, Finishes, Header, Shown, Well, header_of, kind_of_end, pieces_of, point_of, text_of, trace_pieces}
+use Rattle.calling_sequence.specs.Course.{Agreed, Before, Configured, CourseIn, Departing, Entered, Extent, Found, Left, Leaving, Made, Place, Read, Rearmed, Restored, Saved, Seen, Short, Stepped, Timed, Way, Whole, first_of, part_at}
+use Rattle.calling_sequence.specs.Ends.{AwaitsIn, Badly, EndLine, EndsBy, FinishesIn, Header, Shown, Well, header_of, kind_of_end, pieces_in, point_of, text_of}
 use Rattle.calling_sequence.specs.Parts.{Falls}
 use Rattle.system_model.specs.Plans.{IsPlan}
 use Rattle.calling_sequence.specs.Puts.{CutsPiece, with_pieces}
 use Rattle.machine_courses.specs.Laws.{TraceByLog, UnmadeByLog}
-use Rattle.machine_courses.specs.Outcomes.{CutsTrace, IsLost, Output, PutsRun, TracesWell}
+use Rattle.machine_courses.specs.Outcomes.{CutsTraceIn, IsLost, Output, PutsRun, Stretch, TracesWell, pieces_up_to, pieces_with_end, whole_of}
 use Rattle.machine_courses.proofs.Following.{reached_by}
-use Rattle.machine_courses.proofs.Fronts.{front_at, none, stands}
+use Rattle.machine_courses.proofs.Fronts.{front_at, none, stands_in}
 use Rattle.machine_courses.proofs.Initially.{lost_binding, lost_finding, lost_timing}
 use Rattle.machine_courses.proofs.Instants.{lost_found, lost_rearming, lost_updating}
 use Rattle.machine_courses.proofs.Lost.{lost_behind, lost_stops}
-use Rattle.machine_courses.proofs.Places.{At, Goes, over}
+use Rattle.machine_courses.proofs.Places.{At, Goes, gone}
 use Rattle.machine_courses.proofs.Rest.{whole}
 use Rattle.machine_courses.proofs.Rows.{agrees_here, goes_all, inside, ticks_at, walk_at}
 use Rattle.machine_courses.proofs.RunLaw.{made_replies, puts_run, trace_at}
@@ -59,12 +60,14 @@ none_falls shapes bad log s = by s.front (s.calls_are ∙ ap (λ (l : List Sent)
   by (x ∷ front) e = absurd (cc)
 
 -- the pieces of a trace, after those of a prefix
-pieces_behind : (system : System) (plan : Plan) (is : List Instant) (i : Instant) (rest : List Instant) (kind : EndKind) (point : ℕ) →
-    trace_pieces system plan ((is ++ i ∷ []) ++ rest) kind point ≡ pieces_of system plan is ++ text_of i ∷ (map text_of rest ++ end_text kind point ∷ [])
-pieces_behind system plan is i rest kind point =
-    ap (λ (xs : List Instant). trace_pieces system plan xs kind point) (append_assoc is (i ∷ []) rest)
-    ∙ ap (λ (ps : List (List ℕ)). header_of system plan ∷ (ps ++ end_text kind point ∷ [])) (map-append text_of is (i ∷ rest))
-    ∙ ap (λ (ps : List (List ℕ)). header_of system plan ∷ ps) (append_assoc (map text_of is) (text_of i ∷ map text_of rest) (end_text kind point ∷ []))
+pieces_behind : (part : Stretch) (is : List Instant) (i : Instant) (rest : List Instant) (kind : EndKind) (point : ℕ) →
+    pieces_with_end part ((is ++ i ∷ []) ++ rest) kind point ≡ pieces_up_to part is ++ text_of i ∷ (map text_of rest ++ end_text kind point ∷ [])
+pieces_behind part is i rest kind point =
+    ap (λ (xs : List Instant). pieces_with_end part xs kind point) (append_assoc is (i ∷ []) rest)
+    ∙ ap (λ (ps : List (List ℕ)). (part.head ++ ps) ++ end_text kind point ∷ []) (map-append text_of is (i ∷ rest))
+    ∙ append_assoc part.head (map text_of is ++ text_of i ∷ map text_of rest) (end_text kind point ∷ [])
+    ∙ ap (λ (ps : List (List ℕ)). part.head ++ ps) (append_assoc (map text_of is) (text_of i ∷ map text_of rest) (end_text kind point ∷ []))
+    ∙ sym (append_assoc part.head (map text_of is) (text_of i ∷ (map text_of rest ++ end_text kind point ∷ [])))
 
 module _ (r : Run) (sound : IsSound r.system) (plan : IsPlan r.plan) (machines : AreMachines r) (ignore : IgnoreSlots r) (binds : BindsParameters r.system r.bound) (well : WellBehaved r) where
   abbrev count : ℕ
@@ -74,7 +77,7 @@ module _ (r : Run) (sound : IsSound r.system) (plan : IsPlan r.plan) (machines :
   first = I.instantiated r
 
   -- the run departs there
-  departed : (w : Way) (is : List Instant) (g : Goes r w is) → Departed r (over r w.s is g.sees)
+  departed : (w : Way) (is : List Instant) (g : Goes r w is) → Departed r (gone r w is g)
   departed w is g = record {
     s = g.sees.z;
     values = w.s.values;
@@ -104,73 +107,93 @@ module _ (r : Run) (sound : IsSound r.system) (plan : IsPlan r.plan) (machines :
       lost_updating r sound machines well f.z (reached_by r f.z is f.at.came) bad log s.values f.solves (inside r log ss (F.written r f.z s.values) f.states replies) falls
   lost (Seen s again asked) is ss x bad log falls replies = absurd (none_falls (shapes_of r.system) bad log falls)
   lost (Leaving w) is ss (g, at) bad log falls replies =
-      let z = over r w.s is g.sees in
+      let z = gone r w is g in
       lost_leaving r sound machines well z (goes_all r sound plan machines ignore w is g) (departed w is g) bad log (inside r log ss z.states at replies) falls
   lost (Left w) is ss (g, at) bad log (values, falls) replies =
-      let z = over r w.s is g.sees in
+      let z = gone r w is g in
       lost_setting r sound machines well z (goes_all r sound plan machines ignore w is g) (departed w is g) bad log (inside r log ss (entered_step r z) at replies) values falls
   lost (Departing w) is ss (g, at) bad log falls replies =
-      let z = over r w.s is g.sees in
+      let z = gone r w is g in
       lost_saving r sound machines well z (goes_all r sound plan machines ignore w is g) (departed w is g) bad log (inside r log ss (departing r z) at replies) falls
   lost (Saved w) is ss (g, at) bad log falls replies =
-      let z = over r w.s is g.sees in
+      let z = gone r w is g in
       lost_agreeing r sound machines well z (goes_all r sound plan machines ignore w is g) (departed w is g) bad log ignore w.to g.step.bound (inside r log ss (saved r z) at replies) (agrees_here r sound plan machines ignore w is g log (Fails bad) falls)
   lost (Short w component end) is ss (g, lacks) bad log falls replies = absurd (none_falls (shapes_of r.system) bad log falls)
   lost (Agreed w point asked) is ss (l, at) bad log falls replies =
-      let z = over r w.s is l.goes.sees in
+      let z = gone r w is l.goes in
       lost_freeing r sound machines well z (goes_all r sound plan machines ignore w is l.goes) (departed w is l.goes) bad log l.asks point l.made (inside r log ss (agreed r z l.asks) at replies) falls
+  lost (Restored s) is ss x bad log falls replies = absurd (none_falls (shapes_of r.system) bad log falls)
   lost (Stepped s true) is ss x bad log falls replies = absurd (none_falls (shapes_of r.system) bad log falls)
   lost (Stepped s false) is ss x bad log falls replies =
       let g = x.lands.goes in
-      let z = over r x.w.s is g.sees in
+      let z = gone r x.w is g in
       lost_entering r sound machines well z (goes_all r sound plan machines ignore x.w is g) (departed x.w is g) bad log x.lands.asks s.t x.lands.made (sym x.lands.asked_is) (inside r log ss (after_step r z x.lands.asks) x.states replies) falls
 
-  lost_by : (p : Place) (bad : BadAnswer) (front more : List Sent) (is : List Instant) → Course r.system r.bound r.plan p front is → Falls r.system (part_at r.system r.bound r.plan p) bad more → AreReplies r first (front ++ more) → IsLost count (front ++ more) bad.why
-  lost_by p bad front more is course falls replies =
-      let at = stands r sound plan machines ignore p front is course (replies_first r first front more replies) in
-      lost_behind count front more bad.why (lost p is (states_by r first front) at.at bad more falls (replies_then r first front more at.good replies))
+  -- of a stretch of the run: along a course from its first place on, whose log leads the machines from these states
+  module _ (part : Stretch) (extent : Extent) (base : List MachineState) (all_base : AreAll r base) (begins : At r (first_of extent) part.behind base) where
+    lost_by : (p : Place) (bad : BadAnswer) (front more : List Sent) (is : List Instant) → CourseIn r.system r.bound r.plan extent p front is → Falls r.system (part_at r.system r.bound r.plan p) bad more → AreReplies r base (front ++ more) → IsLost count (front ++ more) bad.why
+    lost_by p bad front more is course falls replies =
+        let at = stands_in r sound plan machines ignore extent part.behind base all_base begins p front is course (replies_first r base front more replies) in
+        lost_behind count front more bad.why (lost p (part.behind ++ is) (states_by r base front) at.at bad more falls (replies_then r base front more at.good replies))
 
-  lost_end : (bad : BadAnswer) (point : ℕ) (log : List Sent) (is : List Instant) → Finishes r.system r.bound r.plan (E.Bad bad) point log is → AreReplies r first log → IsLost count log bad.why
-  lost_end bad _ _ _ (Well p _ log is course ends) replies = elim ends [ ]
-  lost_end _ _ _ _ (Badly p bad front more is course falls) replies = lost_by p bad front more is course falls replies
+    pub lost_end : (bad : BadAnswer) (point : ℕ) (log : List Sent) (is : List Instant) → FinishesIn r.system r.bound r.plan extent (E.Bad bad) point log is → AreReplies r base log → IsLost count log bad.why
+    lost_end bad _ _ _ (Well p _ log is course ends may) replies = elim ends [ ]
+    lost_end _ _ _ _ (Badly p bad front more is course falls) replies = lost_by p bad front more is course falls replies
 
-  module _ (o : Output) where
-    abbrev Cut : List Sent → Type 0
-    Cut log = ((why : Why) × IsLost count log why) ⊎ CutsTrace r o
+    module _ (o : Output) where
+      abbrev Cut : List Sent → Type 0
+      Cut log = ((why : Why) × IsLost count log why) ⊎ CutsTraceIn r part o
 
-    cut_by : (log : List Sent) (is : List Instant) (pieces : List (List ℕ)) (piece : List ℕ) → Awaits r.system r.bound r.plan log is pieces piece → AreReplies r first log → CutsPiece (with_pieces o.before pieces) piece o.after → Cut log
-    cut_by _ _ _ _ Header replies cut =
-        let w = whole r sound plan machines well [] (none r sound plan machines ignore [] refl) in
-        inr (record { is = w.rest; kind = w.kind; point = w.point; trace = w.trace; pieces = []; piece = header_of r.system r.plan; rest = map text_of w.rest ++ end_text w.kind w.point ∷ []; are = refl; cut = cut })
-    cut_by _ _ _ _ (Shown p log is i shows course) replies cut =
-        let at = stands r sound plan machines ignore p log (is ++ i ∷ []) course replies in
-        let w = whole r sound plan machines well (is ++ i ∷ []) (front_at r sound plan machines ignore p (is ++ i ∷ []) (states_by r first log) at.at) in
-        inr (record {
-          is = (is ++ i ∷ []) ++ w.rest;
-          kind = w.kind;
-          point = w.point;
-          trace = w.trace;
-          pieces = pieces_of r.system r.plan is;
-          piece = text_of i;
-          rest = map text_of w.rest ++ end_text w.kind w.point ∷ [];
-          are = pieces_behind r.system r.plan is i w.rest w.kind w.point;
-          cut = cut;
-        })
-    cut_by _ _ _ _ (EndLine end point log is finishes) replies cut = by end point log is finishes replies cut where
-      by : (end : RunEnd) (point : ℕ) (log : List Sent) (is : List Instant) → Finishes r.system r.bound r.plan end point log is → AreReplies r first log → CutsPiece (with_pieces o.before (pieces_of r.system r.plan is)) (end_text (kind_of_end end) point) o.after → Cut log
-      by _ _ _ _ (Well p end log is course ends) replies cut =
+      pub cut_shown : (p : Place) (log : List Sent) (is : List Instant) (i : Instant) → CourseIn r.system r.bound r.plan extent p log (is ++ i ∷ []) → AreReplies r base log → CutsPiece (with_pieces o.before (pieces_up_to part is)) (text_of i) o.after → Cut log
+      cut_shown p log is i course replies cut =
+          let at = stands_in r sound plan machines ignore extent part.behind base all_base begins p log (is ++ i ∷ []) course replies in
+          let w = whole r sound plan machines well (part.behind ++ (is ++ i ∷ [])) (front_at r sound plan machines ignore p (part.behind ++ (is ++ i ∷ [])) (states_by r base log) at.at) in
+          inr (record {
+            is = (is ++ i ∷ []) ++ w.rest;
+            kind = w.kind;
+            point = w.point;
+            trace = subst (λ (js : List Instant). IsTrace r js w.kind w.point) (append_assoc part.behind (is ++ i ∷ []) w.rest) w.trace;
+            pieces = pieces_up_to part is;
+            piece = text_of i;
+            rest = map text_of w.rest ++ end_text w.kind w.point ∷ [];
+            are = pieces_behind part is i w.rest w.kind w.point;
+            cut = cut;
+          })
+
+      pub cut_end : (end : RunEnd) (point : ℕ) (log : List Sent) (is : List Instant) → FinishesIn r.system r.bound r.plan extent end point log is → AreReplies r base log → CutsPiece (with_pieces o.before (pieces_up_to part is)) (end_text (kind_of_end end) point) o.after → Cut log
+      cut_end _ _ _ _ (Well p end log is course ends may) replies cut =
+          let at = stands_in r sound plan machines ignore extent part.behind base all_base begins p log is course replies in
           inr (record {
             is = is;
             kind = kind_of_end end;
             point = point_of r.plan p;
-            trace = trace_at r sound plan machines ignore end p ends is (states_by r first log) (stands r sound plan machines ignore p log is course replies).at;
-            pieces = pieces_of r.system r.plan is;
+            trace = trace_at r sound plan machines ignore end p ends (part.behind ++ is) (states_by r base log) at.at;
+            pieces = pieces_up_to part is;
             piece = end_text (kind_of_end end) (point_of r.plan p);
             rest = [];
             are = refl;
             cut = cut;
           })
-      by _ _ _ _ (Badly p bad front more is course falls) replies cut = inl (bad.why, lost_by p bad front more is course falls replies)
+      cut_end _ _ _ _ (Badly p bad front more is course falls) replies cut = inl (bad.why, lost_by p bad front more is course falls replies)
+
+  -- a whole run
+  module _ (o : Output) where
+    abbrev w : Stretch
+    w = whole_of r
+
+    abbrev from_made : At r Made [] first
+    from_made = (refl, refl)
+
+    cut_by : (x : Extent) (log : List Sent) (is : List Instant) (pieces : List (List ℕ)) (piece : List ℕ) → x ≡ Whole → AwaitsIn r.system r.bound r.plan x log is pieces piece → AreReplies r first log → CutsPiece (with_pieces o.before pieces) piece o.after → Cut w Whole first (made_all r machines) from_made o log
+    cut_by _ _ _ _ _ same Header replies cut =
+        let t = whole r sound plan machines well [] (none r sound plan machines ignore [] refl) in
+        inr (record { is = t.rest; kind = t.kind; point = t.point; trace = t.trace; pieces = []; piece = header_of r.system r.plan; rest = map text_of t.rest ++ end_text t.kind t.point ∷ []; are = refl; cut = cut })
+    cut_by _ _ _ _ _ same (Shown x p log is i puts_them shows course) replies cut =
+        cut_shown w Whole first (made_all r machines) from_made o p log is i (subst (λ (y : Extent). CourseIn r.system r.bound r.plan y p log (is ++ i ∷ [])) same course) replies
+        (subst (λ (y : Extent). CutsPiece (with_pieces o.before (pieces_in r.system r.plan y is)) (text_of i) o.after) same cut)
+    cut_by _ _ _ _ _ same (EndLine x end point log is finishes) replies cut =
+        cut_end w Whole first (made_all r machines) from_made o end point log is (subst (λ (y : Extent). FinishesIn r.system r.bound r.plan y end point log is) same finishes) replies
+        (subst (λ (y : Extent). CutsPiece (with_pieces o.before (pieces_in r.system r.plan y is)) (end_text (kind_of_end end) point) o.after) same cut)
 
     traces_well : (end : RunEnd) (log : List Sent) (is : List Instant) → EndsBy r.system r.bound r.plan log is end o.before o.after → AreReplies r first log → PutsRun r o end → TracesWell r log o end
     traces_well E.Stop log is ends replies puts = puts
@@ -178,8 +201,9 @@ module _ (r : Run) (sound : IsSound r.system) (plan : IsPlan r.plan) (machines :
     traces_well (E.EventLimit at) log is ends replies puts = puts
     traces_well (E.FixedStep component at end) log is ends replies puts = puts
     traces_well (E.Range lost at) log is ends replies puts = puts
-    traces_well (E.Bad bad) log is (point, f, put) replies puts = lost_end bad point log is f replies
-    traces_well E.WriteFault log is w replies puts = cut_by log is w.pieces w.piece w.awaits replies w.cuts
+    traces_well (E.Held at) log is ends replies puts = absurd ends
+    traces_well (E.Bad bad) log is (point, f, put) replies puts = lost_end w Whole first (made_all r machines) from_made bad point log is f replies
+    traces_well E.WriteFault log is x replies puts = cut_by Whole log is x.pieces x.piece refl x.awaits replies x.cuts
 
 pub trace_by_log : TraceByLog
 trace_by_log r made log is end o binds well c =

@@ -1,3 +1,5 @@
 pub mod Fronts
 pub mod Outcomes
+pub mod Held
+pub mod Kept
 pub mod Laws

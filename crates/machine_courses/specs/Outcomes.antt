@@ -1,5 +1,5 @@
 -- What is put of a run of told machines, by its end: their run so far, and their one trace (FMI 3.0, 2.1.5: super-dense time; 4.2.1: Co-Simulation).
-use Rattle.std.specs.Prelude.{◌≡◌, ◌⊎◌, ℕ, ◌<◌, true, List, ◌∷◌, [], ◌++◌, length}
+use Rattle.std.specs.Prelude.{◌≡◌, ◌⊎◌, ℕ, ◌<◌, true, List, ◌∷◌, [], ◌++◌, length, map}
 use Rattle.std.specs.Result.{is_err}
 use Rattle.sim_base.specs.Sink.{SinkView}
 use Rattle.fmu_peer.specs.declared.ended.Why.{Why}
@@ -12,7 +12,7 @@ use Rattle.run_model.specs.Trace.{IsTrace}
 use Rattle.slot_calls.specs.Log.{Sent}
 use Rattle.calling_sequence.specs.declared.run_end.RunEnd.{RunEnd}
 use Rattle.calling_sequence.specs.declared.run_end.RunEnd.TheVariants as E
-use Rattle.calling_sequence.specs.Ends.{header_of, pieces_of, text_of, trace_pieces}
+use Rattle.calling_sequence.specs.Ends.{header_of, text_of}
 use Rattle.calling_sequence.specs.Puts.{CutsPiece, with_pieces}
 use Rattle.machine_courses.specs.Fronts.{IsFront, LacksStepAt, LosesAt}
 
@@ -22,26 +22,46 @@ pub record Output : Type 0 where
   pub after : SinkView
   pub counted : ℕ
 
+-- what of a run is put: the instants that it has after it before, and the pieces that are put before its own
+pub record Stretch : Type 0 where
+  pub behind : List Instant
+  pub head : List (List ℕ)
+
+-- all of it, after the header; or what is left after these instants
+abbrev pub whole_of : Run → Stretch
+whole_of r = record { behind = []; head = header_of r.system r.plan ∷ [] }
+
+abbrev pub rest_behind : List Instant → Stretch
+rest_behind front = record { behind = front; head = [] }
+
+-- the text of these instants, and of an end
+abbrev pub pieces_up_to : Stretch → List Instant → List (List ℕ)
+pieces_up_to part is = part.head ++ map text_of is
+
+abbrev pub pieces_with_end : Stretch → List Instant → EndKind → ℕ → List (List ℕ)
+pieces_with_end part is kind point = pieces_up_to part is ++ end_text kind point ∷ []
+
 -- ---- whatever the machines answer
 
 -- the text of these instants and an end, and no others
-pub record PutsText (r : Run) (o : Output) (is : List Instant) (kind : EndKind)
+pub record PutsText (part : Stretch) (o : Output) (is : List Instant) (kind : EndKind)
     (point : ℕ) : Type 0 where
   pub counted : o.counted ≡ length is
-  pub put : o.after ≡ with_pieces o.before (trace_pieces r.system r.plan is kind point)
+  pub put : o.after ≡ with_pieces o.before (pieces_with_end part is kind point)
 
 -- the trace
-pub record PutsTrace (r : Run) (o : Output) (kind : EndKind) (point : ℕ) : Type 0 where
+pub record PutsTraceIn (r : Run) (part : Stretch) (o : Output) (kind : EndKind)
+    (point : ℕ) : Type 0 where
   pub is : List Instant
-  pub trace : IsTrace r is kind point
-  pub text : PutsText r o is kind point
+  pub trace : IsTrace r (part.behind ++ is) kind point
+  pub text : PutsText part o is kind point
 
 -- the run so far, with the end of a run that is broken off
-pub record PutsBroken (r : Run) (o : Output) : Type 0 where
+pub record PutsBrokenIn (r : Run) (part : Stretch) (o : Output) : Type 0 where
   pub is : List Instant
   pub point : ℕ
-  pub front : IsFront r is
-  pub text : PutsText r o is K.Fault point
+  pub front : IsFront r (part.behind ++ is)
+  pub text : PutsText part o is K.Fault point
 
 -- a piece after the text of these instants: the next instant of the run, or an end line
 abbrev pub IsNextPiece : Run → List Instant → List ℕ → Type 0
@@ -49,25 +69,38 @@ IsNextPiece r is piece =
     ((i : Instant) × IsFront r (is ++ i ∷ []) × (piece ≡ text_of i)) ⊎
     ((kind : EndKind) × (point : ℕ) × (piece ≡ end_text kind point))
 
+-- the put of the first of these pieces failed
+abbrev pub CutsFirst : List (List ℕ) → Output → Type 0
+CutsFirst [] o = ⊥
+CutsFirst (piece ∷ pieces) o = CutsPiece o.before piece o.after
+
 -- the header's put failed, or that of a piece after the text of the run so far
-pub record CutsFront (r : Run) (o : Output) : Type 0 where
+pub record CutsFrontIn (r : Run) (part : Stretch) (o : Output) : Type 0 where
   pub is : List Instant
-  pub front : IsFront r is
+  pub front : IsFront r (part.behind ++ is)
   pub counted : o.counted ≡ length is
-  pub cut : CutsPiece o.before (header_of r.system r.plan) o.after
-      ⊎ ((piece : List ℕ) × IsNextPiece r is piece ×
-      CutsPiece (with_pieces o.before (pieces_of r.system r.plan is)) piece o.after)
+  pub cut : CutsFirst part.head o
+      ⊎ ((piece : List ℕ) × IsNextPiece r (part.behind ++ is) piece ×
+      CutsPiece (with_pieces o.before (pieces_up_to part is)) piece o.after)
 
 -- by the end: the trace, or the run so far
+abbrev pub PutsRunIn : Run → Stretch → Output → RunEnd → Type 0
+PutsRunIn r part o E.Stop = PutsTraceIn r part o K.Stop r.plan.stop
+PutsRunIn r part o (E.Asked point) = PutsTraceIn r part o K.Asked point
+PutsRunIn r part o (E.EventLimit point) = PutsTraceIn r part o K.Limit point
+PutsRunIn r part o (E.FixedStep component at end) =
+    PutsTraceIn r part o K.Fixed at × LacksStepAt r component.0 at end
+PutsRunIn r part o (E.Range lost point) = PutsTraceIn r part o K.Range point × LosesAt r lost point
+PutsRunIn r part o (E.Held point) = ⊥
+PutsRunIn r part o (E.Bad bad) = PutsBrokenIn r part o
+PutsRunIn r part o E.WriteFault = CutsFrontIn r part o
+
+-- of a whole run
+abbrev pub PutsTrace : Run → Output → EndKind → ℕ → Type 0
+PutsTrace r o kind point = PutsTraceIn r (whole_of r) o kind point
+
 abbrev pub PutsRun : Run → Output → RunEnd → Type 0
-PutsRun r o E.Stop = PutsTrace r o K.Stop r.plan.stop
-PutsRun r o (E.Asked point) = PutsTrace r o K.Asked point
-PutsRun r o (E.EventLimit point) = PutsTrace r o K.Limit point
-PutsRun r o (E.FixedStep component at end) =
-    PutsTrace r o K.Fixed at × LacksStepAt r component.0 at end
-PutsRun r o (E.Range lost point) = PutsTrace r o K.Range point × LosesAt r lost point
-PutsRun r o (E.Bad bad) = PutsBroken r o
-PutsRun r o E.WriteFault = CutsFront r o
+PutsRun r o end = PutsRunIn r (whole_of r) o end
 
 -- ---- machines that behave well
 
@@ -82,26 +115,27 @@ pub record IsLost (n : ℕ) (log : List Sent) (why : Why) : Type 0 where
   pub unanswered : is_err last.exchange.result ≡ true
 
 -- the put of one piece of the trace failed, after those before it
-pub record CutsTrace (r : Run) (o : Output) : Type 0 where
+pub record CutsTraceIn (r : Run) (part : Stretch) (o : Output) : Type 0 where
   pub is : List Instant
   pub kind : EndKind
   pub point : ℕ
-  pub trace : IsTrace r is kind point
+  pub trace : IsTrace r (part.behind ++ is) kind point
   pub pieces : List (List ℕ)
   pub piece : List ℕ
   pub rest : List (List ℕ)
-  pub are : trace_pieces r.system r.plan is kind point ≡ pieces ++ piece ∷ rest
+  pub are : pieces_with_end part is kind point ≡ pieces ++ piece ∷ rest
   pub cut : CutsPiece (with_pieces o.before pieces) piece o.after
 
 -- nothing but a call that failed breaks their run off, or a put
+abbrev pub TracesWellIn : Run → Stretch → List Sent → Output → RunEnd → Type 0
+TracesWellIn r part log o (E.Bad bad) = IsLost (length r.system.components) log bad.why
+TracesWellIn r part log o E.WriteFault =
+    ((why : Why) × IsLost (length r.system.components) log why) ⊎ CutsTraceIn r part o
+TracesWellIn r part log o end = PutsRunIn r part o end
+
+-- of a whole run
+abbrev pub CutsTrace : Run → Output → Type 0
+CutsTrace r o = CutsTraceIn r (whole_of r) o
+
 abbrev pub TracesWell : Run → List Sent → Output → RunEnd → Type 0
-TracesWell r log o E.Stop = PutsTrace r o K.Stop r.plan.stop
-TracesWell r log o (E.Asked point) = PutsTrace r o K.Asked point
-TracesWell r log o (E.EventLimit point) = PutsTrace r o K.Limit point
-TracesWell r log o (E.FixedStep component at end) =
-    PutsTrace r o K.Fixed at × LacksStepAt r component.0 at end
-TracesWell r log o (E.Range lost point) =
-    PutsTrace r o K.Range point × LosesAt r lost point
-TracesWell r log o (E.Bad bad) = IsLost (length r.system.components) log bad.why
-TracesWell r log o E.WriteFault =
-    ((why : Why) × IsLost (length r.system.components) log why) ⊎ CutsTrace r o
+TracesWell r log o end = TracesWellIn r (whole_of r) log o end

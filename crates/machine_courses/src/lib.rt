@@ -4,4 +4,4 @@
 
 mod laws;
 
-pub use laws::logs_of_machines;
+pub use laws::{logs_of_machines, logs_of_rests};

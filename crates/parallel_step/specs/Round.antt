@@ -38,10 +38,11 @@ call_in J.Restore = Some C.Restore
 call_in J.Free = Some C.Free
 call_in (J.Step at size) = Some (C.DoStep at size)
 
--- the FMU of a slot is in Step Mode and may be sent the call, and its saved state is held exactly where its phase says that one is saved
+-- the FMU of a slot is in Step Mode, by its token and by its phase, and may be sent the call, and its saved state is held exactly where its phase says that one is saved
 pub record CanBeSent {L : Type 0} {g : _} (view : L → View) (slot : Slot L g)
     (call : Call) : Type 0 where
   pub stepping : state_of slot.held ≡ Some P.Step
+  pub in_step : (view (peer_in slot.held)).phase.state ≡ P.Step
   pub permitted : Permitted (view (peer_in slot.held)).fixed.shape (view (peer_in slot.held)).phase
       call
   pub token : is_some slot.saved ≡ (view (peer_in slot.held)).phase.slot.is_full

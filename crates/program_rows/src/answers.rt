@@ -35,7 +35,7 @@ fn status_of(name: &str) -> Option<BadStatus> {
     }
 }
 
-static KINDS: [Kind; 18] = [
+static KINDS: [Kind; 20] = [
     Kind::Instantiate,
     Kind::EnterInitialization,
     Kind::ExitInitialization,
@@ -52,6 +52,8 @@ static KINDS: [Kind; 18] = [
     Kind::Save,
     Kind::Restore,
     Kind::Free,
+    Kind::Serialize,
+    Kind::Deserialize,
     Kind::Terminate,
     Kind::FreeInstance,
 ];
@@ -130,6 +132,10 @@ fn content_of(kind: Kind, rest: &str) -> Option<Content> {
         Kind::Save => Content::Save,
         Kind::Restore => Content::Restore,
         Kind::Free => Content::Free,
+        Kind::Serialize => Content::Serialize {
+            length: u32::try_from(number_at(rest, 0)?).ok()?,
+        },
+        Kind::Deserialize => Content::Deserialize,
         Kind::Terminate => Content::Terminate,
         Kind::FreeInstance => Content::FreeInstance,
     };

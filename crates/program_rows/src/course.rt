@@ -74,8 +74,8 @@ impl Standing {
     fn take(&mut self, name: &str) {
         match name {
             "Instantiate" => self.is_made = true,
-            "ExitInitialization" => self.is_running = true,
-            "Save" => self.is_saved = true,
+            "ExitInitialization" | "Restore" => self.is_running = true,
+            "Save" | "Deserialize" => self.is_saved = true,
             "Free" => self.is_saved = false,
             _ => {}
         }

@@ -77,6 +77,7 @@ impl Rows {
             "more" => self.case.texts.push(rest),
             "times" => self.take_times(alloc, rest),
             "byte" => self.take_byte(rest),
+            "bytes" => self.take_bytes(alloc, rest),
             "out" | "asked" | "hosts" => self.want(alloc, what, ""),
             "err" | "or" => self.want(alloc, what, rest),
             _ => Ok(self.take_number(what, rest)),
@@ -147,6 +148,19 @@ impl Rows {
             Ok(byte) => self.case.texts.push_byte(byte),
             Err(_) => Ok(false),
         }
+    }
+
+    // Bytes by their hexadecimal digits.
+    fn take_bytes(&mut self, alloc: Global, rest: &str) -> Result<bool, AllocError> {
+        let Ok(bytes) = hex::decode(alloc, rest) else {
+            return Ok(false);
+        };
+        for byte in &bytes {
+            if !self.case.texts.push_byte(*byte)? {
+                return Ok(false);
+            }
+        }
+        Ok(true)
     }
 
     // A line, or none, or further lines after it, on an output.

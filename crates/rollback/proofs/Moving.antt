@@ -93,7 +93,7 @@ module _ {L : Type 0} {g : Ghosts L} (view : L → View) where
     by false h = tt
 
   may_send : (t b step : ℕ) (who : Who) (turn : Turn) (s : Slot L g) → Placed view t b step s → Permitted (seen s).fixed.shape (seen s).phase (call_of turn) → CanBeSent view (with_job view who turn s) (call_of turn)
-  may_send t b step who turn s p permitted = record { stepping = stepping t b step s p; permitted = permitted; token = sym p.stands.full }
+  may_send t b step who turn s p permitted = record { stepping = stepping t b step s p; in_step = p.stands.state; permitted = permitted; token = sym p.stands.full }
 
   pub can_go_back : (t b step : ℕ) (asked : Who) (s : Slot L g) → Placed view t b step s → MayGoBack view t asked s → CanDo view asked (T.Back t) s
   can_go_back t b step asked s p may =

@@ -8,8 +8,8 @@ use Rattle.fmi_calls.specs.declared.call.Call.{Call}
 use Rattle.fmi_calls.specs.declared.call.Call.TheVariants as C
 use Rattle.fmi_calls.specs.declared.phase.Phase.{Phase}
 use Rattle.fmi_calls.specs.declared.phase.SavedPhase.{SavedPhase}
-use Rattle.fmi_calls.specs.Next.{counted, end_of, entered}
-use Rattle.fmi_calls.specs.Permission.{Permitted, none_marked}
+use Rattle.fmi_calls.specs.Next.{counted, end_of, entered, restored_state}
+use Rattle.fmi_calls.specs.Permission.{Permitted, can_go_back, none_marked}
 use Rattle.fmu_peer.specs.declared.peer.Exchange.{Exchange}
 use Rattle.fmu_peer.specs.View.{Fixed, View}
 use Rattle.slot_calls.proofs.CallerLemmas.{Led}
@@ -57,13 +57,13 @@ module _ (t b step : ℕ) (saves : Bool) (v : View) (h : InStep t b step saves v
 
   -- going back is, where the state is saved
   pub may_go_back : saves ≡ true → Permitted v.fixed.shape v.phase C.Restore
-  may_go_back is = (h.state, h.may_save is, h.full ∙ is)
+  may_go_back is = (ap can_go_back h.state, h.may_save is, h.full ∙ is)
 
   pub may_be_saved : saves ≡ false → v.fixed.shape.can_save_state ≡ true → Permitted v.fixed.shape v.phase C.Save
   may_be_saved is can = (h.state, can, h.full ∙ is)
 
   pub may_be_freed : saves ≡ true → Permitted v.fixed.shape v.phase C.Free
-  may_be_freed is = (h.state, h.may_save is, h.full ∙ is)
+  may_be_freed is = (ap can_go_back h.state, h.may_save is, h.full ∙ is)
 
   module _ (w : View) (x : Exchange) (l : Led v x w) where
     fixed_shape : w.fixed.shape ≡ v.fixed.shape
@@ -94,7 +94,7 @@ module _ (t b step : ℕ) (saves : Bool) (v : View) (h : InStep t b step saves v
     restored is held =
         let p = phase_by C.Restore is in (
           record {
-            state = ap (λ (q : Phase). q.state) p ∙ h.state;
+            state = ap (λ (q : Phase). q.state) p ∙ ap restored_state h.state;
             stop = subst (λ (n : ℕ). b ≤ n) (sym (ap (λ (q : Phase). q.stop) p)) h.stop;
             sized = subst (λ (s : Shape). IfSome w.phase.first_size (λ n. TakesSize step n s)) (sym fixed_shape)
                 (subst (λ (o : Option ℕ). IfSome o (λ n. TakesSize step n v.fixed.shape)) (sym (ap (λ (q : Phase). q.first_size) p)) h.sized);

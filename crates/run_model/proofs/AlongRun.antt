@@ -83,6 +83,8 @@ reply_fits kind (R.Done w A.Restore) = tt
 reply_fits kind (R.Done w A.Free) = tt
 reply_fits kind (R.Done w A.Terminate) = tt
 reply_fits kind (R.Done w A.FreeInstance) = tt
+reply_fits kind (R.Done w (A.Serialize room)) = tt
+reply_fits kind (R.Done w A.Deserialize) = tt
 
 pub zero_fits : (kind : PortType) → kind ≡ Clock → Fits kind (pos 0)
 zero_fits kind e = subst (λ k. Fits k (pos 0)) (sym e) (word_fits Clock 0)

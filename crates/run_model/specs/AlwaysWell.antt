@@ -64,6 +64,8 @@ RunSends shape C.Restore = shape.can_save_state ≡ true
 RunSends shape C.Free = shape.can_save_state ≡ true
 RunSends shape C.Terminate = ⊥
 RunSends shape C.FreeInstance = ⊥
+RunSends shape C.Serialize = ⊥
+RunSends shape (C.Deserialize length point stop) = ⊥
 
 -- the machine answers each such call well in each state that has a value for each variable
 abbrev pub AlwaysWell : Shape → Machine → Type 0

@@ -20,7 +20,7 @@ use Rattle.slot_calls.specs.declared.bad_answer.BadAnswer.{BadAnswer}
 use Rattle.calling_sequence.specs.declared.run_end.RunEnd.{RunEnd}
 use Rattle.calling_sequence.specs.declared.run_end.RunEnd.TheVariants as E
 use Rattle.step_master.specs.Lives.{AreGood, AreLives, EndsLives, IsLeastBad, IsLife, Life, shape_in, talk_in, talks_in}
-use Rattle.slot_calls.specs.SavedStates.{IsParted, Talk}
+use Rattle.slot_calls.specs.SavedStates.{IsOfClosing, IsParted, Talk}
 use Rattle.slot_calls.specs.Log.{Sent}
 use Rattle.run_program.specs.declared.outcome.Outcome.{Outcome}
 use Rattle.run_program.specs.declared.outcome.End.{End}
@@ -89,7 +89,7 @@ record Found (talks : List Talk) (lives : List Life) (olds : List View) (k : ℕ
   old : slice_get olds k ≡ Some life.old
   new : life.new ≡ v
   talk_is : talk ≡ life.run ++ life.closing
-  parted : IsParted talks life.run life.closing
+  parted : IsParted talks (shape_in life) life.run life.closing
 
 told_talk : (life : Life) (v : View) (talk : List Exchange) → life.new ≡ v → v.talk ≡ Some talk → IfSome life.new.talk (λ (es : List Exchange). es ≡ talk_in life) → talk ≡ talk_in life
 told_talk life v talk same told h =
@@ -140,18 +140,19 @@ module _ (task : Task) (system : System) (end : RunEnd) (old new : Scene) (l : L
         old = ap (λ xs. slice_get xs k) (sym l.are.olds_are) ∙ slice_get-map (λ (x : Life). x.old) l.lives k ∙ ap (option_map (λ (x : Life). x.old)) at.1;
         new = at.2;
         talk_is = told_talk life v talk at.2 (talk_at l.news talks k v talk same here there) is.talk;
-        parted = all_got (λ (x : Life). IsParted (talks_of l.news) x.run x.closing) l.lives k life
-            (subst (λ (ts : List Talk). All (λ (x : Life). IsParted ts x.run x.closing) l.lives)
+        parted = all_got (λ (x : Life). IsParted (talks_of l.news) (shape_in x) x.run x.closing) l.lives k life
+            (subst (λ (ts : List Talk). All (λ (x : Life). IsParted ts (shape_in x) x.run x.closing) l.lives)
             (sym (talks_same l.lives talks l.are.each (ap (map (λ (x : View). x.talk)) l.are.news_are ∙ same)) ∙ ap talks_of l.are.news_are) l.are.parted) at.1;
       }
+
+  shape_same : (k : ℕ) (v : View) (talk : List Exchange) (f : Found (talks_of l.news) l.lives l.olds k v talk) → v.fixed.shape ≡ f.life.old.fixed.shape
+  shape_same k v talk f = ap (λ (x : Fixed). x.shape) (sym (ap (λ (x : View). x.fixed) f.new) ∙ f.is.fixed)
 
   -- a first bad answer that the peer tells is one of its run
   bad_in : (k : ℕ) (v : View) (talk : List Exchange) (why : Why) (f : Found (talks_of l.news) l.lives l.olds k v talk) → (b : IsFirstBadOf (talks_of l.news) v.fixed.shape why talk) →
       (rest : List Exchange) × (f.life.run ≡ b.front ++ b.last ∷ rest)
-  bad_in k v talk why f b = in_run (talks_of l.news) f.life.run f.life.closing talk b.front b.rest b.last f.talk_is f.parted b.is b.of_run
-
-  shape_same : (k : ℕ) (v : View) (talk : List Exchange) (f : Found (talks_of l.news) l.lives l.olds k v talk) → v.fixed.shape ≡ f.life.old.fixed.shape
-  shape_same k v talk f = ap (λ (x : Fixed). x.shape) (sym (ap (λ (x : View). x.fixed) f.new) ∙ f.is.fixed)
+  bad_in k v talk why f b = in_run (talks_of l.news) (shape_in f.life) f.life.run f.life.closing talk b.front b.rest b.last f.talk_is f.parted b.is
+      (subst (λ (shape : Shape). IsOfClosing (talks_of l.news) shape b.front b.last.call b.rest → ⊥) (shape_same k v talk f) b.of_run)
 
   -- its name is that of its component
   name_is : (k : ℕ) (v : View) (talk : List Exchange) (name : List ℕ) (f : Found (talks_of l.news) l.lives l.olds k v talk) → IsSomeAnd v.fixed.origin (λ (o : Origin). o.name ≡ name) → slice_get (names_of system).components k ≡ Some name
@@ -231,6 +232,7 @@ end_decides task system (E.Bad bad) e h l talks told name why b named p quiet ou
     let same = same_bad task system (E.Bad bad) h.old.run h.new.run l talks told name why b bad named.0 l.ends named.1 in
     let put : Reports (Some (bad_message named.0 bad.why)) (why_status bad.why) h.status h.err h.err_after = subst (λ (x : End). Reports (end_message x) (end_status x) h.status h.err h.err_after) named.2 p in
     subst (λ (w : Why). Answers h (why_status w) (bad_message name w)) same.1 (subst (λ (n : List ℕ). Answers h (why_status bad.why) (bad_message n bad.why)) same.0 (answers (bad_message named.0 bad.why) (why_status bad.why) h put))
+end_decides task system (E.Held point) e h l talks told name why b named p quiet outs = absurd outs
 end_decides task system E.WriteFault e h l talks told name why b named p quiet outs = absurd (quiet outs)
 
 pub decides : (o : Outcome) (h : Happened) → HasPut o h → IsUncalled h ⊎ HasRunOne o h → (peers : List View) (talks : List (List Exchange)) (name : List ℕ) (why : Why) →

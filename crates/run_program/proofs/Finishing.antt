@@ -10,7 +10,7 @@ use Rattle.run_program.specs.declared.outcome.Numbers.{Numbers}
 use Rattle.run_program.specs.declared.outcome.Outcome.{Outcome}
 use Rattle.run_program.specs.declared.outcome.Outcome.TheVariants.{Words, Memory, File, Start, Ran, Checked, Untold}
 use Rattle.run_program.specs.Bench.{BenchFacts, Finishes, HasNumbers, RanFacts, Tells, exchanges_in, has_finished, is_well, restores_in, system_for, task_for, unkept}
-use Rattle.run_program.specs.Facts.{RunFacts}
+use Rattle.run_program.specs.Facts.{RunFacts, StartFacts}
 use Rattle.run_program.specs.Happened.{Scene}
 use Rattle.run_program.specs.Message.{summary_text}
 use Rattle.run_program.specs.Rows.{IsFinished}
@@ -28,6 +28,7 @@ ends_well names (E.EventLimit point) e is well = absurd (ill e (O.EventLimit poi
 ends_well names (E.FixedStep component at end) e is well = absurd (ill e (O.FixedStep is.0 at end) is.2 well refl)
 ends_well names (E.Range lost at) e is well = absurd (ill e (O.Range is.2.0 is.0.name lost.value) is.2.2 well refl)
 ends_well names (E.Bad bad) e is well = absurd (ill e (O.Bad is.0 bad.why) is.2 well refl)
+ends_well names (E.Held point) e is well = absurd (ill e (O.Held point) is well refl)
 ends_well names E.WriteFault e is well = absurd (ill e O.WriteFault is well refl)
 
 abbrev line_of_numbers : Numbers → List ℕ
@@ -110,3 +111,13 @@ pub ran_generated : (line : BenchLine) (task : Task) (system : System) (o : Outc
     RanFacts o numbers task system old new → RanFacts o numbers (task_for line) (system_for line) old new
 ran_generated line task system o numbers old new task_is system_is ran =
     subst (λ (t : Task). RanFacts o numbers t (system_for line) old new) task_is (subst (λ (s : System). RanFacts o numbers task s old new) system_is ran)
+
+-- no peer was called
+pub ran_unstarted : (o : Outcome) (numbers : Numbers) (task : Task) (system : System) (old new : Scene) → StartFacts o task system old new → RanFacts o numbers task system old new
+ran_unstarted Words numbers task system old new f = f
+ran_unstarted Memory numbers task system old new f = f
+ran_unstarted (File path fault) numbers task system old new f = f
+ran_unstarted (Start name fault) numbers task system old new f = f
+ran_unstarted (Ran e) numbers task system old new f = absurd f
+ran_unstarted Checked numbers task system old new f = f
+ran_unstarted Untold numbers task system old new f = f

@@ -64,14 +64,14 @@ at_middle P [] x b h = All-head P x b h
 at_middle P (y ∷ a) x b h = at_middle P a x b (All-tail P y (a ++ x ∷ b) h)
 
 -- an exchange of a talk that is none of the closing's stands in the run
-pub in_run : (talks : List Talk) (run closing talk front rest : List Exchange) (last : Exchange) → talk ≡ run ++ closing → IsParted talks run closing → talk ≡ front ++ last ∷ rest → (IsOfClosing talks front last.call rest → ⊥) →
+pub in_run : (talks : List Talk) (shape : Shape) (run closing talk front rest : List Exchange) (last : Exchange) → talk ≡ run ++ closing → IsParted talks shape run closing → talk ≡ front ++ last ∷ rest → (IsOfClosing talks shape front last.call rest → ⊥) →
     (after : List Exchange) × (run ≡ front ++ last ∷ after)
-in_run talks run closing talk front rest last parts apart is of_run = choose (parted run closing front rest last (sym parts ∙ is))
+in_run talks shape run closing talk front rest last parts apart is of_run = choose (parted run closing front rest last (sym parts ∙ is))
   where
     choose : ((after : List Exchange) × (run ≡ front ++ last ∷ after)) ⊎ ((more : List Exchange) × (front ≡ run ++ more) × (closing ≡ more ++ last ∷ rest)) →
         (after : List Exchange) × (run ≡ front ++ last ∷ after)
     choose (inl h) = h
-    choose (inr h) = absurd (of_run (subst (λ (es : List Exchange). IsOfClosing talks es last.call rest) (sym h.1) (apart.of_closing h.0 rest last h.2)))
+    choose (inr h) = absurd (of_run (subst (λ (es : List Exchange). IsOfClosing talks shape es last.call rest) (sym h.1) (apart.of_closing h.0 rest last h.2)))
 
 -- a run of good answers has none that isn't
 pub no_bad : {A : Type 0} (shape : Shape) (run : List Exchange) (why : Why) (front rest : List Exchange) (last : Exchange) → T.AllGood shape run → run ≡ front ++ last ∷ rest → IsWhy shape why last → A

@@ -23,3 +23,5 @@ name_short K.Restore = lit≤ tt
 name_short K.Free = lit≤ tt
 name_short K.Terminate = lit≤ tt
 name_short K.FreeInstance = lit≤ tt
+name_short K.Serialize = lit≤ tt
+name_short K.Deserialize = lit≤ tt

@@ -1,3 +1,5 @@
+pub mod CallerLemmas
+pub mod Commands
 pub mod Digits
 pub mod KindNames
 pub mod Statuses
@@ -20,3 +22,5 @@ pub mod LoopText
 pub mod Counting
 pub mod Finishing
 pub mod Generated
+pub mod HeldRuns
+pub mod RestRuns

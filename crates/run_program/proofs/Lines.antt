@@ -81,7 +81,7 @@ outline_asked s reads asked told flaw subject (AtDocument documents path t _ _ _
 outline_asked s reads asked told flaw subject (AtNesting documents g place rule _ _ _ gathers stands asked_is told_is flaw_is) = TakenDocuments documents g asked subject gathers asked_is
 
 -- what was asked for to an end was asked for in the order of reading
-asks_some : (s : Search) (reads : List ReadNote) (asked : List (List ℕ)) (finding : Finding) → Comes s reads asked finding → AsksSome s reads asked
+pub asks_some : (s : Search) (reads : List ReadNote) (asked : List (List ℕ)) (finding : Finding) → Comes s reads asked finding → AsksSome s reads asked
 asks_some s reads asked finding (NoOutline told flaw a f subject lacks is) = outline_asked s reads a told flaw subject lacks
 asks_some s reads asked finding (NoShape o taken shapes c rest flaw a f reaches lacks asks is) = UpTo asked _ (ToShape o taken shapes c rest asked _ reaches asks refl)
 asks_some s reads asked finding (NoSet o shapes taken given b rest files path flaw a f reaches lacks asks is) =

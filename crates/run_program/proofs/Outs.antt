@@ -32,6 +32,7 @@ TellsOut (E.EventLimit point) before after = after ≡ before
 TellsOut (E.FixedStep component at end) before after = after ≡ before
 TellsOut (E.Range lost at) before after = after ≡ before
 TellsOut (E.Bad bad) before after = after ≡ before
+TellsOut (E.Held point) before after = ⊥
 TellsOut E.WriteFault before after = Rose before after
 
 whole_same : (system : System) (bound : Bound) (plan : Plan) (log : List Sent) (is : List Instant) (end : RunEnd) (before after : SinkView) → PutsWhole system bound plan log is end before after → after.faults ≡ before.faults
@@ -45,6 +46,7 @@ tells system bound plan log is (E.EventLimit point) before after e = whole_same 
 tells system bound plan log is (E.Range lost at) before after e = whole_same system bound plan log is (E.Range lost at) before after e
 tells system bound plan log is (E.FixedStep component at end) before after e = whole_same system bound plan log is (E.FixedStep component at end) before after e
 tells system bound plan log is (E.Bad bad) before after e = whole_same system bound plan log is (E.Bad bad) before after e
+tells system bound plan log is (E.Held point) before after e = e
 tells system bound plan log is E.WriteFault before after e = cut_rose before e.pieces e.piece after e.cuts
 
 pub tells_out : (task : Task) (system : System) (end : RunEnd) (old new : Scene) → HasRun task system end old new → TellsOut end old.out.faults new.out.faults

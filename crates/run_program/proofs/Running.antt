@@ -1,5 +1,5 @@
 -- From peers that were started to what holds of their run.
-use Rattle.std.proofs.Common.{◌≡◌, ℕ, ℤ, zero, suc, ◌-◌, ◌<◌, ◌==◌, Bool, true, false, not, List, [], ◌∷◌, ◌++◌, Option, Some, None, refl, sym, ap, ◌∙◌, subst, arith, length}
+use Rattle.std.proofs.Common.{◌≡◌, ℕ, ℤ, zero, suc, ◌-◌, ◌<◌, ◌==◌, Bool, true, false, not, List, [], ◌∷◌, ◌++◌, Option, Some, None, inl, inr, refl, sym, ap, ◌∙◌, subst, arith, length}
 use Rattle.std.specs.Option.{option_map}
 use Rattle.std.specs.Prelude.{All, IsSomeAnd, ◌&&◌, if◌then◌else◌, map, position, slice_get}
 use Rattle.std.proofs.lemmas.List.{length-map}
@@ -10,12 +10,12 @@ use Rattle.sim_base.specs.Sink.{SinkView}
 use Rattle.sim_base.specs.declared.numbers.CompId.{CompId}
 use Rattle.fmi_calls.specs.Next.{fresh}
 use Rattle.fmu_peer.specs.Machine.{Machine}
-use Rattle.fmu_peer.specs.View.{Fixed, View}
+use Rattle.fmu_peer.specs.View.{Fixed, View, without_machine}
 use Rattle.value_types.specs.declared.shape.Shape.{Shape}
 use Rattle.system_model.specs.declared.bound.Bound.{Bound}
 use Rattle.system_model.specs.declared.plan.Plan.{Plan}
 use Rattle.system_model.specs.EarlyReturn.{early_count}
-use Rattle.system_model.specs.Text.{Instant}
+use Rattle.system_model.specs.Text.{Instant, end_text}
 use Rattle.system_model.specs.declared.system.Component.{Component}
 use Rattle.system_model.specs.declared.system.Port.{Port}
 use Rattle.system_model.specs.declared.system.System.{System}
@@ -23,6 +23,8 @@ use Rattle.run_model.specs.Machines.{AreMachines}
 use Rattle.run_model.specs.Run.{Run}
 use Rattle.run_model.specs.Stepping.{asked_first}
 use Rattle.run_model.proofs.TraceOnce.{trace_once}
+use Rattle.trace_text.specs.Holding.{IsHoldable}
+use Rattle.machine_courses.specs.Kept.{TakesState}
 use Rattle.slot_calls.specs.Stage.{shapes_of}
 use Rattle.slot_calls.specs.declared.bad_answer.BadAnswer.{BadAnswer}
 use Rattle.step_agreement.specs.Agreement as A
@@ -31,13 +33,19 @@ use Rattle.step_agreement.proofs.CallerLemmas.{same_shapes}
 use Rattle.rollback.specs.StepsBy.{all_at}
 use Rattle.calling_sequence.specs.declared.run_end.RunEnd.{RunEnd}
 use Rattle.calling_sequence.specs.declared.run_end.RunEnd.TheVariants as E
-use Rattle.calling_sequence.specs.Course.{Course, LeadsTo, On, Place, Short, Stopping, Way}
-use Rattle.calling_sequence.specs.Ends.{AtShort, EndsAt, EndsBy, Finishes, Unfit, Well}
+use Rattle.calling_sequence.specs.Course.{AtFirst, CourseIn, Extent, FromHeld, LeadsTo, On, Place, Short, Spot, Stopping, UpToHeld, Way, Whole, first_of}
+use Rattle.calling_sequence.specs.Ends.{AtShort, EndsAt, EndsIn, FinishesIn, Unfit, UnfitAtFirst, Well}
+use Rattle.calling_sequence.specs.Holding.{Back, BadlyHeld, Early, HoldsWith, NotBack, PutsPiece, ResumesSlots, WellHeld, spot_in}
+use Rattle.calling_sequence.specs.Ready.{IsPlanOf}
+use Rattle.calling_sequence.specs.declared.experiment.Experiment.{Experiment}
+use Rattle.fmu_peer.specs.CloseAll.{Instance}
+use Rattle.system_checkpoint.specs.declared.snapshot.Snapshot.{Snapshot}
+use Rattle.system_model.specs.declared.plan.EndKind.TheVariants as K
 use Rattle.step_master.specs.declared.prepare_end.PrepareFault.{PrepareFault}
 use Rattle.step_master.specs.declared.prepare_end.PrepareFault.TheVariants as F
-use Rattle.step_master.specs.Lived.{Account, Lived, LivesAreOver, Unmade, UnmadeIsClosed}
+use Rattle.step_master.specs.Lived.{Account, HeldLived, Lived, LivesAreOver, RestLived, Unmade, UnmadeIsClosed, experiment_in}
 use Rattle.step_master.specs.Master.{FailsToPrepare, Standing}
-use Rattle.step_master.specs.Traced.{IsRunOf, ToldRun, ToldTrace, ToldUnmade, TracesWell}
+use Rattle.step_master.specs.Traced.{IsRunOf, ToldHeld, ToldHeldWell, ToldNone, ToldRest, ToldRestWell, ToldRun, ToldTrace, ToldUnmade, TracesWell}
 use Rattle.system_model.specs.Bounds.{BindsParameters}
 use Rattle.system_model.specs.Sound.{IsSound}
 use Rattle.step_master.specs.Lives.{AreLives, EndsLives, IsLife, Life}
@@ -46,7 +54,8 @@ use Rattle.system_model.specs.Plans.{IsPlan}
 use Rattle.step_master.specs.System.{ArePeersOf, TellTheirs}
 use Rattle.run_program.specs.Peers.{AreStarted}
 use Rattle.run_program.specs.Happened.{Scene}
-use Rattle.run_program.specs.Runs.{CanRun, Fails, Goes, HasOneTrace, NamesOne, NamesPort, RunsPeers, Task, TracesOnce, names_of, port_name}
+use Rattle.run_program.specs.Held.{GoesOn, Holds}
+use Rattle.run_program.specs.Runs.{CanRun, Fails, Goes, HasOneTrace, Names, NamesOne, NamesPort, RunsPeers, Task, TracesOnce, names_of, port_name}
 use Rattle.run_program.specs.declared.naming.PortName.{PortName}
 use Rattle.event_iteration.specs.declared.lost.LostValue.{LostValue}
 use Rattle.calling_sequence.specs.Ends.{LostAtFirst, LostThere}
@@ -105,17 +114,26 @@ short_leads system plan _ _ _ _ _ _ (Stopping w values log k end agrees) =
     subst (λ (n : ℕ). k < n) (length-map (shapes_of system) (λ (s : Shape). record { shape = s; point = w.s.t; ask = w.s.t }) ∙ length-map system.components (λ (c : Component). c.shape))
     (agrees_within w.s.t plan.step (asked_first (early_count (shapes_of system))) w.to (all_at w.s.t (shapes_of system)) log (A.Unfit k end) k end refl agrees)
 
-short_comes : (system : System) (bound : Bound) (plan : Plan) (w : Way) (k end : ℕ) (log : List Sent) (is : List Instant) → Course system bound plan (Short w k end) log is → k < length system.components
-short_comes system bound plan w k end _ _ (On p _ values front more is course does leads) = short_leads system plan p values more w k end leads
+-- no run begins on the way to an agreement
+begins_elsewhere : (extent : Extent) (w : Way) (k end : ℕ) → first_of extent ≡ Short w k end → ⊥
+begins_elsewhere Whole w k end at = cc
+begins_elsewhere (UpToHeld point) w k end at = cc
+begins_elsewhere (FromHeld s) w k end at = cc
 
-ends_within : (system : System) (bound : Bound) (plan : Plan) (component : CompId) (at end : ℕ) (p : Place) (log : List Sent) (is : List Instant) → EndsAt system plan (E.FixedStep component at end) p → Course system bound plan p log is →
-    component.0 < length system.components
-ends_within system bound plan _ _ _ _ log is (Unfit s component end b unfit) course = found_within (λ (c : Component). not c.shape.has_variable_steps) system.components ((end - s.t) == plan.step) component.0 unfit
-ends_within system bound plan _ _ _ _ log is (AtShort w component end) course = short_comes system bound plan w component.0 end log is course
+short_comes : (system : System) (bound : Bound) (plan : Plan) (extent : Extent) (p : Place) (w : Way) (k end : ℕ) (log : List Sent) (is : List Instant) → p ≡ Short w k end → CourseIn system bound plan extent p log is → k < length system.components
+short_comes system bound plan extent _ w k end _ _ at AtFirst = absurd (begins_elsewhere extent w k end at)
+short_comes system bound plan extent _ w k end _ _ at (On p q values front more is course does leads within) =
+    short_leads system plan p values more w k end (subst (λ (r : Place). LeadsTo system plan p values more r) at leads)
 
-finished_within : (system : System) (bound : Bound) (plan : Plan) (point : ℕ) (component : CompId) (at end : ℕ) (log : List Sent) (is : List Instant) → Finishes system bound plan (E.FixedStep component at end) point log is →
+ends_within : (system : System) (bound : Bound) (plan : Plan) (extent : Extent) (component : CompId) (at end : ℕ) (p : Place) (log : List Sent) (is : List Instant) → EndsAt system plan (E.FixedStep component at end) p →
+    CourseIn system bound plan extent p log is → component.0 < length system.components
+ends_within system bound plan extent _ _ _ _ log is (Unfit s component end b unfit) course = found_within (λ (c : Component). not c.shape.has_variable_steps) system.components ((end - s.t) == plan.step) component.0 unfit
+ends_within system bound plan extent _ _ _ _ log is (UnfitAtFirst s component end b unfit) course = found_within (λ (c : Component). not c.shape.has_variable_steps) system.components ((end - s.t) == plan.step) component.0 unfit
+ends_within system bound plan extent _ _ _ _ log is (AtShort w component end) course = short_comes system bound plan extent (Short w component.0 end) w component.0 end log is refl course
+
+finished_within : (system : System) (bound : Bound) (plan : Plan) (extent : Extent) (point : ℕ) (component : CompId) (at end : ℕ) (log : List Sent) (is : List Instant) → FinishesIn system bound plan extent (E.FixedStep component at end) point log is →
     component.0 < length system.components
-finished_within system bound plan _ component at end _ _ (Well p _ log is course ends) = ends_within system bound plan component at end p log is ends course
+finished_within system bound plan extent _ component at end _ _ (Well p _ log is course ends may) = ends_within system bound plan extent component at end p log is ends course
 
 lives_count : (system : System) (olds news : List View) (log : List Sent) (lives : List Life) → AreLives system olds news log lives → length lives ≡ length system.components
 lives_count system olds news log lives are =
@@ -130,31 +148,78 @@ range_at : (system : System) (plan : Plan) → IsSound system → (lost : LostVa
 range_at system plan sound _ _ _ (LostAtFirst values lost first) = (first.target, first.at)
 range_at system plan sound _ _ _ (LostThere s lost first) = (first.target, first.at)
 
-range_finished : (system : System) (bound : Bound) (plan : Plan) (point : ℕ) → IsSound system → (lost : LostValue) (at : ℕ) (log : List Sent) (is : List Instant) → Finishes system bound plan (E.Range lost at) point log is →
+range_finished : (system : System) (bound : Bound) (plan : Plan) (extent : Extent) (point : ℕ) → IsSound system → (lost : LostValue) (at : ℕ) (log : List Sent) (is : List Instant) → FinishesIn system bound plan extent (E.Range lost at) point log is →
     (target : Port) × (slice_get system.ports lost.port.0 ≡ Some target)
-range_finished system bound plan _ sound lost at _ _ (Well p _ log is course ends) = range_at system plan sound lost at p ends
+range_finished system bound plan extent _ sound lost at _ _ (Well p _ log is course ends may) = range_at system plan sound lost at p ends
 
 range_named : (system : System) → IsSound system → (q : ℕ) (target : Port) → slice_get system.ports q ≡ Some target → NamesPort (names_of system) q
 range_named system sound q target is =
     subst (λ (o : Option PortName). IsSomeAnd o (λ (port : PortName). port.component.0 < length (names_of system).components)) (sym (slice_get-map port_name system.ports q ∙ ap (option_map port_name) is))
     (subst (λ (n : ℕ). target.component.0 < n) (sym (names_count system)) (slice_get_within system.components target.component.0 _ (place_of system sound q target is).is.of))
 
-ends_named : (system : System) (bound : Bound) (plan : Plan) (olds news : List View) (log run : List Sent) (lives : List Life) (is : _) (end : RunEnd) (before after : _) → IsSound system → AreLives system olds news log lives → EndsLives end lives →
-    EndsBy system bound plan run is end before after → NamesOne (names_of system) end
-ends_named system bound plan olds news log run lives is E.Stop before after sound are ends by = tt
-ends_named system bound plan olds news log run lives is (E.Asked point) before after sound are ends by = tt
-ends_named system bound plan olds news log run lives is (E.EventLimit point) before after sound are ends by = tt
-ends_named system bound plan olds news log run lives is (E.FixedStep component at end) before after sound are ends by =
-    subst (λ (n : ℕ). component.0 < n) (sym (names_count system)) (finished_within system bound plan by.0 component at end run is by.1)
-ends_named system bound plan olds news log run lives is (E.Range lost at) before after sound are ends by =
-    let there = range_finished system bound plan by.0 sound lost at run is by.1 in
+-- the end of a run names a component or a port of the system, if any; that of a bad answer by the lives
+finishes_named : (system : System) (bound : Bound) (plan : Plan) (extent : Extent) (point : ℕ) → IsSound system → (end : RunEnd) (log : List Sent) (is : List Instant) → FinishesIn system bound plan extent end point log is →
+    ((bad : BadAnswer) → end ≡ E.Bad bad → bad.component.0 < length (names_of system).components) → NamesOne (names_of system) end
+finishes_named system bound plan extent point sound E.Stop log is by bad = tt
+finishes_named system bound plan extent point sound (E.Asked at) log is by bad = tt
+finishes_named system bound plan extent point sound (E.EventLimit at) log is by bad = tt
+finishes_named system bound plan extent point sound (E.FixedStep component at end) log is by bad =
+    subst (λ (n : ℕ). component.0 < n) (sym (names_count system)) (finished_within system bound plan extent point component at end log is by)
+finishes_named system bound plan extent point sound (E.Range lost at) log is by bad =
+    let there = range_finished system bound plan extent point sound lost at log is by in
     range_named system sound lost.port.0 there.0 there.1
-ends_named system bound plan olds news log run lives is (E.Bad bad) before after sound are ends by =
-    subst (λ (n : ℕ). bad.component.0 < n) (lives_count system olds news log lives are ∙ sym (names_count system)) (slice_get_within lives bad.component.0 ends.life ends.here)
-ends_named system bound plan olds news log run lives is E.WriteFault before after sound are ends by = tt
+finishes_named system bound plan extent point sound (E.Held at) log is by bad = tt
+finishes_named system bound plan extent point sound (E.Bad answer) log is by bad = bad answer refl
+finishes_named system bound plan extent point sound E.WriteFault log is by bad = tt
+
+-- the first bad answer is one of a component's
+bad_named : (system : System) (olds news : List View) (log : List Sent) (lives : List Life) (end : RunEnd) → AreLives system olds news log lives → EndsLives end lives → (bad : BadAnswer) → end ≡ E.Bad bad → bad.component.0 < length (names_of system).components
+bad_named system olds news log lives end are ends bad is =
+    let least = subst (λ (e : RunEnd). EndsLives e lives) is ends in
+    subst (λ (n : ℕ). bad.component.0 < n) (lives_count system olds news log lives are ∙ sym (names_count system)) (slice_get_within lives bad.component.0 least.life least.here)
+
+pub ends_named : (system : System) (bound : Bound) (plan : Plan) (extent : Extent) (log : List Sent) (is : List Instant) (end : RunEnd) (before after : SinkView) → IsSound system → EndsIn system bound plan extent log is end before after →
+    ((bad : BadAnswer) → end ≡ E.Bad bad → bad.component.0 < length (names_of system).components) → NamesOne (names_of system) end
+ends_named system bound plan extent log is E.Stop before after sound by bad = tt
+ends_named system bound plan extent log is (E.Asked point) before after sound by bad = tt
+ends_named system bound plan extent log is (E.EventLimit point) before after sound by bad = tt
+ends_named system bound plan extent log is (E.FixedStep component at end) before after sound by bad = finishes_named system bound plan extent by.0 sound (E.FixedStep component at end) log is by.1 bad
+ends_named system bound plan extent log is (E.Range lost at) before after sound by bad = finishes_named system bound plan extent by.0 sound (E.Range lost at) log is by.1 bad
+ends_named system bound plan extent log is (E.Held point) before after sound by bad = tt
+ends_named system bound plan extent log is (E.Bad answer) before after sound by bad = bad answer refl
+ends_named system bound plan extent log is E.WriteFault before after sound by bad = tt
 
 pub lived_names : (a : Account) → IsSound a.system → Lived a → NamesOne (names_of a.system) a.end
-lived_names a sound l = ends_named a.system a.bound a.plan a.olds a.news (l.made ++ l.log) l.log l.lives l.is a.end a.before a.after sound l.are l.ends l.text
+lived_names a sound l = ends_named a.system a.bound a.plan Whole l.log l.is a.end a.before a.after sound l.text (bad_named a.system a.olds a.news (l.made ++ l.log) l.lives a.end l.are l.ends)
+
+-- a piece was put with this end, or its put failed
+piece_named : (names : Names) (outcome end : RunEnd) (piece : List ℕ) (before after : SinkView) → PutsPiece outcome piece before after end → (end ≡ outcome → NamesOne names outcome) → NamesOne names end
+piece_named names outcome end piece before after (inl puts) named = subst (NamesOne names) (sym puts.0) (named puts.0)
+piece_named names outcome end piece before after (inr puts) named = subst (NamesOne names) (sym puts.0) tt
+
+held_outcome : (e : Experiment) (at : ℕ) (starts : List Instance) (outcome : RunEnd) (log : List Sent) (piece : List ℕ) → IsSound e.system → HoldsWith e at starts outcome log piece →
+    ((bad : BadAnswer) → outcome ≡ E.Bad bad → bad.component.0 < length (names_of e.system).components) → NamesOne (names_of e.system) outcome
+held_outcome e at starts _ _ _ sound (Early end point log is by) bad = finishes_named e.system e.bound e.plan (UpToHeld at) point sound end log is by bad
+held_outcome e at starts _ _ _ sound (BadlyHeld s answer front more is comes stops) bad = bad answer refl
+held_outcome e at starts _ _ _ sound (WellHeld s front entered kept is mids states comes entering told packed keeping can) bad = tt
+
+pub held_names : (a : Account) (at : ℕ) → IsSound a.system → HeldLived a at → NamesOne (names_of a.system) a.end
+held_names a at sound l =
+    piece_named (names_of a.system) l.outcome a.end l.piece a.before a.after l.puts
+    (λ same. held_outcome (experiment_in a) at l.starts l.outcome l.log l.piece sound l.holds
+    (λ bad is. bad_named a.system a.olds a.news (l.made ++ l.log) l.lives a.end l.are l.ends bad (same ∙ is)))
+
+rest_outcome : (e : Experiment) (s : Spot) (states : List (List ℕ)) (olds news : List Instance) (before after : SinkView) (counted : ℕ) (end : RunEnd) → IsSound e.system → ResumesSlots e s states olds news before after counted end →
+    ((bad : BadAnswer) → end ≡ E.Bad bad → bad.component.0 < length (names_of e.system).components) → NamesOne (names_of e.system) end
+rest_outcome e s states olds news before after counted end sound (Back mids log told answered restored runs) bad =
+    ends_named e.system e.bound e.plan (FromHeld s) runs.log runs.is end before after sound runs.ends bad
+rest_outcome e s states olds news before after counted end sound (NotBack answer log told stops restored none puts) bad =
+    piece_named (names_of e.system) (E.Bad answer) end (end_text K.Fault s.t) before after puts (λ same. bad answer same)
+
+pub rest_names : (a : Account) (held : Snapshot) → IsSound a.system → RestLived a held → NamesOne (names_of a.system) a.end
+rest_names a held sound l =
+    rest_outcome (experiment_in a) (spot_in a.system held) held.states l.starts l.lasts a.before a.after a.instants a.end sound l.resumes
+    (bad_named a.system (map without_machine a.olds) (map without_machine a.news) (l.made ++ l.log) l.lives a.end l.are l.ends)
 
 pub unmade_names : (system : System) (link : ℕ) (olds news : List View) (bad : BadAnswer) → Unmade system link olds bad news → bad.component.0 < length system.components
 unmade_names system link olds news bad u =
@@ -173,6 +238,12 @@ lives_news system olds news log lives are =
 
 pub lived_news : (a : Account) → Lived a → length a.news ≡ length a.system.components
 lived_news a l = lives_news a.system a.olds a.news (l.made ++ l.log) l.lives l.are
+
+pub held_news : (a : Account) (at : ℕ) → HeldLived a at → length a.news ≡ length a.system.components
+held_news a at l = lives_news a.system a.olds a.news (l.made ++ l.log) l.lives l.are
+
+pub rest_news : (a : Account) (held : Snapshot) → RestLived a held → length a.news ≡ length a.system.components
+rest_news a held l = sym (length-map a.news without_machine) ∙ lives_news a.system (map without_machine a.olds) (map without_machine a.news) (l.made ++ l.log) l.lives l.are
 
 -- a peer for each machine
 peer_there : (machines : List Machine) (views : List View) (i : ℕ) (m : Machine) → length machines ≡ length views → slice_get machines i ≡ Some m → (v : View) × (slice_get views i ≡ Some v)
@@ -218,6 +289,7 @@ once a r (E.EventLimit point) one t = (one, t)
 once a r (E.FixedStep component at end) one t = (one, t)
 once a r (E.Range lost at) one t = (one, t)
 once a r (E.Bad bad) one t = t
+once a r (E.Held point) one t = (one, t)
 once a r E.WriteFault one t = (one, t)
 
 abbrev pub goes : (a : Account) (task : Task) (old new : Scene) → CanRun a.system → BindsParameters a.system a.bound → IsPlan a.plan → a.bound ≡ task.bound → a.plan ≡ task.plan → a.before ≡ old.out → a.after ≡ new.out →
@@ -240,6 +312,37 @@ goes a task old new can binds planned bound plan before after peers lived over r
   lived = lived;
   over = over a.system a.olds a.news (lived.made ++ lived.log) lived.lives lived.are;
   so_far = λ r of is. run a r can.sound planned (subst (λ (b : Bound). IsRunOf a.system b a.olds r) (sym bound) of) (is ∙ sym plan) lived;
+}
+
+-- the account of a run that was to be held
+pub holds_so : (a : Account) (at : ℕ) (task : Task) (old new : Scene) → CanRun a.system → BindsParameters a.system a.bound → IsPlan a.plan → IsHoldable a.system a.plan → a.bound ≡ task.bound → a.plan ≡ task.plan → a.before ≡ old.out → a.after ≡ new.out →
+    RunsPeers task a.system a.olds a.news old.spawner new.spawner → (l : HeldLived a at) → LivesAreOver → ToldHeld → ToldNone → ToldHeldWell → Holds task a.system at a.end old new
+holds_so a at task old new can binds planned holdable bound plan before after peers l over told none well = record {
+  account = a;
+  is = record { system_is = refl; plan_is = plan; end_is = refl; before_is = before; after_is = after; peers = peers; sound = can.sound };
+  bound_is = bound;
+  same = lives_same a.system a.olds a.news (l.made ++ l.log) l.lives l.are;
+  lived = l;
+  over = over a.system a.olds a.news (l.made ++ l.log) l.lives l.are;
+  run = λ r of is. told a at r can.sound planned (its r of) (is ∙ sym plan) l;
+  none = λ r of is steps before_it instants z held. none a at r can.sound planned (its r of) (is ∙ sym plan) steps l before_it instants z held;
+  well = λ r of is behaved puts. well a at r can.sound binds planned holdable (its r of) (is ∙ sym plan) behaved puts l;
+}
+  where
+    its : (r : Run) → IsRunOf a.system task.bound a.olds r → IsRunOf a.system a.bound a.olds r
+    its r of = subst (λ (b : Bound). IsRunOf a.system b a.olds r) (sym bound) of
+
+-- and of one that went on from what was held
+pub goes_on_so : (a : Account) (held : Snapshot) (task : Task) (old new : Scene) → CanRun a.system → BindsParameters a.system task.bound → IsPlan a.plan → IsHoldable a.system a.plan → IsPlanOf a.plan held → a.plan ≡ task.plan → a.before ≡ old.out → a.after ≡ new.out →
+    RunsPeers task a.system a.olds a.news old.spawner new.spawner → (l : RestLived a held) → LivesAreOver → ToldRest → ToldRestWell → GoesOn task a.system held a.end old new
+goes_on_so a held task old new can binds planned holdable plan_of plan before after peers l over told well = record {
+  account = a;
+  is = record { system_is = refl; plan_is = plan; end_is = refl; before_is = before; after_is = after; peers = peers; sound = can.sound };
+  lived = l;
+  over = over a.system (map without_machine a.olds) (map without_machine a.news) (l.made ++ l.log) l.lives l.are;
+  run = λ r front z system machines reads held_there begun kept. told a r front z held can.sound planned system plan_of machines reads held_there begun kept l;
+  well = λ r front z system bound machines behaved reads takes held_there begun kept. well a r front z held can.sound (subst (BindsParameters a.system) (sym bound) binds) planned holdable system plan_of machines behaved reads
+      (λ i. subst (λ (p : Plan). TakesState r p i) (sym plan) (takes i)) held_there begun kept l;
 }
 
 pub fails : (task : Task) (system : System) (bad : BadAnswer) (olds news : List View) (old new : Scene) → CanRun system → RunsPeers task system olds news old.spawner new.spawner →

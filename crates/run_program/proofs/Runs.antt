@@ -97,6 +97,7 @@ end_higher names (E.EventLimit point) e h named outs p higher = not_higher h.old
 end_higher names (E.FixedStep component at end) e h named outs p higher = not_higher h.old.run.out.faults h.new.run.out.faults outs higher
 end_higher names (E.Range lost at) e h named outs p higher = not_higher h.old.run.out.faults h.new.run.out.faults outs higher
 end_higher names (E.Bad bad) e h named outs p higher = not_higher h.old.run.out.faults h.new.run.out.faults outs higher
+end_higher names (E.Held point) e h named outs p higher = absurd outs
 end_higher names E.WriteFault e h named outs p higher = put (subst (λ (x : End). Reports (end_message x) (end_status x) h.status h.err h.err_after) named p)
   where
     put : Reports (end_message O.WriteFault) (end_status O.WriteFault) h.status h.err h.err_after → h.status ≡ 10

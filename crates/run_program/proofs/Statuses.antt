@@ -8,7 +8,7 @@ use Rattle.run_program.specs.declared.outcome.Outcome.TheVariants.{Words, Memory
 use Rattle.system_files.specs.declared.named.FileFault.{FileFault}
 use Rattle.system_files.specs.declared.named.FileFault.TheVariants.{Unread, Missing, TooBig, Broken}
 use Rattle.run_program.specs.declared.outcome.End.{End}
-use Rattle.run_program.specs.declared.outcome.End.TheVariants.{Stop, Asked, EventLimit, FixedStep, Range, Bad, WriteFault}
+use Rattle.run_program.specs.declared.outcome.End.TheVariants.{Stop, Asked, EventLimit, FixedStep, Range, Held, Bad, WriteFault}
 use Rattle.run_program.specs.Message.{status_of}
 
 pub data Status : Type 0 where
@@ -86,6 +86,7 @@ of_end (EventLimit point) = ManyInstants
 of_end (FixedStep component at end) = FixedSize
 of_end (Range component variable x) = OutOfRange
 of_end (Bad component why) = of_why why
+of_end (Held point) = Done
 of_end WriteFault = Unwritten
 
 abbrev pub of_outcome : Outcome → Status
@@ -114,6 +115,7 @@ numbered (Ran (Range component variable x)) = refl
 numbered (Ran (Bad component (Refused call status))) = refl
 numbered (Ran (Bad component (Misreply call reply))) = refl
 numbered (Ran (Bad component (Link call fault))) = refl
+numbered (Ran (Held point)) = refl
 numbered (Ran WriteFault) = refl
 numbered Checked = refl
 numbered Untold = refl

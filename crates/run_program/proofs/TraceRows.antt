@@ -1,22 +1,30 @@
 -- The rows of the check of a trace, and those of a system beside them.
-use Rattle.std.proofs.Common.{◌≡◌, ◌∙◌, ℕ, List, [], inl, inr, sym, ap, subst}
-use Rattle.command_line.specs.Line.{Asked, BenchLine, IsAsked, IsBenchLine, IsLine, IsTraceLine, Line, OfBench, OfSystem, OfTrace, TraceLine}
+use Rattle.std.proofs.Common.{◌≡◌, ◌∙◌, ℕ, List, [], inl, inr, refl, sym, ap, subst}
+use Rattle.command_line.specs.Line.{Asked, IsAsked, IsLine, Line, OfBench, OfCheckpoint, OfResume, OfSystem, OfTrace, TraceLine}
 use Rattle.built_in_laws.specs.BuiltInRuns.{BuiltInsBehaveWell}
 use Rattle.system_files.specs.declared.loading.LoadEnd.{LoadEnd}
 use Rattle.system_files.specs.declared.loading.LoadEnd.TheVariants as end
 use Rattle.system_files.specs.declared.named.FileFault.{FileFault}
 use Rattle.system_files.specs.declared.named.FileFault.TheVariants.{Unread, Missing, TooBig, Broken}
+use Rattle.sim_base.specs.Folder.{FolderView}
 use Rattle.system_files.specs.Files.{Absent, Faulty, Long}
+use Rattle.system_files.specs.Loads as loads
+use Rattle.system_files.specs.Loads.{ReadsSome}
+use Rattle.system_files.specs.Order.{Search}
+use Rattle.system_files.proofs.AskLemmas.{none_here}
+use Rattle.checkpoint_loading.specs.Loading as rest
 use Rattle.trace_judging.specs.Judging.{Lacks, LacksVerdict, Nothing}
 use Rattle.run_program.specs.declared.outcome.Outcome.{Outcome}
 use Rattle.run_program.specs.declared.outcome.Outcome.TheVariants.{Words, Memory, File}
 use Rattle.run_program.specs.Bench.{RunsBench}
 use Rattle.run_program.specs.Facts.{LacksLine, LineFacts, WithLine, WithoutLine}
 use Rattle.run_program.specs.Happened.{Happened, Stage}
+use Rattle.run_program.specs.Held.{NothingHeld, Resumed, RunsCheckpoint, RunsResume}
+use Rattle.run_program.specs.Held as held
 use Rattle.run_program.specs.Message.{file_message, file_status}
 use Rattle.run_program.specs.Refusing.{TellsEnd}
 use Rattle.run_program.specs.Rows.{Answers, KeepsSystemRows, memory_line}
-use Rattle.run_program.specs.TraceCheck.{ChecksTrace, EndsCheck, FailsToRead, IsUntold, Judges, KeepsRows, Wanting, question_of}
+use Rattle.run_program.specs.TraceCheck.{ChecksTrace, EndsCheck, FailsToRead, ForBench, ForCheckpoint, ForResume, ForTrace, IsOfOther, IsUntold, Judges, KeepsRows, Wanting, question_of}
 use Rattle.run_program.proofs.Exactly.{answers}
 use Rattle.run_program.proofs.PeerLemmas.{none_begun}
 use Rattle.run_program.proofs.Rows.{keeps_rows}
@@ -24,54 +32,39 @@ use Rattle.run_program.proofs.When.{HasPut}
 
 -- ---- one command
 
-apart : (line : Line) (trace : TraceLine) → OfSystem line ≡ OfTrace trace → ⊥
-apart line trace e = cc
+-- what a command does that arguments ask for
+abbrev pub RowsOf : Happened → Asked → Type 0
+RowsOf h (OfSystem line) = KeepsSystemRows h
+RowsOf h (OfTrace line) = ChecksTrace h line
+RowsOf h (OfBench line) = RunsBench h line
+RowsOf h (OfCheckpoint line) = RunsCheckpoint h line
+RowsOf h (OfResume line) = RunsResume h line
 
-apart_bench : (line : Line) (bench : BenchLine) → OfSystem line ≡ OfBench bench → ⊥
-apart_bench line bench e = cc
-
-apart_two : (trace : TraceLine) (bench : BenchLine) → OfTrace trace ≡ OfBench bench → ⊥
-apart_two trace bench e = cc
-
-apart_back : (bench : BenchLine) (trace : TraceLine) → OfBench bench ≡ OfTrace trace → ⊥
-apart_back bench trace e = cc
-
-one_bench_line : (one other : BenchLine) → OfBench one ≡ OfBench other → one ≡ other
-one_bench_line one other e = cc
-
-one_trace_line : (one other : TraceLine) → OfTrace one ≡ OfTrace other → one ≡ other
-one_trace_line one other e = cc
-
--- arguments that are a command line of a system and of no other command
-pub of_system : (h : Happened) (line : Line) → ((asked : Asked) → IsAsked h.words asked → OfSystem line ≡ asked) → KeepsSystemRows h → KeepsRows h
-of_system h line only rows = record {
-  system = λ none no_bench. rows;
-  trace_check = λ trace is. absurd (apart line trace (only (OfTrace trace) is));
-  bench = λ bench is. absurd (apart_bench line bench (only (OfBench bench) is));
+-- arguments that ask for this and for nothing else
+pub of_one : (h : Happened) (asked : Asked) → IsAsked h.words asked → ((other : Asked) → IsAsked h.words other → asked ≡ other) → RowsOf h asked → KeepsRows h
+of_one h asked is only rows = record {
+  system = by asked is rows;
+  trace_check = λ line other. subst (RowsOf h) (only (OfTrace line) other) rows;
+  bench = λ line other. subst (RowsOf h) (only (OfBench line) other) rows;
+  checkpoint = λ line other. subst (RowsOf h) (only (OfCheckpoint line) other) rows;
+  resume = λ line other. subst (RowsOf h) (only (OfResume line) other) rows;
 }
-
--- arguments that are the line of a trace
-pub of_trace : (h : Happened) (line : TraceLine) → IsTraceLine h.words line → ((asked : Asked) → IsAsked h.words asked → OfTrace line ≡ asked) → ChecksTrace h line → KeepsRows h
-of_trace h line is only checks = record {
-  system = λ none no_bench. absurd (none line is);
-  trace_check = λ trace other. subst (ChecksTrace h) (one_trace_line line trace (only (OfTrace trace) other)) checks;
-  bench = λ bench other. absurd (apart_two line bench (only (OfBench bench) other));
-}
-
--- arguments that are the line of a run of a generated system
-pub of_bench : (h : Happened) (line : BenchLine) → IsBenchLine h.words line → ((asked : Asked) → IsAsked h.words asked → OfBench line ≡ asked) → RunsBench h line → KeepsRows h
-of_bench h line is only runs = record {
-  system = λ none no_bench. absurd (no_bench line is);
-  trace_check = λ trace other. absurd (apart_back line trace (only (OfTrace trace) other));
-  bench = λ bench other. subst (RunsBench h) (one_bench_line line bench (only (OfBench bench) other)) runs;
-}
+  where
+    by : (one : Asked) → IsAsked h.words one → RowsOf h one → (IsOfOther h → ⊥) → KeepsSystemRows h
+    by (OfSystem line) it does none = does
+    by (OfTrace line) it does none = absurd (none (ForTrace line it))
+    by (OfBench line) it does none = absurd (none (ForBench line it))
+    by (OfCheckpoint line) it does none = absurd (none (ForCheckpoint line it))
+    by (OfResume line) it does none = absurd (none (ForResume line it))
 
 -- arguments that are no command line
 pub of_none : (h : Happened) → ((asked : Asked) → IsAsked h.words asked → ⊥) → KeepsSystemRows h → KeepsRows h
 of_none h none rows = record {
-  system = λ no_trace no_bench. rows;
-  trace_check = λ trace is. absurd (none (OfTrace trace) is);
-  bench = λ bench is. absurd (none (OfBench bench) is);
+  system = λ others. rows;
+  trace_check = λ line is. absurd (none (OfTrace line) is);
+  bench = λ line is. absurd (none (OfBench line) is);
+  checkpoint = λ line is. absurd (none (OfCheckpoint line) is);
+  resume = λ line is. absurd (none (OfResume line) is);
 }
 
 one_line : (one other : Line) → OfSystem one ≡ OfSystem other → one ≡ other
@@ -80,7 +73,7 @@ one_line one other e = cc
 pub system_rows : BuiltInsBehaveWell → (o : Outcome) (h : Happened) (line : Line) → IsLine h.words line → ((asked : Asked) → IsAsked h.words asked → OfSystem line ≡ asked) →
     LineFacts o line h.old h.new → HasPut o h → KeepsRows h
 system_rows behave o h line is only facts p =
-    of_system h line only (keeps_rows behave o h (WithLine (record { line = line; is = is; only = λ other it. one_line line other (only (OfSystem other) it); facts = facts })) p)
+    of_one h (OfSystem line) is only (keeps_rows behave o h (WithLine (record { line = line; is = is; only = λ other it. one_line line other (only (OfSystem other) it); facts = facts })) p)
 
 pub no_line_rows : BuiltInsBehaveWell → (o : Outcome) (h : Happened) → o ≡ Words → h.new ≡ h.old → ((asked : Asked) → IsAsked h.words asked → ⊥) → HasPut o h → KeepsRows h
 no_line_rows behave o h e same none p =
@@ -103,10 +96,14 @@ refused h line (end.File file (Broken rule place ports)) o f (inl tells) bare p 
 refused h line (end.File file (Broken rule place ports)) o f (inr tells) bare p = Judges (Lacks file.path (Faulty rule place ports)) f (bare, inl (wants h o tells p))
 refused h line end.Memory o f tells bare p = Wanting f bare (wants h o tells p)
 
+-- no file is read
+none_read : (s : Search) (old new : FolderView) → new ≡ old → ReadsSome s old new
+none_read s old new same = record { reads = []; asked = []; some = loads.Nothing [] refl; asks = none_here old new same }
+
 -- memory ran out when the arguments were read
 pub unread_rows : BuiltInsBehaveWell → (o : Outcome) (h : Happened) → o ≡ Memory → h.new ≡ h.old → HasPut o h → KeepsRows h
 unread_rows behave o h e same p = record {
-  system = λ none no_bench. keeps_rows behave o h (WithoutLine (record { why = subst (λ (x : Outcome). LacksLine x h.words) (sym e) tt; same = same })) p;
+  system = λ others. keeps_rows behave o h (WithoutLine (record { why = subst (λ (x : Outcome). LacksLine x h.words) (sym e) tt; same = same })) p;
   trace_check = λ line is. record {
     calm = ap (λ (s : Stage). s.run.spawner) same;
     ends = Wanting (Nothing (ap (λ (s : Stage). s.folder) same)) (ap (λ (s : Stage). s.run.out) same) (wants h o e p);
@@ -117,4 +114,11 @@ unread_rows behave o h e same p = record {
     facts = record { peers = []; are = tt; told = ap (λ (s : Stage). s.run.spawner) same ∙ none_begun h.old.run.spawner; out = ap (λ (s : Stage). s.run.out) same };
     told = subst (λ (x : Outcome). HasPut x h) e p;
   };
+  checkpoint = λ line is. record {
+    outcome = Memory;
+    facts = held.Unloaded (ap (λ (s : Stage). s.run) same) (none_read (held.search_for line) h.old.folder h.new.folder (ap (λ (s : Stage). s.folder) same));
+    told = subst (λ (x : Outcome). HasPut x h) e p;
+  };
+  resume = λ line is. Resumed Memory (NothingHeld (ap (λ (s : Stage). s.run) same) (rest.Nothing (ap (λ (s : Stage). s.folder) same)))
+      (subst (λ (x : Outcome). HasPut x h) e p);
 }

@@ -190,6 +190,7 @@ run_when (E.EventLimit point) e line h is to named says = subst (λ (x : End). W
 run_when (E.FixedStep component at end) e line h is to named says = subst (λ (x : End). WhenIs (of_end x) h) (sym named.2) (line, is, (component, at, end, to))
 run_when (E.Range lost at) e line h is to named says = subst (λ (x : End). WhenIs (of_end x) h) (sym named.2.2) (line, is, (lost, at, to))
 run_when (E.Bad bad) e line h is to named says = subst (λ (x : End). WhenIs (of_end x) h) (sym named.2) (bad_when bad.why line h is bad refl to)
+run_when (E.Held point) e line h is to named says = absurd (tells_out (task_of to.it.asked to.it.loaded) to.it.loaded.system (E.Held point) h.old.run h.new.run to.run)
 run_when E.WriteFault e line h is to named says =
     subst (λ (x : End). WhenIs (of_end x) h) (sym named) (
       subst (λ (x : End). Put h (end_message x)) named says,

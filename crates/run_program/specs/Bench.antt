@@ -72,6 +72,7 @@ is_well (O.EventLimit point) = false
 is_well (O.FixedStep component at end) = false
 is_well (O.Range component variable x) = false
 is_well (O.Bad component why) = false
+is_well (O.Held point) = false
 is_well O.WriteFault = false
 
 -- the outcome is that of such a run

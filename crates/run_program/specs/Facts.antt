@@ -49,6 +49,16 @@ abbrev pub EndsSo : End → Task → System → Scene → Scene → Type 0
 EndsSo e task system old new =
     (end : RunEnd) × IsEndOf (names_of system) end e × HasRun task system end old new
 
+-- what holds of an outcome where a peer wasn't started, or memory ran out for it
+abbrev pub StartFacts : Outcome → Task → System → Scene → Scene → Type 0
+StartFacts Words task system old new = ⊥
+StartFacts Memory task system old new = TakesBack task system old new
+StartFacts (File path fault) task system old new = ⊥
+StartFacts (Start name fault) task system old new = FailsToStart task system name fault old new
+StartFacts (Ran e) task system old new = ⊥
+StartFacts Checked task system old new = ⊥
+StartFacts Untold task system old new = ⊥
+
 -- what holds of an outcome once it is known what to run
 abbrev pub RunFacts : Outcome → Task → System → Scene → Scene → Type 0
 RunFacts Words task system old new = ⊥

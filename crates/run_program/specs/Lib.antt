@@ -7,5 +7,6 @@ pub mod Rows
 pub mod Refusing
 pub mod Given
 pub mod Bench
+pub mod Held
 pub mod TraceCheck
 pub mod Requests

@@ -27,7 +27,7 @@ use Rattle.run_program.specs.declared.outcome.Outcome.TheVariants.{Words, Memory
 use Rattle.run_program.specs.declared.outcome.StartCause.{StartCause}
 use Rattle.run_program.specs.declared.outcome.StartCause.TheVariants.{Failed, Unknown}
 use Rattle.run_program.specs.declared.outcome.End.{End}
-use Rattle.run_program.specs.declared.outcome.End.TheVariants.{Stop, Asked, EventLimit, FixedStep, Range, Bad, WriteFault}
+use Rattle.run_program.specs.declared.outcome.End.TheVariants.{Stop, Asked, EventLimit, FixedStep, Range, Held, Bad, WriteFault}
 
 -- a call's name
 abbrev pub call_name : Call → List ℕ
@@ -98,7 +98,12 @@ bad_message component (Misreply call reply) =
 bad_message component (Link call fault) =
     codes "link " ++ escaped component ++ codes " " ++ call_name call ++ codes "\n"
 
--- of the end of a run: none at the stop and where a component asked for it
+-- of a file that holds no checkpoint of the system, which the byte at a place shows, or its end
+unfoldable pub checkpoint_message : List ℕ → ℕ → List ℕ
+checkpoint_message path at =
+    codes "checkpoint " ++ escaped path ++ codes " " ++ decimal at ++ codes "\n"
+
+-- of the end of a run: none at the stop, where a component asked for it, and where the run is held
 abbrev pub end_message : End → Option (List ℕ)
 end_message Stop = None
 end_message Asked = None
@@ -106,6 +111,7 @@ end_message (EventLimit point) = Some (limit_message point)
 end_message (FixedStep component at end) = Some (fixed_message component at end)
 end_message (Range component variable x) = Some (range_message component variable x)
 end_message (Bad component why) = Some (bad_message component why)
+end_message (Held point) = None
 end_message WriteFault = Some (codes "write\n")
 
 -- of an outcome
@@ -162,6 +168,7 @@ end_room (EventLimit point) = 0
 end_room (FixedStep component at end) = room_for (length component)
 end_room (Range component variable x) = room_for (length component + length variable)
 end_room (Bad component why) = room_for (length component)
+end_room (Held point) = 0
 end_room WriteFault = 0
 
 -- so many bytes hold the line of an outcome, where it isn't the same for all
@@ -194,6 +201,7 @@ end_status (EventLimit point) = 8
 end_status (FixedStep component at end) = 9
 end_status (Range component variable x) = 13
 end_status (Bad component why) = why_status why
+end_status (Held point) = 0
 end_status WriteFault = 10
 
 abbrev pub status_of : Outcome → ℕ

@@ -131,6 +131,7 @@ IsFinished (E.EventLimit point) = ⊥
 IsFinished (E.FixedStep component at end) = ⊥
 IsFinished (E.Range lost at) = ⊥
 IsFinished (E.Bad bad) = ⊥
+IsFinished (E.Held point) = ⊥
 IsFinished E.WriteFault = ⊥
 
 -- the status and the line of a run's end, which names one of these components: 0 and no line at the stop and where a component asked for it, else the end's own, unless the line couldn't be put
@@ -218,7 +219,7 @@ pub record IsFirstBadOf (talks : List Talk) (shape : Shape) (why : Why)
   pub is : talk ≡ front ++ last ∷ rest
   pub good : T.AllGood shape front
   pub bad : IsWhy shape why last
-  pub of_run : IsOfClosing talks front last.call rest → ⊥
+  pub of_run : IsOfClosing talks shape front last.call rest → ⊥
 
 -- these peers were taken back, each tells its talk, and no put on out failed
 pub record TellPeers (h : Happened) (peers : List View)

@@ -175,6 +175,7 @@ NamesOne names (E.EventLimit point) = Unit {0}
 NamesOne names (E.FixedStep component at end) = component.0 < length names.components
 NamesOne names (E.Range lost at) = NamesPort names lost.port.0
 NamesOne names (E.Bad bad) = bad.component.0 < length names.components
+NamesOne names (E.Held point) = Unit {0}
 NamesOne names E.WriteFault = Unit {0}
 
 -- the end of a run, with its component's name and its variable's among these
@@ -191,4 +192,5 @@ IsEndOf names (E.Range lost at) e =
     (e ≡ O.Range name port.name lost.value))
 IsEndOf names (E.Bad bad) e =
     (name : List ℕ) × (slice_get names.components bad.component.0 ≡ Some name) × (e ≡ O.Bad name bad.why)
+IsEndOf names (E.Held point) e = e ≡ O.Held point
 IsEndOf names E.WriteFault e = e ≡ O.WriteFault

@@ -3,13 +3,14 @@ use Rattle.std.specs.Prelude.{◌≡◌, ◌⊎◌, ℕ, List, ◌++◌, codes, 
 use Rattle.sim_base.specs.Sink.{with_piece}
 use Rattle.trace_check.specs.declared.verdict.Verdict.{Verdict}
 use Rattle.trace_check.specs.declared.verdict.Verdict.TheVariants.{Yes, No}
-use Rattle.command_line.specs.Line.{BenchLine, IsBenchLine, IsTraceLine, TraceLine}
+use Rattle.command_line.specs.Line.{BenchLine, CheckpointLine, IsBenchLine, IsCheckpointLine, IsResumeLine, IsTraceLine, ResumeLine, TraceLine}
 use Rattle.system_files.specs.declared.named.FileFault.{FileFault}
 use Rattle.system_files.specs.declared.named.FileFault.TheVariants.{Unread, Missing, TooBig, Broken}
 use Rattle.system_files.specs.Files.{Absent, Faulty, Flaw, Long}
 use Rattle.trace_judging.specs.Judging.{FailsReading, Gives, Judged, Judgement, Lacks, Question, ReadsFew}
 use Rattle.run_program.specs.Bench.{RunsBench}
 use Rattle.run_program.specs.Happened.{Happened}
+use Rattle.run_program.specs.Held.{RunsCheckpoint, RunsResume}
 use Rattle.run_program.specs.Message.{CutsShort, file_message, file_status}
 use Rattle.run_program.specs.Rows.{Answers, AnswersOr11, IsSilent, KeepsSystemRows, memory_line}
 
@@ -73,9 +74,17 @@ pub record ChecksTrace (h : Happened) (line : TraceLine) : Type 0 where
 
 -- ---- each call of the program
 
--- the rows of a system, and where the arguments ask for the check of a trace or for the run of a generated system, that
+-- the arguments ask for one of the commands that the rows of a system aren't about
+pub data IsOfOther (h : Happened) : Type 0 where
+  ForTrace : (line : TraceLine) → IsTraceLine h.words line → IsOfOther h
+  ForBench : (line : BenchLine) → IsBenchLine h.words line → IsOfOther h
+  ForCheckpoint : (line : CheckpointLine) → IsCheckpointLine h.words line → IsOfOther h
+  ForResume : (line : ResumeLine) → IsResumeLine h.words line → IsOfOther h
+
+-- the rows of a system, and where the arguments ask for another command, what that does
 pub record KeepsRows (h : Happened) : Type 0 where
-  pub system : ((line : TraceLine) → IsTraceLine h.words line → ⊥) →
-      ((line : BenchLine) → IsBenchLine h.words line → ⊥) → KeepsSystemRows h
+  pub system : (IsOfOther h → ⊥) → KeepsSystemRows h
   pub trace_check : (line : TraceLine) → IsTraceLine h.words line → ChecksTrace h line
   pub bench : (line : BenchLine) → IsBenchLine h.words line → RunsBench h line
+  pub checkpoint : (line : CheckpointLine) → IsCheckpointLine h.words line → RunsCheckpoint h line
+  pub resume : (line : ResumeLine) → IsResumeLine h.words line → RunsResume h line

@@ -82,6 +82,7 @@ fn is_well(end: &End) -> bool
         End::EventLimit { .. }
         | End::FixedStep { .. }
         | End::Range { .. }
+        | End::Held { .. }
         | End::Bad { .. }
         | End::WriteFault => false,
     }

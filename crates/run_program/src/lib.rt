@@ -4,6 +4,7 @@
 
 mod args;
 mod bench;
+mod held;
 mod message;
 mod names;
 mod naming;

@@ -5,7 +5,7 @@ ghost use Rattle.std.specs.List.{count_by};
 ghost use Rattle.system_model.specs.Ports.{source_of};
 ghost use Rattle.system_files.specs.Rooms.{room_for};
 ghost use Rattle.std.specs.Fmt.{signed_decimal};
-ghost use Rattle.run_program.specs.Message.{bad_message, file_message, fixed_message, limit_message, loop_room, loop_text, numbers_text, path_room, place_room, place_text, range_message, size_text, start_message, summary_text};
+ghost use Rattle.run_program.specs.Message.{bad_message, checkpoint_message, file_message, fixed_message, limit_message, loop_room, loop_text, numbers_text, path_room, place_room, place_text, range_message, size_text, start_message, summary_text};
 ghost use Rattle.link_frames.specs.Reply.{frame_of};
 ghost use Rattle.run_program.specs.TraceCheck.{verdict_text};
 
@@ -53,6 +53,21 @@ fn write_broken(path: &str, rule: Rule, place: &Place, ports: &[PortId], text: &
     let at = append(b" ", text, at);
     let at = append_place(place, text, at);
     let at = append_loop(ports, text, at);
+    append(b"\n", text, at)
+}
+
+/// Writes at the start of `text` the line of a file that holds no checkpoint, and answers its length. The byte at a place of
+/// the file shows it, or its end.
+#[tactic(auto, unfolding(crate::specs::Message::checkpoint_message))]
+pub(crate) fn write_checkpoint_message(path: &str, byte: u64, text: &mut [u8]) -> usize
+    requires { room_for (length path.now) ≤ length text.old }
+    ensures length { result ≤ length text.new }
+    ensures text { take result text.new ≡ checkpoint_message path.now byte }
+{
+    let at = append(b"checkpoint ", text, 0);
+    let at = append_name(path, text, at);
+    let at = append(b" ", text, at);
+    let at = append_number(byte, text, at);
     append(b"\n", text, at)
 }
 

@@ -128,6 +128,7 @@ impl Naming {
                     text,
                 }
             }
+            RunEnd::Held { point } => self.report_bare_end(End::Held { point }),
             RunEnd::WriteFault => self.report_bare_end(End::WriteFault),
         }
     }

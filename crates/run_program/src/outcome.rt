@@ -60,6 +60,10 @@ pub(crate) enum End {
         variable: Text,
         value: i128,
     },
+    /// at a point where the run is held, and its checkpoint was put
+    Held {
+        point: u64,
+    },
     /// by the first answer that isn't good, of this component
     Bad {
         component: Text,

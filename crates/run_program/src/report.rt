@@ -120,7 +120,7 @@ fn put_end_line<E: Sink>(end: &End, text: &mut [u8], err: &mut E) -> u8
         (E.view err.new) }
 {
     match end {
-        End::Stop | End::Asked => 0,
+        End::Stop | End::Asked | End::Held { .. } => 0,
         End::EventLimit { point } => put_limit_line(*point, err),
         End::FixedStep { component, at, end } => {
             let length = write_fixed_message(component.as_str(), *at, *end, text);

@@ -1,4 +1,4 @@
-ghost use Rattle.std.specs.Prelude.{◌≡◌, ◌+◌, ◌<◌, ◌≤◌, length, map};
+ghost use Rattle.std.specs.Prelude.{◌≡◌, ◌+◌, ◌<◌, ◌≤◌, IfErr, IfOk, length, map};
 ghost use Rattle.command_line.specs.Line.{IsWithin, Line, run_of, texts};
 ghost use Rattle.fmu_peer.specs.Start.{SpawnerView};
 ghost use Rattle.run_model.specs.Laws.{OneTrace};
@@ -7,15 +7,15 @@ ghost use Rattle.calling_sequence.specs.Plans.{CountsBy};
 ghost use Rattle.system_model.specs.Bounds.{BindsParameters};
 ghost use Rattle.system_model.specs.declared.system.System.{System};
 ghost use Rattle.run_program.specs.Bench.{RanFacts};
-ghost use Rattle.run_program.specs.Facts.{CheckFacts, LineFacts, task_of};
-ghost use Rattle.run_program.specs.declared.outcome.Numbers.{Numbers};
+ghost use Rattle.run_program.specs.Facts.{CheckFacts, LineFacts, StartFacts, task_of};
 ghost use Rattle.run_program.specs.Requests.{IsRequestOf, KeepsCounts};
 ghost use Rattle.run_program.specs.Happened.{happened, scene, stage};
-ghost use Rattle.run_program.specs.Peers.{AreKnown, AreMade, AreStarted, StartsUpTo, with_all_started};
+ghost use Rattle.run_program.specs.Peers.{AreKnown, AreMade, AreStarted, StartsEach, StartsUpTo, with_all_started};
 ghost use Rattle.run_program.specs.TraceCheck.{KeepsRows};
 ghost use Rattle.run_program.specs.Runs.{CanRun, HasFolders, Task, named_in, names_of};
 
 use crate::bench::run_bench;
+use crate::held::{hold_run, resume_run};
 use crate::message::write_size;
 use crate::naming::Naming;
 use crate::outcome::{Numbers, StartCause};
@@ -47,6 +47,10 @@ use system_model::{Bound, System};
 /// `check DIR --resolution R` puts the size of the system on `out`, `trace-check DIR FILE` whether the trace in a file keeps
 /// the rules of that system, and `bench SEED N` the numbers of the run of a generated system of N components. At each status
 /// but 0 and 1 one line is put on `err`.
+///
+/// `checkpoint DIR .. --at P` runs a system as `run` does, but puts no trace: at the first point from P on, before the stop,
+/// it puts what is kept of the run on `out`, or its end line where it ends before. `resume DIR FILE [--workers W] [--link L]
+/// [--host PROGRAM]` goes on from that, and puts what `run` puts after that point.
 pub fn run_words<R: Threads + Sync, F: Folder, S: Spawner, O: Sink, E: Sink>(
     rt: &R,
     alloc: Global,
@@ -70,6 +74,12 @@ pub fn run_words<R: Threads + Sync, F: Folder, S: Spawner, O: Sink, E: Sink>(
         }
         Ok(Request::TraceCheck(options)) => check_trace(alloc, options, folder, out, err),
         Ok(Request::Bench(options)) => run_bench(rt, alloc, options, spawner, out).put(err),
+        Ok(Request::Checkpoint(options)) => {
+            hold_run(rt, alloc, options, folder, spawner, out).put(err)
+        }
+        Ok(Request::Resume(options)) => {
+            resume_run(rt, alloc, options, folder, spawner, out, err)
+        }
         Err(WordsFault::NoLine) => Report::words(alloc).put(err),
         Err(WordsFault::Memory) => Report::memory(alloc).put(err),
     }
@@ -155,27 +165,50 @@ pub(crate) fn run_system<R: Threads + Sync, S: Spawner, O: Sink>(
         folders,
     } = loaded;
     let folders = folders.as_slice();
-    let components = system.components.as_slice();
-    let Ok(naming) = Naming::new(alloc, &system) else {
-        return Ran {
-            report: Report::memory(alloc),
-            numbers: NO_NUMBERS,
-        };
-    };
-    let Ok(room) = Vec::with_capacity(alloc, components.len()) else {
-        return Ran {
-            report: Report::memory(alloc),
-            numbers: NO_NUMBERS,
-        };
-    };
-    match start_each(alloc, options.host, folders, components, room, spawner) {
-        Ok(peers) => run_peers(
+    match start_system(alloc, options.host, folders, &system, spawner) {
+        Ok(Started { naming, peers }) => run_peers(
             rt, alloc, options, system, bound, folders, naming, peers, spawner, out,
         ),
-        Err(unstarted) => Ran {
-            report: give_up(alloc, naming, unstarted, spawner),
+        Err(report) => Ran {
+            report,
             numbers: NO_NUMBERS,
         },
+    }
+}
+
+/// The peers of a system, in the order of its components, and the names of its components and ports.
+pub(crate) struct Started<L> {
+    pub naming: Naming,
+    pub peers: Vec<L>,
+}
+
+/// Starts a peer for each component of a system. Where one isn't started, takes back those before it.
+pub(crate) fn start_system<S: Spawner>(
+    alloc: Global,
+    host: &str,
+    folders: &[Text],
+    system: &System,
+    spawner: &mut S,
+) -> Result<Started<S::Link>, Report>
+    requires runnable { CanRun system.now }
+    requires folders { HasFolders folders.now system.now }
+    ensures names { IfOk result (λ started. named_in started.naming ≡ names_of system.now) }
+    ensures ok { IfOk result (λ started. StartsEach host.now folders.now system.now.components
+        (map S.Link.view started.peers.items) (S.view spawner.old) (S.view spawner.new)) }
+    ensures err { IfErr result (λ report. (task : Task) (out : SinkView) → task.host ≡ host.now →
+        task.folders ≡ folders.now → StartFacts report.outcome task system.now
+        (scene (S.view spawner.old) out) (scene (S.view spawner.new) out)) }
+{
+    let components = system.components.as_slice();
+    let Ok(naming) = Naming::new(alloc, system) else {
+        return Err(Report::memory(alloc));
+    };
+    let Ok(room) = Vec::with_capacity(alloc, components.len()) else {
+        return Err(Report::memory(alloc));
+    };
+    match start_each(alloc, host, folders, components, room, spawner) {
+        Ok(peers) => Ok(Started { naming, peers }),
+        Err(unstarted) => Err(give_up(alloc, naming, unstarted, spawner)),
     }
 }
 
@@ -189,9 +222,9 @@ fn give_up<S: Spawner>(
     requires one { unstarted.component.0 < length naming.names.items }
     requires fewer { length (S.view spawner.old).retired + length unstarted.peers.items ≤
         (S.view spawner.old).started }
-    ensures { (numbers : Numbers) (task : Task) (system : System) (before : SpawnerView) (out : SinkView) → named_in naming ≡ names_of system →
+    ensures { (task : Task) (system : System) (before : SpawnerView) (out : SinkView) → named_in naming ≡ names_of system →
         StartsUpTo task.host task.folders system.components unstarted.component.0 unstarted.fault (map S.Link.view unstarted.peers.items) before (S.view spawner.old) →
-        RanFacts result.outcome numbers task system (scene before out) (scene (S.view spawner.new) out) }
+        StartFacts result.outcome task system (scene before out) (scene (S.view spawner.new) out) }
 {
     let Unstarted {
         peers,

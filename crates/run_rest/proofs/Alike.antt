@@ -50,7 +50,7 @@ kept_off F stop none (Once point) h = (elim (nat_le point stop) as (λ b. F (if 
 across : (F : Timer → Type 0) (stop t : ℕ) → ((point : ℕ) → F (Once point) → t ≡ point) → (F Never → ⊥) → t ≤ stop → (a b : Timer) → up_to stop a ≡ up_to stop b → F a → F b
 across F stop t only none within a b same h = kept_off F stop none b (subst F same (kept_on F stop t only within a h))
 
-due_across : (start stop t n : ℕ) (a b : Timer) → t ≤ stop → up_to stop a ≡ up_to stop b → IsDue start a t n → IsDue start b t n
+pub due_across : (start stop t n : ℕ) (a b : Timer) → t ≤ stop → up_to stop a ≡ up_to stop b → IsDue start a t n → IsDue start b t n
 due_across start stop t n a b within same h = across (λ x. IsDue start x t n) stop t (λ point e. e) (λ e. e) within a b same h
 
 ticks_across : (start stop t : ℕ) (a b : Timer) → t ≤ stop → up_to stop a ≡ up_to stop b → TicksAt start a t → TicksAt start b t
@@ -69,11 +69,11 @@ armed_kept stop t (Once point) within = (elim (nat_le point stop) as (λ b. nat_
 armed_across : (stop t : ℕ) (a b : Timer) → t ≤ stop → up_to stop a ≡ up_to stop b → is_armed_for t a ≡ is_armed_for t b
 armed_across stop t a b within same = armed_kept stop t a within ∙ ap (is_armed_for t) same ∙ sym (armed_kept stop t b within)
 
-rearmed_across : (stop : ℕ) (c : Bool) (new a b : Timer) → up_to stop a ≡ up_to stop b → up_to stop (if c then new else a) ≡ up_to stop (if c then new else b)
+pub rearmed_across : (stop : ℕ) (c : Bool) (new a b : Timer) → up_to stop a ≡ up_to stop b → up_to stop (if c then new else a) ≡ up_to stop (if c then new else b)
 rearmed_across stop true new a b same = refl
 rearmed_across stop false new a b same = same
 
-answered_across : (stop per_second t : ℕ) (interval : Interval) (a b : Timer) → up_to stop a ≡ up_to stop b → up_to stop (answered per_second t interval a) ≡ up_to stop (answered per_second t interval b)
+pub answered_across : (stop per_second t : ℕ) (interval : Interval) (a b : Timer) → up_to stop a ≡ up_to stop b → up_to stop (answered per_second t interval a) ≡ up_to stop (answered per_second t interval b)
 answered_across stop per_second t NotYetKnown a b same = refl
 answered_across stop per_second t (Unchanged f) a b same = same
 answered_across stop per_second t (Changed f) a b same = refl
@@ -92,14 +92,14 @@ time_across stop t o within same = time_off stop t o (sym same ∙ ap (λ b. if 
 
 -- ---- all timers
 
-any_across : (stop t : ℕ) (xs ys : List Timer) → t ≤ stop → Alike (up_to stop) xs ys → list_any (is_armed_for t) xs ≡ list_any (is_armed_for t) ys
+pub any_across : (stop t : ℕ) (xs ys : List Timer) → t ≤ stop → Alike (up_to stop) xs ys → list_any (is_armed_for t) xs ≡ list_any (is_armed_for t) ys
 any_across stop t [] [] within alike = refl
 any_across stop t (a ∷ xs) (b ∷ ys) within alike =
     ap (λ c. c || list_any (is_armed_for t) xs) (armed_across stop t a b within alike.0) ∙ ap (λ c. is_armed_for t b || c) (any_across stop t xs ys within alike.1)
 any_across stop t [] (b ∷ ys) within alike = absurd alike
 any_across stop t (a ∷ xs) [] within alike = absurd alike
 
-timer_across : (stop : ℕ) (xs ys : List Timer) (p : ℕ) → Alike (up_to stop) xs ys → up_to stop (timer_of xs p) ≡ up_to stop (timer_of ys p)
+pub timer_across : (stop : ℕ) (xs ys : List Timer) (p : ℕ) → Alike (up_to stop) xs ys → up_to stop (timer_of xs p) ≡ up_to stop (timer_of ys p)
 timer_across stop [] [] p alike = refl
 timer_across stop (a ∷ xs) (b ∷ ys) zero alike = alike.0
 timer_across stop (a ∷ xs) (b ∷ ys) (suc p) alike = timer_across stop xs ys p alike.1
@@ -118,7 +118,7 @@ mark_across r xs ys ds es point within alike times (AtEvent h) =
     AtEvent (h.0, at.is ∙ ap Some (time_across r.plan.stop point at.other within at.alike))
 mark_across r xs ys ds es point within alike times (OnStop e) = OnStop e
 
-bound_across : (r : Run) (xs ys : List Timer) (ds es : List (Option ℕ)) (t bound : ℕ) → t < r.plan.stop → Alike (up_to r.plan.stop) xs ys → Alike (time_up_to r.plan.stop) ds es → IsBound r.plan xs ds t bound → IsBound r.plan ys es t bound
+pub bound_across : (r : Run) (xs ys : List Timer) (ds es : List (Option ℕ)) (t bound : ℕ) → t < r.plan.stop → Alike (up_to r.plan.stop) xs ys → Alike (time_up_to r.plan.stop) ds es → IsBound r.plan xs ds t bound → IsBound r.plan ys es t bound
 bound_across r xs ys ds es t bound early alike times is =
     let top : bound ≤ r.plan.stop = is.least r.plan.stop early (OnStop refl) in
     record {

@@ -1,6 +1,12 @@
 -- Along a run no state is left saved, and each timer is one of its port's timing.
 use Rattle.std.proofs.Common.{◌≡◌, ℕ, suc, ℤ, Bool, true, false, List, [], ◌∷◌, refl, sym, ap, ◌∙◌, subst, arith, map, length}
-use Rattle.std.specs.Prelude.{Option, Some, None, if◌then◌else◌, slice_get, nat_le}
+use Rattle.std.specs.Prelude.{Option, Some, None, if◌then◌else◌, slice_get, nat_le, unwrap_or}
+use Rattle.std.specs.Option.{option_and_then}
+use Rattle.clock_fraction.specs.Counts.{counts_of}
+use Rattle.clock_fraction.specs.declared.fraction.Fraction.{Fraction}
+use Rattle.fmi_calls.specs.declared.call.Call.TheVariants as C
+use Rattle.fmi_calls.specs.declared.call.Interval.{Interval}
+use Rattle.fmi_calls.specs.declared.call.Interval.TheVariants.{NotYetKnown, Unchanged, Changed}
 use Rattle.fmu_peer.specs.Machine.{MachineState, Machine, after, kept}
 use Rattle.system_model.specs.declared.bound.BoundValue.{BoundValue}
 use Rattle.system_model.specs.declared.system.Component.{Component}
@@ -8,7 +14,9 @@ use Rattle.system_model.specs.declared.system.Role.{Role}
 use Rattle.system_model.specs.declared.system.Role.TheVariants.{Input, Output, ClockInput, ClockOutput, TimeClock}
 use Rattle.system_model.specs.declared.system.Timing.TheVariants.{Periodic, Answered, Countdown, Changing}
 use Rattle.system_model.specs.declared.system.Port.{Port}
-use Rattle.run_model.specs.Run.{Run, Situation, Timer, Never, Every, Once, each, each_from}
+use Rattle.system_model.specs.Values.{is_active, value}
+use Rattle.run_model.specs.Run.{Run, Situation, Timer, Never, Every, Once, at_fmu, each, each_from}
+use Rattle.run_model.specs.Timers.{answered, armed_after, fixed, periodic_of, rearmed}
 use Rattle.run_model.specs.Initial as I
 use Rattle.run_model.specs.AfterInstant as F
 use Rattle.run_model.specs.Stepping as P
@@ -92,10 +100,19 @@ put_out_kept (s ∷ ss) h = ap (λ x. x ∷ map S.put_out (map kept ss)) (ap (λ
 
 -- ---- timers
 
-abbrev IsTimerOf : Role → Timer → Type 0
-IsTimerOf (TimeClock Answered) timer = Unit {0}
-IsTimerOf (TimeClock Countdown) timer = Unit {0}
-IsTimerOf (TimeClock Changing) timer = Unit {0}
+-- it isn't armed, or has no interval
+abbrev pub IsUnarmed : Timer → Type 0
+IsUnarmed (Once point) = ⊥
+IsUnarmed timer = Unit {0}
+
+abbrev pub IsUnpaced : Timer → Type 0
+IsUnpaced (Every interval shift) = ⊥
+IsUnpaced timer = Unit {0}
+
+abbrev pub IsTimerOf : Role → Timer → Type 0
+IsTimerOf (TimeClock Answered) timer = IsUnarmed timer
+IsTimerOf (TimeClock Countdown) timer = IsUnpaced timer
+IsTimerOf (TimeClock Changing) timer = IsUnpaced timer
 IsTimerOf (TimeClock (Periodic interval shift)) timer = timer ≡ Every interval shift
 IsTimerOf (Input feed) timer = timer ≡ Never
 IsTimerOf Output timer = timer ≡ Never
@@ -108,10 +125,48 @@ AreTimersOf (port ∷ ports) (timer ∷ timers) = IsTimerOf port.role timer × A
 AreTimersOf [] (timer ∷ timers) = ⊥
 AreTimersOf (port ∷ ports) [] = ⊥
 
+-- what an answer makes of a timer
+after_unpaced : (point : ℕ) (counts : Option ℕ) → IsUnpaced (armed_after point counts)
+after_unpaced point None = tt
+after_unpaced point (Some counts) = tt
+
+periodic_unarmed : (interval shift : Option ℕ) → IsUnarmed (periodic_of interval shift)
+periodic_unarmed (Some interval) (Some shift) = tt
+periodic_unarmed (Some interval) None = tt
+periodic_unarmed None shift = tt
+
+fixed_unarmed : (per_second : ℕ) (interval : Interval) (shift : Fraction) → IsUnarmed (fixed per_second interval shift)
+fixed_unarmed per_second NotYetKnown shift = tt
+fixed_unarmed per_second (Unchanged f) shift = periodic_unarmed (counts_of f per_second) (counts_of shift per_second)
+fixed_unarmed per_second (Changed f) shift = periodic_unarmed (counts_of f per_second) (counts_of shift per_second)
+
+rearmed_unpaced : (per_second point : ℕ) (interval : Interval) → IsUnpaced (rearmed per_second point interval)
+rearmed_unpaced per_second point NotYetKnown = tt
+rearmed_unpaced per_second point (Unchanged f) = after_unpaced point (counts_of f per_second)
+rearmed_unpaced per_second point (Changed f) = after_unpaced point (counts_of f per_second)
+
+answered_unpaced : (per_second point : ℕ) (interval : Interval) (old : Timer) → IsUnpaced old → IsUnpaced (answered per_second point interval old)
+answered_unpaced per_second point NotYetKnown old h = tt
+answered_unpaced per_second point (Unchanged f) old h = h
+answered_unpaced per_second point (Changed f) old h = after_unpaced point (counts_of f per_second)
+
+unless_unpaced : (b : Bool) (new old : Timer) → IsUnpaced new → IsUnpaced old → IsUnpaced (if b then new else old)
+unless_unpaced true new old a b = a
+unless_unpaced false new old a b = b
+
+-- of a Clock whose FMU tells its timer, or is none
+told_timer : (P : Timer → Type 0) (r : Run) (states : List MachineState) (i : ℕ) (f : Machine → MachineState → Timer) → P Never → ((m : Machine) (s : MachineState) → P (f m s)) → P (unwrap_or (at_fmu r states i (λ c m s. Some (f m s))) Never)
+told_timer P r states i f none some = by (slice_get r.system.components i) (slice_get r.machines i) (slice_get states i) where
+  by : (c : Option Component) (m : Option Machine) (s : Option MachineState) → P (unwrap_or (option_and_then (λ c. option_and_then (λ m. option_and_then (λ s. Some (f m s)) s) m) c) Never)
+  by None m s = none
+  by (Some c) None s = none
+  by (Some c) (Some m) None = none
+  by (Some c) (Some m) (Some s) = some m s
+
 first_timer_of : (role : Role) (r : Run) (states : List MachineState) (port : Port) → IsTimerOf role (I.first_timer role r states port)
-first_timer_of (TimeClock Answered) r states port = tt
+first_timer_of (TimeClock Answered) r states port = told_timer IsUnarmed r states port.component.0 (λ m s. I.asked_timer r port m s) tt (λ m s. fixed_unarmed r.plan.resolution (I.interval_in (m.look s (C.GetInterval port.reference))) (I.shift_in (m.look s (C.GetShift port.reference))))
 first_timer_of (TimeClock Countdown) r states port = tt
-first_timer_of (TimeClock Changing) r states port = tt
+first_timer_of (TimeClock Changing) r states port = told_timer IsUnpaced r states port.component.0 (λ m s. I.shifted_timer r port m s) tt (λ m s. after_unpaced _ _)
 first_timer_of (TimeClock (Periodic interval shift)) r states port = refl
 first_timer_of (Input feed) r states port = refl
 first_timer_of Output r states port = refl
@@ -123,9 +178,10 @@ first_timers_of r states [] = tt
 first_timers_of r states (port ∷ ports) = (first_timer_of port.role r states port, first_timers_of r states ports)
 
 next_timer_of : (role : Role) (r : Run) (s : Situation) (V : List (Option ℤ)) (p : ℕ) (port : Port) (old : Timer) → IsTimerOf role old → IsTimerOf role (F.next_timer role r s V p port old)
-next_timer_of (TimeClock Answered) r s V p port old h = tt
-next_timer_of (TimeClock Countdown) r s V p port old h = tt
-next_timer_of (TimeClock Changing) r s V p port old h = tt
+next_timer_of (TimeClock Answered) r s V p port old h = h
+next_timer_of (TimeClock Countdown) r s V p port old h =
+    answered_unpaced r.plan.resolution s.t (F.asked_interval r s V port) (if is_active (value V p) then Never else old) (unless_unpaced (is_active (value V p)) Never old tt h)
+next_timer_of (TimeClock Changing) r s V p port old h = unless_unpaced (is_active (value V p)) (rearmed r.plan.resolution s.t (F.asked_interval r s V port)) old (rearmed_unpaced r.plan.resolution s.t (F.asked_interval r s V port)) h
 next_timer_of (TimeClock (Periodic interval shift)) r s V p port old h = h
 next_timer_of (Input feed) r s V p port old h = h
 next_timer_of Output r s V p port old h = h

@@ -1,3 +1,4 @@
+pub mod CallerLemmas
 mod Twins
 mod Parting
 mod Climbing

@@ -21,7 +21,7 @@ use Rattle.run_rest.proofs.Parting.{entered, rebased}
 use Rattle.run_rest.proofs.Climbing.{stays_within}
 use Rattle.run_rest.proofs.Alike.{EitherReached, continues_across, departs_across, with_timers}
 use Rattle.run_rest.proofs.Splitting.{comes_reached, joins, leads_of}
-use Rattle.run_rest.proofs.Keeping.{IsKeepable, empty_entering, keeps_reached, keeps_updated, put_out_kept, timers_kept, times_kept}
+use Rattle.run_rest.proofs.Keeping.{AreEmpty, IsKeepable, empty_entering, keeps_reached, keeps_updated, put_out_kept, timers_kept, times_kept}
 
 -- ---- with other timers
 
@@ -65,6 +65,10 @@ held_keepable {r} machines held =
 
 abbrev resumed_at : Run → Situation → Situation
 resumed_at r z = resumed r (snapshot_of r (at_step r z))
+
+-- no FMU has a state saved there
+pub empty_held : {r : Run} {front : List Instant} {z : Situation} → AreMachines r → Held r front z → AreEmpty (entering_step r z)
+empty_held {r} {front} {z} machines held = empty_entering r z (held_keepable machines held).empty
 
 -- the states are those that were kept
 same_states : {r : Run} {front : List Instant} {z : Situation} → AreMachines r → Held r front z → (resumed_at r z).states ≡ entering_step r z

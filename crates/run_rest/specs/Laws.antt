@@ -14,7 +14,7 @@ use Rattle.run_rest.specs.Rest.{Rest}
 use Rattle.run_rest.specs.Held.{Held, HeldAt}
 use Rattle.run_rest.specs.Snapshot.{resumed, snapshot_of}
 use Rattle.run_rest.specs.Packing.{IsReadBack, Packing, ReadsBack, packed, unpacked}
-use Rattle.run_rest.specs.Lasting.{LastsAt}
+use Rattle.run_rest.specs.Lasting.{AsksWithin, LastsAt}
 
 -- ---- a trace is its start and one rest
 
@@ -82,10 +82,10 @@ BytesReadBack =
     unpacked packings (packed packings (snapshot_of r (at_step r z)).states) ≡
     Some (snapshot_of r (at_step r z)).states
 
--- a packing that reads back each state that passes a test reads back an FMU's states in a run where that test lasts
+-- a packing that reads back each state that passes a test reads back an FMU's states in a run where that test lasts after Initialization Mode, and steps ask for points up to the stop
 abbrev pub LastingReadsBack : Type 0
 LastingReadsBack =
-    (r : Run) → IsSound r.system → AreMachines r → (i : ℕ) (packing : Packing)
-    (test : MachineState → Bool) → LastsAt r i test →
+    (r : Run) → IsSound r.system → AreMachines r → AsksWithin r → (i : ℕ) (packing : Packing)
+    (early test : MachineState → Bool) → LastsAt r i early test →
     ((s : MachineState) → test s ≡ true →
     packing.unpack (packing.pack (kept s)) ≡ Some (kept s)) → IsReadBack r i packing

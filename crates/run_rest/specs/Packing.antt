@@ -6,11 +6,7 @@ use Rattle.fmu_peer.specs.Machine.{MachineState, SavedMachine, kept}
 use Rattle.run_model.specs.Run.{Run, Situation}
 use Rattle.run_model.specs.Behaved.{Departed}
 use Rattle.run_rest.specs.Parted.{entering_step}
-
--- the bytes of a saved state, and the saved state that bytes are read back as, if they are one
-pub record Packing : Type 0 where
-  pub pack : SavedMachine → List ℕ
-  pub unpack : List ℕ → Option SavedMachine
+pub use Rattle.fmu_peer.specs.Machine.{Packing}
 
 -- the bytes of the saved states, each by the packing of its component
 abbrev pub packed : List Packing → List SavedMachine → List (List ℕ)

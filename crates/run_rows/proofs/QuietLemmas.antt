@@ -91,6 +91,8 @@ quiet_answers_well shape none s C.Restore many sent = refl
 quiet_answers_well shape none s C.Free many sent = refl
 quiet_answers_well shape none s C.Terminate many sent = absurd sent
 quiet_answers_well shape none s C.FreeInstance many sent = absurd sent
+quiet_answers_well shape none s C.Serialize many sent = absurd sent
+quiet_answers_well shape none s (C.Deserialize length point stop) many sent = absurd sent
 
 -- ---- the run
 

@@ -6,13 +6,15 @@ use Rattle.value_types.specs.Values.{word_of}
 use Rattle.value_types.specs.Shape.{is_declared, variable_at}
 use Rattle.value_types.specs.declared.shape.Variable.{Variable}
 use Rattle.value_types.specs.declared.shape.Shape.{Shape}
+use Rattle.fmi_calls.specs.declared.call.BadStatus.TheVariants.{Error}
 use Rattle.fmi_calls.specs.declared.call.Call.{Call}
 use Rattle.fmi_calls.specs.declared.call.Call.TheVariants as C
 use Rattle.fmi_calls.specs.declared.call.Content.{Content}
 use Rattle.fmi_calls.specs.declared.call.Content.TheVariants as A
 use Rattle.fmi_calls.specs.declared.call.Interval.{Interval}
 use Rattle.fmi_calls.specs.declared.call.Interval.TheVariants.{NotYetKnown, Unchanged, Changed}
-use Rattle.fmi_calls.specs.declared.call.Reply.TheVariants.{Done}
+use Rattle.fmi_calls.specs.declared.call.Kind.TheVariants as K
+use Rattle.fmi_calls.specs.declared.call.Reply.TheVariants.{Done, Refused}
 use Rattle.fmu_peer.specs.Machine.{Machine, mark_after}
 use Rattle.fmi_calls.specs.Permission.{is_input_clock}
 
@@ -45,6 +47,8 @@ plain C.Restore = A.Restore
 plain C.Free = A.Free
 plain C.Terminate = A.Terminate
 plain C.FreeInstance = A.FreeInstance
+plain C.Serialize = A.Serialize 0
+plain (C.Deserialize length point stop) = A.Deserialize
 
 -- what a machine says and does: by whether it is in Initialization Mode, its own numbers and its values
 pub record Behaviour : Type 0 where
@@ -52,7 +56,7 @@ pub record Behaviour : Type 0 where
   pub look : Bool → List ℤ → List ℤ → Call → Content
   pub change : List ℤ → List ℤ → Call → List ℤ
 
--- a machine of the shape: its values are start values at first, or 0
+-- a machine of the shape: its values are start values at first, or 0. It takes no state in from bytes
 abbrev pub machine_of : Shape → Behaviour → Machine
 machine_of shape b = record {
   references = map (λ (v : Variable). v.reference) shape.variables;
@@ -67,6 +71,8 @@ machine_of shape b = record {
       λ s call. Done false (b.look (int_eq (at s.numbers 0) (pos 1))
       (behind s.numbers) s.values call);
   change = λ s call. mark_after (at s.numbers 0) call ∷ b.change (behind s.numbers) s.values call;
+  packing = record { pack = λ kept. []; unpack = λ bytes. None };
+  look_at = λ s call bytes. Refused K.Deserialize Error;
 }
 
 -- what the output sees of the variable under a reference: its value where it is declared to depend on it, and else what was kept of it

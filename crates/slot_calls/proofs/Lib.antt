@@ -8,3 +8,6 @@ mod Moving
 mod Replying
 mod Parts
 mod Several
+mod Tokens
+mod Chains
+mod StatesAsBytes

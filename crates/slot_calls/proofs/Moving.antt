@@ -157,6 +157,8 @@ pub mode_keeps : (call : Call) → keeps_mode call ≡ true → keeps_state call
 mode_keeps C.Save mode = absurd (cc)
 mode_keeps C.Restore mode = absurd (cc)
 mode_keeps C.Free mode = absurd (cc)
+mode_keeps C.Serialize mode = absurd (cc)
+mode_keeps (C.Deserialize length point stop) mode = absurd (cc)
 mode_keeps call mode = refl
 
 -- a slot that is marked by its result, and has its token by the call, from the call to its peer
@@ -185,6 +187,7 @@ one_moved view old new call value r moves source saved keeps fatal =
 -- a good answer leaves a slot the token of a saved state exactly where the phase has one
 full_by : (shape : Shape) (p : Phase) (call : Call) (reply : Reply) → grade_of shape call reply ≡ G.Good → (entered shape (counted p call) call reply).slot.is_full ≡ saved_by shape call (Ok reply) p.slot.is_full
 full_by shape p C.Save reply good = sym (ap (λ (g : Grade). if_good g p.slot.is_full) good)
+full_by shape p (C.Deserialize length point stop) reply good = sym (ap (λ (g : Grade). if_good g p.slot.is_full) good)
 full_by shape p call reply good = refl
 
 pub live_on : {L T : Type 0} {g : _} (view : L → View) (old new : Slot L g) (call : Call) (value : Exchange → T) (r : Result T Why) → One call value (instance_in view old) (instance_in view new) r → LiveSlot view old → OnOk r (IsLive view new.held) →

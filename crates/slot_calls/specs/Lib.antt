@@ -5,3 +5,4 @@ pub mod Rounds
 pub mod Carried
 pub mod Slots
 pub mod Replies
+pub mod Keeping

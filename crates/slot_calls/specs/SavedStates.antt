@@ -1,5 +1,5 @@
 -- Which saved state is held, and whose a Free is: the run's or the closing's (FMI 3.0, 2.2.6: FMU state).
-use Rattle.std.specs.Prelude.{◌≡◌, ◌⊎◌, ℕ, Bool, true, false, List, [], ◌∷◌, ◌++◌, All, Option, Some, None, IfSome, Result, Ok}
+use Rattle.std.specs.Prelude.{◌≡◌, ◌⊎◌, ℕ, Bool, true, false, if◌then◌else◌, List, [], ◌∷◌, ◌++◌, All, Option, Some, None, IfSome, Result, Ok, Err}
 use Rattle.value_types.specs.declared.shape.Shape.{Shape}
 use Rattle.fmi_calls.specs.declared.call.Call.{Call}
 use Rattle.fmi_calls.specs.declared.call.Call.TheVariants as C
@@ -22,9 +22,11 @@ if_good Good saved = true
 if_good Refused saved = saved
 if_good Misreply saved = saved
 
--- whether a state is held after a call: a good Save gives one, and a Free spends it, whatever is answered
+-- whether a state is held after a call: a good Save gives one, and so does a good Deserialize; a Free spends it, whatever is answered
 abbrev pub saved_by : Shape → Call → Result Reply PeerFault → Bool → Bool
 saved_by shape C.Save (Ok reply) saved = if_good (grade_of shape C.Save reply) saved
+saved_by shape (C.Deserialize length point stop) (Ok reply) saved =
+    if_good (grade_of shape (C.Deserialize length point stop) reply) saved
 saved_by shape C.Free result saved = false
 saved_by shape call result saved = saved
 
@@ -60,15 +62,34 @@ AgreeAtLast talks =
     (m : ℕ) × All (λ (t : Talk). IfSome (last_step None t.exchanges)
     (λ e. IsGood t.shape e × EndsAt m e.result)) talks
 
--- the talk has a DoStep after its last Save
+-- the talk has a DoStep after its last Save or Deserialize
 abbrev pub steps : Call → Bool → Bool
 steps (C.DoStep at size) stepped = true
 steps C.Save stepped = false
+steps (C.Deserialize length point stop) stepped = false
 steps call stepped = stepped
 
 abbrev pub has_stepped : Bool → List Exchange → Bool
 has_stepped stepped [] = stepped
 has_stepped stepped (e ∷ es) = has_stepped (steps e.call stepped) es
+
+-- and the state that is saved has served: it was serialized, or gone back to before any DoStep, well
+abbrev pub is_good : Shape → Call → Result Reply PeerFault → Bool
+is_good shape call (Ok reply) = if_good (grade_of shape call reply) false
+is_good shape call (Err fault) = false
+
+abbrev pub serves : Shape → Call → Result Reply PeerFault → (stepped served : Bool) → Bool
+serves shape C.Save result stepped served = false
+serves shape (C.Deserialize length point stop) result stepped served = false
+serves shape C.Serialize result stepped served = is_good shape C.Serialize result
+serves shape C.Restore result stepped served =
+    if stepped then served else is_good shape C.Restore result
+serves shape call result stepped served = served
+
+abbrev pub has_served : Shape → (stepped served : Bool) → List Exchange → Bool
+has_served shape stepped served [] = served
+has_served shape stepped served (e ∷ es) =
+    has_served shape (steps e.call stepped) (serves shape e.call e.result stepped served) es
 
 -- the calls that end an instance
 abbrev pub IsEnding : Call → Type 0
@@ -76,32 +97,34 @@ IsEnding C.Terminate = Unit {0}
 IsEnding C.FreeInstance = Unit {0}
 IsEnding call = ⊥
 
--- among these talks a call is one of the closing: one that ends its instance, or a Free before such ones alone, where the last DoSteps of all weren't good with one end, or its own talk has no DoStep after its last Save. It comes after the first part of its talk and before the rest. All other calls are the run's
-abbrev pub IsOfClosing : List Talk → List Exchange → Call → List Exchange → Type 0
-IsOfClosing talks front C.Free rest =
-    All (λ (e : Exchange). IsEnding e.call) rest ×
+-- among these talks a call is one of the closing: one that ends its instance, or a Free before such ones alone, where the saved state hasn't served, and the last DoSteps of all weren't good with one end or its own talk has no DoStep after its last Save. It comes after the first part of its talk, with an instance of this shape, and before the rest. All other calls are the run's
+abbrev pub IsOfClosing : List Talk → Shape → List Exchange → Call → List Exchange → Type 0
+IsOfClosing talks shape front C.Free rest =
+    All (λ (e : Exchange). IsEnding e.call) rest × (has_served shape false false front ≡ false) ×
     ((AgreeAtLast talks → ⊥) ⊎ (has_stepped false front ≡ false))
-IsOfClosing talks front call rest = IsEnding call
+IsOfClosing talks shape front call rest = IsEnding call
 
 -- ---- whose a Free is, by its place
 
 -- each call of the first part of a talk is the run's by the talks of all, and each of the second the closing's
-pub record IsParted (talks : List Talk) (run closing : List Exchange) : Type 0 where
+pub record IsParted (talks : List Talk) (shape : Shape) (run closing : List Exchange) : Type 0 where
   pub of_run : (front rest : List Exchange) (e : Exchange) → run ≡ front ++ e ∷ rest →
-      IsOfClosing talks front e.call (rest ++ closing) → ⊥
+      IsOfClosing talks shape front e.call (rest ++ closing) → ⊥
   pub of_closing : (front rest : List Exchange) (e : Exchange) → closing ≡ front ++ e ∷ rest →
-      IsOfClosing talks (run ++ front) e.call rest
+      IsOfClosing talks shape (run ++ front) e.call rest
 
 -- the answer to a Free keeps the state: the talk ends with it
 pub record IsGivenUp (e : Exchange) : Type 0 where
   pub frees : e.call ≡ C.Free
   pub discarded : e.result ≡ Ok (R.Refused K.Free Discard)
 
--- how the run's part of a talk, among those of all, leaves the state that was saved: it is still held only where the steps of all haven't come to one point, and a run that ends with a Free has come there; nothing follows a Free that was answered by Discard
+-- how the run's part of a talk, among those of all, leaves the state that was saved: it is still held only where it hasn't served and the steps of all haven't come to one point, and a run that ends with a Free has come there, or the state has served; nothing follows a Free that was answered by Discard
 pub record LeavesState (talks : List Talk) (shape : Shape) (run : List Exchange) : Type 0 where
   pub held : saved_after shape false run ≡ true →
-      (AgreeAtLast talks → ⊥) ⊎ (has_stepped false run ≡ false)
+      (has_served shape false false run ≡ false) ×
+      ((AgreeAtLast talks → ⊥) ⊎ (has_stepped false run ≡ false))
   pub freed : (front : List Exchange) (e : Exchange) → run ≡ front ++ e ∷ [] → e.call ≡ C.Free →
-      AgreeAtLast talks × (has_stepped false front ≡ true)
+      (has_served shape false false front ≡ true) ⊎
+      (AgreeAtLast talks × (has_stepped false front ≡ true))
   pub last : (front rest : List Exchange) (e : Exchange) → run ≡ front ++ e ∷ rest →
       IsGivenUp e → rest ≡ []

@@ -22,8 +22,8 @@ use Rattle.fmi_calls.specs.declared.call.BadStatus.{BadStatus}
 use Rattle.fmi_calls.specs.declared.call.Grade.{Grade}
 use Rattle.fmi_calls.specs.declared.phase.InstanceState.{InstanceState}
 use Rattle.fmi_calls.specs.Kinds.{bad_status_of}
-use Rattle.fmi_calls.specs.Next.{counted, fresh, graded, next_of, state_after_bad, entered}
-use Rattle.fmi_calls.specs.Permission.{Permitted, can_be_freed, can_be_read, can_be_set, can_be_ticked, has_interval, has_shift, is_input_clock, is_output_clock, is_running}
+use Rattle.fmi_calls.specs.Next.{counted, fresh, graded, next_of, restored_state, state_after_bad, entered}
+use Rattle.fmi_calls.specs.Permission.{Permitted, can_go_back, can_be_freed, can_be_read, can_be_set, can_be_ticked, has_interval, has_shift, is_input_clock, is_output_clock, is_running}
 use Rattle.fmi_calls.specs.Worth.{grade_of, is_valid}
 use Rattle.fmu_peer.proofs.CallerLemmas.{phase_from-append}
 use Rattle.fmi_calls.specs.declared.call.Kind.{Kind}
@@ -32,6 +32,7 @@ use Rattle.fmu_peer.specs.CloseAll.{Instance, IsLeft, Stands}
 use Rattle.fmu_peer.specs.Mode.{is_over}
 use Rattle.slot_calls.specs.SavedStates.{IsGivenUp, if_good, saved_after, saved_by}
 use Rattle.slot_calls.proofs.CallerLemmas.{talks_fixed}
+use Rattle.course_laws.specs.Laws.{GoesWith}
 use Rattle.fmi_calls.specs.declared.call.BadStatus.TheVariants as B
 use Rattle.fmi_calls.specs.declared.call.Call.TheVariants as C
 use Rattle.fmi_calls.specs.declared.call.Grade.TheVariants as G
@@ -163,6 +164,9 @@ makes shape phase (C.GetClock reference) un p = absurd (unpassed (λ s. can_be_t
 makes shape phase (C.SetClock reference) un p = absurd (unpassed (λ s. can_be_ticked is_input_clock s shape phase.marks reference) phase.state un refl refl refl p)
 makes shape phase (C.GetInterval reference) un p = absurd (unpassed (λ s. has_interval s shape phase.active reference) phase.state un refl refl refl p)
 makes shape phase (C.GetShift reference) un p = absurd (unpassed (λ s. has_shift s shape reference) phase.state un refl refl refl p)
+makes shape phase C.Restore un p = absurd (unpassed can_go_back phase.state un refl refl refl p.0)
+makes shape phase C.Free un p = absurd (unpassed can_go_back phase.state un refl refl refl p.0)
+makes shape phase (C.Deserialize length point stop) un p = absurd (elsewhere phase.state P.Instantiated un p.0 (λ e. cc) (λ e. cc) (λ e. cc))
 makes shape phase call un p = absurd (elsewhere phase.state P.Step un p.0 (λ e. cc) (λ e. cc) (λ e. cc))
 
 pub only_start : (shape : Shape) (call : Call) → Permitted shape (fresh shape) call → (event_mode early_return batches : Bool) × (call ≡ C.Instantiate event_mode early_return batches)
@@ -264,13 +268,32 @@ module _ (life : Life) (is : IsLife life) where
 abbrev IsStanding : InstanceState → Type 0
 IsStanding s = (s ≡ P.Lost) ⊎ (can_be_freed s false ≡ true)
 
--- a state that it keeps may be freed, or it is dead or lost
-abbrev IsKept : Shape → InstanceState → Bool → Type 0
-IsKept shape s saved = (is_over s ≡ true) ⊎ ((saved ≡ true) × (s ≡ P.Step) × (shape.can_save_state ≡ true))
+-- in Step Mode, or before Initialization Mode where the run is resumed
+abbrev IsPlaceToFree : Bool → InstanceState → Type 0
+IsPlaceToFree resumed s = (s ≡ P.Step) ⊎ ((s ≡ P.Instantiated) × (resumed ≡ true))
 
-record IsClosable (shape : Shape) (p : Phase) (saved : Bool) : Type 0 where
+place_back : (resumed : Bool) (s : InstanceState) → IsPlaceToFree resumed s → can_go_back s ≡ true
+place_back resumed s (inl at) = ap can_go_back at
+place_back resumed s (inr at) = ap can_go_back at.0
+
+-- a Restore leads into Step Mode
+back_state : (s : InstanceState) → can_go_back s ≡ true → restored_state s ≡ P.Step
+back_state P.Instantiated is = refl
+back_state P.Step is = refl
+back_state s is = absurd (cc)
+
+never_over : (s : InstanceState) → can_go_back s ≡ true → is_over s ≡ true → ⊥
+never_over P.Instantiated is over = cc
+never_over P.Step is over = cc
+never_over s is over = absurd (cc)
+
+-- a state that it keeps may be freed, or it is dead or lost
+abbrev IsKept : Bool → Shape → InstanceState → Bool → Type 0
+IsKept resumed shape s saved = (is_over s ≡ true) ⊎ ((saved ≡ true) × IsPlaceToFree resumed s × (shape.can_save_state ≡ true))
+
+record IsClosable (resumed : Bool) (shape : Shape) (p : Phase) (saved : Bool) : Type 0 where
   state : IsStanding p.state
-  kept : p.slot.is_full ≡ true → IsKept shape p.state saved
+  kept : p.slot.is_full ≡ true → IsKept resumed shape p.state saved
 
 -- a call of the run after the first
 abbrev IsMid : Call → Type 0
@@ -312,45 +335,60 @@ discarded : (shape : Shape) (reply : Reply) → grade_of shape C.Free reply ≡ 
 discarded shape (R.Done is_warning content) grade status = absurd (never_refused (is_valid shape C.Free content) grade)
 discarded shape (R.Refused kind status) grade is = ap₂ R.Refused (free_kind kind (when_refused (same_kind kind K.Free) grade)) is
 
-module _ (shape : Shape) (p : Phase) (saved : Bool) (h : IsClosable shape p saved) where
+module _ (resumed : Bool) (shape : Shape) (can : shape.can_serialize_state ≡ true → shape.can_save_state ≡ true) (p : Phase) (saved : Bool) (h : IsClosable resumed shape p saved) where
   -- in another state than Step Mode it keeps none
-  none_in : (s : InstanceState) → p.state ≡ s → is_over s ≡ false → (s ≡ P.Step → ⊥) → p.slot.is_full ≡ true → ⊥
-  none_in s at living other full = elim (h.kept full) [ inl over ↦ both_ways _ living (ap is_over (sym at) ∙ over) | inr kept ↦ other (sym at ∙ kept.1) ]
+  none_in : (s : InstanceState) → p.state ≡ s → is_over s ≡ false → (IsPlaceToFree resumed s → ⊥) → p.slot.is_full ≡ true → ⊥
+  none_in s at living other full = elim (h.kept full) [ inl over ↦ both_ways _ living (ap is_over (sym at) ∙ over) | inr kept ↦ other (subst (IsPlaceToFree resumed) at kept.1) ]
 
-  good_closable : (call : Call) (reply : Reply) → grade_of shape call reply ≡ G.Good → IsMid call → Permitted shape p call → IsClosable shape (entered shape (counted p call) call reply) (saved_by shape call (Ok reply) saved)
-  good_closable (C.Instantiate event_mode early_return batches) reply good m may = absurd m
-  good_closable (C.EnterInitialization start stop) reply good m may = record { state = inr refl; kept = λ full. absurd (none_in P.Instantiated may.0 refl (λ e. cc) full) }
-  good_closable C.ExitInitialization reply good m may = record { state = inr (running_freed shape.has_event_mode); kept = λ full. absurd (none_in P.Initialization may refl (λ e. cc) full) } where
-    running_freed : (b : Bool) → can_be_freed (if b then P.Event else P.Step) false ≡ true
-    running_freed true = refl
-    running_freed false = refl
-  good_closable C.EnterEvent reply good m may = record { state = inr refl; kept = λ full. absurd (both_ways _ may.2 full) }
-  good_closable C.EnterStep reply good m may = record { state = inr refl; kept = λ full. absurd (none_in P.Event may.0 refl (λ e. cc) full) }
-  good_closable C.Save reply good m may = record { state = h.state; kept = λ full. inr (ap (λ (g : Grade). if_good g saved) good, may.0, may.1) }
-  good_closable C.Free reply good m may = record { state = h.state; kept = λ full. absurd (cc) }
-  good_closable C.Terminate reply good m may = absurd m
-  good_closable C.FreeInstance reply good m may = absurd m
-  good_closable call reply good m may = record { state = h.state; kept = h.kept }
+  no_place : (s : InstanceState) → (s ≡ P.Step → ⊥) → (s ≡ P.Instantiated → resumed ≡ true → ⊥) → IsPlaceToFree resumed s → ⊥
+  no_place s step made (inl at) = step at
+  no_place s step made (inr at) = made at.0 at.1
+
+  good_closable : (call : Call) (reply : Reply) → grade_of shape call reply ≡ G.Good → IsMid call → GoesWith resumed call → Permitted shape p call → IsClosable resumed shape (entered shape (counted p call) call reply) (saved_by shape call (Ok reply) saved)
+  good_closable (C.Instantiate event_mode early_return batches) reply good m goes may = absurd m
+  good_closable (C.EnterInitialization start stop) reply good m goes may =
+      record { state = inr refl; kept = λ full. absurd (none_in P.Instantiated may.0 refl (no_place P.Instantiated (λ e. cc) (λ e is. both_ways _ goes is)) full) }
+  good_closable C.ExitInitialization reply good m goes may =
+      record { state = inr (running_freed shape.has_event_mode); kept = λ full. absurd (none_in P.Initialization may refl (no_place P.Initialization (λ e. cc) (λ e is. cc)) full) } where
+        running_freed : (b : Bool) → can_be_freed (if b then P.Event else P.Step) false ≡ true
+        running_freed true = refl
+        running_freed false = refl
+  good_closable C.EnterEvent reply good m goes may = record { state = inr refl; kept = λ full. absurd (both_ways _ may.2 full) }
+  good_closable C.EnterStep reply good m goes may = record { state = inr refl; kept = λ full. absurd (none_in P.Event may.0 refl (no_place P.Event (λ e. cc) (λ e is. cc)) full) }
+  good_closable C.Save reply good m goes may = record { state = h.state; kept = λ full. inr (ap (λ (g : Grade). if_good g saved) good, inl may.0, may.1) }
+  good_closable C.Restore reply good m goes may = record {
+    state = inr (ap (λ (s : InstanceState). can_be_freed s false) (back_state p.state may.0));
+    kept = λ full. elim (h.kept may.2) [
+      | inl over ↦ absurd (never_over p.state may.0 over)
+      | inr kept ↦ inr (kept.0, inl (back_state p.state may.0), may.1)
+    ];
+  }
+  good_closable (C.Deserialize length point stop) reply good m goes may = record { state = h.state; kept = λ full. inr (ap (λ (g : Grade). if_good g saved) good, inr (may.0, goes), can may.1) }
+  good_closable C.Free reply good m goes may = record { state = h.state; kept = λ full. absurd (cc) }
+  good_closable C.Terminate reply good m goes may = absurd m
+  good_closable C.FreeInstance reply good m goes may = absurd m
+  good_closable call reply good m goes may = record { state = h.state; kept = h.kept }
 
   -- or it was given up by a Free
   abbrev Behind : Call → Result Reply PeerFault → Type 0
-  Behind call result = IsClosable shape (next_of shape p call (result_ok result)) (saved_by shape call result saved)
+  Behind call result = IsClosable resumed shape (next_of shape p call (result_ok result)) (saved_by shape call result saved)
       ⊎ (IsGivenUp (record { call = call; result = result }) × IsStanding (next_of shape p call (result_ok result)).state)
 
   module _ (call : Call) (m : IsMid call) where
     unsaved : (call : Call) (reply : Reply) → grade_of shape call reply ≡ G.Refused → (call ≡ C.Free → ⊥) → saved_by shape call (Ok reply) saved ≡ saved
     unsaved C.Save reply refused other = ap (λ (g : Grade). if_good g saved) refused
     unsaved C.Free reply g other = absurd (other refl)
+    unsaved (C.Deserialize length point stop) reply refused other = ap (λ (g : Grade). if_good g saved) refused
     unsaved call reply g other = refl
 
-    dead : (q : Phase) (other : Bool) → q.state ≡ P.Dead → IsClosable shape q other
+    dead : (q : Phase) (other : Bool) → q.state ≡ P.Dead → IsClosable resumed shape q other
     dead q other at = record { state = inr (ap (λ (s : InstanceState). can_be_freed s false) at); kept = λ full. inl (ap is_over at) }
 
-    lost : (q : Phase) (other : Bool) → q.state ≡ P.Lost → IsClosable shape q other
+    lost : (q : Phase) (other : Bool) → q.state ≡ P.Lost → IsClosable resumed shape q other
     lost q other at = record { state = inl at; kept = λ full. inl (ap is_over at) }
 
     refused : (reply : Reply) (status : BadStatus) → bad_status_of reply ≡ status → grade_of shape call reply ≡ G.Refused →
-        IsClosable shape (graded shape (counted p call) call reply G.Refused) (saved_by shape call (Ok reply) saved)
+        IsClosable resumed shape (graded shape (counted p call) call reply G.Refused) (saved_by shape call (Ok reply) saved)
         ⊎ (IsGivenUp (record { call = call; result = Ok reply }) × IsStanding (graded shape (counted p call) call reply G.Refused).state)
     refused reply B.Error is g = inl (dead _ _ (ap (state_after_bad p.state call) is ∙ after_mid p.state call B.Error m))
     refused reply B.Fatal is g = inl (lost _ _ (ap (state_after_bad p.state call) is ∙ after_mid p.state call B.Fatal m))
@@ -367,27 +405,27 @@ module _ (shape : Shape) (p : Phase) (saved : Bool) (h : IsClosable shape p save
           )
           | inr other ↦ inl (record {
             state = standing;
-            kept = λ full. subst (λ (s : InstanceState). IsKept shape s (saved_by shape call (Ok reply) saved)) (sym at) (subst (IsKept shape p.state) (sym (unsaved call reply g other)) (h.kept full));
+            kept = λ full. subst (λ (s : InstanceState). IsKept resumed shape s (saved_by shape call (Ok reply) saved)) (sym at) (subst (IsKept resumed shape p.state) (sym (unsaved call reply g other)) (h.kept full));
           })
         ]
 
-    by_grade : (reply : Reply) (g : Grade) → grade_of shape call reply ≡ g → Permitted shape p call →
-        IsClosable shape (graded shape (counted p call) call reply g) (saved_by shape call (Ok reply) saved)
+    by_grade : (reply : Reply) (g : Grade) → grade_of shape call reply ≡ g → GoesWith resumed call → Permitted shape p call →
+        IsClosable resumed shape (graded shape (counted p call) call reply g) (saved_by shape call (Ok reply) saved)
         ⊎ (IsGivenUp (record { call = call; result = Ok reply }) × IsStanding (graded shape (counted p call) call reply g).state)
-    by_grade reply G.Good is may = inl (good_closable call reply is m may)
-    by_grade reply G.Refused is may = refused reply (bad_status_of reply) refl is
-    by_grade reply G.Misreply is may = inl (dead _ _ (after_mid p.state call B.Error m))
+    by_grade reply G.Good is goes may = inl (good_closable call reply is m goes may)
+    by_grade reply G.Refused is goes may = refused reply (bad_status_of reply) refl is
+    by_grade reply G.Misreply is goes may = inl (dead _ _ (after_mid p.state call B.Error m))
 
-    next_closable : (result : Result Reply PeerFault) → Permitted shape p call → Behind call result
-    next_closable (Err fault) may = inl (lost _ _ refl)
-    next_closable (Ok reply) may = by_grade reply (grade_of shape call reply) refl may
+    next_closable : (result : Result Reply PeerFault) → GoesWith resumed call → Permitted shape p call → Behind call result
+    next_closable (Err fault) goes may = inl (lost _ _ refl)
+    next_closable (Ok reply) goes may = by_grade reply (grade_of shape call reply) refl goes may
 
 -- ---- after a list of exchanges
 
 -- so it stands there
-record Left (shape : Shape) (p : Phase) (saved : Bool) (talk : List Exchange) : Type 0 where
+record Left (resumed : Bool) (shape : Shape) (p : Phase) (saved : Bool) (talk : List Exchange) : Type 0 where
   state : IsStanding p.state
-  kept : p.slot.is_full ≡ true → IsKept shape p.state saved ⊎ ((saved ≡ false) × EndsKeeping talk)
+  kept : p.slot.is_full ≡ true → IsKept resumed shape p.state saved ⊎ ((saved ≡ false) × EndsKeeping talk)
 
 -- nothing follows a state that was given up
 abbrev IsLastGivenUp : List Exchange → Type 0
@@ -396,14 +434,17 @@ IsLastGivenUp es = (front rest : List Exchange) (e : Exchange) → es ≡ front 
 last_later : (e : Exchange) (es : List Exchange) → IsLastGivenUp (e ∷ es) → IsLastGivenUp es
 last_later e es last front rest x is = last (e ∷ front) rest x (ap (λ (l : List Exchange). e ∷ l) is)
 
-module _ (shape : Shape) where
-  one_more : (p : Phase) (saved : Bool) (e : Exchange) (es : List Exchange) → Left shape p saved es → Left shape p saved (e ∷ es)
+abbrev LeavesSo : Bool → Shape → List Exchange → Phase → Bool → Type 0
+LeavesSo resumed shape talk p saved = (talk ≡ []) ⊎ (StartsBadly shape talk ⊎ Left resumed shape p saved talk)
+
+module _ (resumed : Bool) (shape : Shape) (can : shape.can_serialize_state ≡ true → shape.can_save_state ≡ true) where
+  one_more : (p : Phase) (saved : Bool) (e : Exchange) (es : List Exchange) → Left resumed shape p saved es → Left resumed shape p saved (e ∷ es)
   one_more p saved e es l = record { state = l.state; kept = λ full. by (l.kept full) } where
-    by : IsKept shape p.state saved ⊎ ((saved ≡ false) × EndsKeeping es) → IsKept shape p.state saved ⊎ ((saved ≡ false) × EndsKeeping (e ∷ es))
+    by : IsKept resumed shape p.state saved ⊎ ((saved ≡ false) × EndsKeeping es) → IsKept resumed shape p.state saved ⊎ ((saved ≡ false) × EndsKeeping (e ∷ es))
     by (inl kept) = inl kept
     by (inr (none, k)) = inr (none, record { front = e ∷ k.front; last = k.last; is = ap (λ (l : List Exchange). e ∷ l) k.is; frees = k.frees; discarded = k.discarded })
 
-  given_up : (q : Phase) (saved : Bool) (e : Exchange) → IsGivenUp e → IsStanding q.state → Left shape q (saved_by shape e.call e.result saved) (e ∷ [])
+  given_up : (q : Phase) (saved : Bool) (e : Exchange) → IsGivenUp e → IsStanding q.state → Left resumed shape q (saved_by shape e.call e.result saved) (e ∷ [])
   given_up q saved e g standing = record {
     state = standing;
     kept = λ full. inr (
@@ -412,15 +453,15 @@ module _ (shape : Shape) where
     );
   }
 
-  left_from : (p : Phase) (saved : Bool) (es : List Exchange) → LegalFrom shape p es → All IsRunCall (calls_in es) → IsLastGivenUp es → IsClosable shape p saved → Left shape (phase_from shape p es) (saved_after shape saved es) es
-  left_from p saved [] legal runs last h = record { state = h.state; kept = λ full. inl (h.kept full) }
-  left_from p saved (e ∷ es) legal runs last h =
+  left_from : (p : Phase) (saved : Bool) (es : List Exchange) → LegalFrom shape p es → All IsRunCall (calls_in es) → All (GoesWith resumed) (calls_in es) → IsLastGivenUp es → IsClosable resumed shape p saved → Left resumed shape (phase_from shape p es) (saved_after shape saved es) es
+  left_from p saved [] legal runs goes last h = record { state = h.state; kept = λ full. inl (h.kept full) }
+  left_from p saved (e ∷ es) legal runs goes last h =
       let m = mid_of shape p e.call (All-head IsRunCall e.call (calls_in es) runs) legal.0 h.state in
       let next = next_by shape p e in
       let held = saved_by shape e.call e.result saved in
-      elim (next_closable shape p saved h e.call m e.result legal.0) [
-        | inl closable ↦ one_more _ _ e es (left_from next held es legal.1 (All-tail IsRunCall e.call (calls_in es) runs) (last_later e es last) closable)
-        | inr given ↦ subst (λ (l : List Exchange). Left shape (phase_from shape next l) (saved_after shape held l) (e ∷ l)) (sym (last [] es e refl given.0)) (given_up next saved e given.0 given.1)
+      elim (next_closable resumed shape can p saved h e.call m e.result (All-head (GoesWith resumed) e.call (calls_in es) goes) legal.0) [
+        | inl closable ↦ one_more _ _ e es (left_from next held es legal.1 (All-tail IsRunCall e.call (calls_in es) runs) (All-tail (GoesWith resumed) e.call (calls_in es) goes) (last_later e es last) closable)
+        | inr given ↦ subst (λ (l : List Exchange). Left resumed shape (phase_from shape next l) (saved_after shape held l) (e ∷ l)) (sym (last [] es e refl given.0)) (given_up next saved e given.0 given.1)
       ]
 
   good_or_not : (g : Grade) → (g ≡ G.Good) ⊎ (g ≡ G.Good → ⊥)
@@ -428,52 +469,49 @@ module _ (shape : Shape) where
   good_or_not g = inr (λ h. absurd (cc))
 
   -- an Instantiate that is good makes it
-  made : (a b d : Bool) (result : Result Reply PeerFault) → (IsClosable shape (next_of shape (fresh shape) (C.Instantiate a b d) (result_ok result)) false)
+  made : (a b d : Bool) (result : Result Reply PeerFault) → (IsClosable resumed shape (next_of shape (fresh shape) (C.Instantiate a b d) (result_ok result)) false)
       ⊎ (IsGood shape (record { call = C.Instantiate a b d; result = result }) → ⊥)
   made a b d (Err fault) = inr (λ h. h)
   made a b d (Ok reply) = elim (good_or_not (grade_of shape (C.Instantiate a b d) reply)) [
-    | inl good ↦ inl (subst (λ (g : Grade). IsClosable shape (graded shape (counted (fresh shape) (C.Instantiate a b d)) (C.Instantiate a b d) reply g) false) (sym good) (record { state = inr refl; kept = λ full. absurd (cc) }))
+    | inl good ↦ inl (subst (λ (g : Grade). IsClosable resumed shape (graded shape (counted (fresh shape) (C.Instantiate a b d)) (C.Instantiate a b d) reply g) false) (sym good) (record { state = inr refl; kept = λ full. absurd (cc) }))
     | inr bad ↦ inr bad
   ]
 
-  abbrev Leaves : List Exchange → Phase → Bool → Type 0
-  Leaves talk p saved = (talk ≡ []) ⊎ (StartsBadly shape talk ⊎ Left shape p saved talk)
-
-  leaves : (es : List Exchange) → LegalFrom shape (fresh shape) es → All IsRunCall (calls_in es) → IsLastGivenUp es → Leaves es (phase_from shape (fresh shape) es) (saved_after shape false es)
-  leaves [] legal runs last = inl refl
-  leaves (e ∷ es) legal runs last = inr (by e.call (only_start shape e.call legal.0) refl) where
-    by : (call : Call) → ((a : Bool) × (b : Bool) × (d : Bool) × (call ≡ C.Instantiate a b d)) → e.call ≡ call → StartsBadly shape (e ∷ es) ⊎ Left shape (phase_from shape (fresh shape) (e ∷ es)) (saved_after shape false (e ∷ es)) (e ∷ es)
+  leaves : (es : List Exchange) → LegalFrom shape (fresh shape) es → All IsRunCall (calls_in es) → All (GoesWith resumed) (calls_in es) → IsLastGivenUp es → LeavesSo resumed shape es (phase_from shape (fresh shape) es) (saved_after shape false es)
+  leaves [] legal runs goes last = inl refl
+  leaves (e ∷ es) legal runs goes last = inr (by e.call (only_start shape e.call legal.0) refl) where
+    by : (call : Call) → ((a : Bool) × (b : Bool) × (d : Bool) × (call ≡ C.Instantiate a b d)) → e.call ≡ call → StartsBadly shape (e ∷ es) ⊎ Left resumed shape (phase_from shape (fresh shape) (e ∷ es)) (saved_after shape false (e ∷ es)) (e ∷ es)
     by call (a, b, d, is) same =
         let start : e.call ≡ C.Instantiate a b d = same ∙ is in
         elim (made a b d e.result) [
-          | inl closable ↦ inr (one_more _ _ e es (left_from (next_by shape (fresh shape) e) (saved_by shape e.call e.result false) es legal.1 (All-tail IsRunCall e.call (calls_in es) runs) (last_later e es last)
-              (subst (λ (c : Call). IsClosable shape (next_of shape (fresh shape) c (result_ok e.result)) (saved_by shape c e.result false)) (sym start) closable)))
+          | inl closable ↦ inr (one_more _ _ e es (left_from (next_by shape (fresh shape) e) (saved_by shape e.call e.result false) es legal.1 (All-tail IsRunCall e.call (calls_in es) runs) (All-tail (GoesWith resumed) e.call (calls_in es) goes) (last_later e es last)
+              (subst (λ (c : Call). IsClosable resumed shape (next_of shape (fresh shape) c (result_ok e.result)) (saved_by shape c e.result false)) (sym start) closable)))
           | inr bad ↦ inl (record { first = e; rest = es; is = refl; bad = subst (λ (c : Call). IsGood shape (record { call = c; result = e.result }) → ⊥) (sym start) bad })
         ]
 
 -- an instance that was new stands so after calls of a run
-pub leaves_one : (x : Instance) (es : List Exchange) (y : Instance) → x.view.phase ≡ fresh x.view.fixed.shape → x.has_saved ≡ false → Has x es y → All IsRunCall (calls_in es) → IsLastGivenUp es → IsLeft y es
-leaves_one x es y new none h runs last =
+pub leaves_one : (resumed : Bool) (x : Instance) (es : List Exchange) (y : Instance) → x.view.phase ≡ fresh x.view.fixed.shape → x.has_saved ≡ false → Has x es y → (x.view.fixed.shape.can_serialize_state ≡ true → x.view.fixed.shape.can_save_state ≡ true) → All IsRunCall (calls_in es) → All (GoesWith resumed) (calls_in es) → IsLastGivenUp es → IsLeft y es
+leaves_one resumed x es y new none h can runs goes last =
     let shape_is : y.view.fixed.shape ≡ x.view.fixed.shape = ap (λ (f : Fixed). f.shape) (talks_fixed x.view es y.view h.talks) in
     let phase_is : y.view.phase ≡ phase_from x.view.fixed.shape (fresh x.view.fixed.shape) es = talks_phase x.view es y.view h.talks ∙ ap (λ (p : Phase). phase_from x.view.fixed.shape p es) new in
     let saved_is : y.has_saved ≡ saved_after x.view.fixed.shape false es = h.saved ∙ ap (λ (b : Bool). saved_after x.view.fixed.shape b es) none in
     let legal = subst (λ (p : Phase). LegalFrom x.view.fixed.shape p es) new (talks_legal x.view es y.view h.talks) in
-    let all : Leaves y.view.fixed.shape es y.view.phase y.has_saved =
-    subst (λ (s : Shape). Leaves s es y.view.phase y.has_saved) (sym shape_is)
-    (subst (λ (p : Phase). Leaves x.view.fixed.shape es p y.has_saved) (sym phase_is) (subst (Leaves x.view.fixed.shape es (phase_from x.view.fixed.shape (fresh x.view.fixed.shape) es)) (sym saved_is) (leaves x.view.fixed.shape es legal runs last))) in
+    let all : LeavesSo resumed y.view.fixed.shape es y.view.phase y.has_saved =
+    subst (λ (s : Shape). LeavesSo resumed s es y.view.phase y.has_saved) (sym shape_is)
+    (subst (λ (p : Phase). LeavesSo resumed x.view.fixed.shape es p y.has_saved) (sym phase_is) (subst (LeavesSo resumed x.view.fixed.shape es (phase_from x.view.fixed.shape (fresh x.view.fixed.shape) es)) (sym saved_is) (leaves resumed x.view.fixed.shape can es legal runs goes last))) in
     record { leads = phase_is ∙ ap (λ (s : Shape). phase_from s (fresh s) es) (sym shape_is); stands = by all }
   where
-    kept : Left y.view.fixed.shape y.view.phase y.has_saved es → Stands y es
+    kept : Left resumed y.view.fixed.shape y.view.phase y.has_saved es → Stands y es
     kept l = record {
       alive = l.state;
       kept = λ full. elim (l.kept full) [
         | inl (inl over) ↦ inl over
-        | inl (inr held) ↦ inr (inl (held.0, (held.1, held.2, full)))
+        | inl (inr held) ↦ inr (inl (held.0, (place_back resumed y.view.phase.state held.1, held.2, full)))
         | inr given ↦ inr (inr given)
       ];
     }
 
-    by : Leaves y.view.fixed.shape es y.view.phase y.has_saved → (es ≡ []) ⊎ (StartsBadly y.view.fixed.shape es ⊎ Stands y es)
+    by : LeavesSo resumed y.view.fixed.shape es y.view.phase y.has_saved → (es ≡ []) ⊎ (StartsBadly y.view.fixed.shape es ⊎ Stands y es)
     by (inl none) = inl none
     by (inr (inl bad)) = inr (inl bad)
     by (inr (inr l)) = inr (inr (kept l))

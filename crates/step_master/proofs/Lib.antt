@@ -1,6 +1,12 @@
+mod Keepable
 mod Leaving
 mod Living
 mod Parted
+mod Resuming
 mod SeatLemmas
 mod Told
+mod ToldStates
+mod ToldRests
+mod ToldWell
+mod WithoutMachines
 mod Wholes

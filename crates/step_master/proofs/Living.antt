@@ -23,7 +23,7 @@ use Rattle.step_master.specs.Lives.{ClosesInTurn, ComeInTurn, IsLife, Life, any_
 use Rattle.fmu_peer.specs.Talk.{calls_in}
 use Rattle.slot_calls.specs.Log.{Has, Sent, Talks, part}
 use Rattle.slot_calls.specs.SavedStates.{IsParted, LeavesState, Talk, saved_after}
-use Rattle.course_laws.specs.Laws.{IsStateless}
+use Rattle.course_laws.specs.Laws.{GoesWith, IsStateless}
 use Rattle.course_laws.proofs.Unsaved.{never_held}
 use Rattle.step_master.proofs.Leaving.{counts_of, leaves_one, talk_is, talks_legal, talks_phase, turn_all, turn_comes, turn_talks}
 use Rattle.step_master.proofs.Parted.{Closes, all_closing, is_parted, turn_closes}
@@ -81,6 +81,9 @@ pub record IsRow (talks : List Talk) (log : List Sent) (row : Row) : Type 0 wher
   pub runs : All IsRunCall (calls_in (part row.number log))
   pub lean : IsLean (calls_in (part row.number log))
   pub leaves : LeavesState talks row.seat.view.fixed.shape (part row.number log)
+  pub can : row.seat.view.fixed.shape.can_serialize_state ≡ true → row.seat.view.fixed.shape.can_save_state ≡ true
+  pub resumed : Bool
+  pub goes : All (GoesWith resumed) (calls_in (part row.number log))
 
 module _ (talks : List Talk) (log : List Sent) (row : Row) (r : IsRow talks log row) where
   abbrev life : Life
@@ -146,10 +149,10 @@ module _ (talks : List Talk) (log : List Sent) (row : Row) (r : IsRow talks log 
   pub row_closed : ClosesOne false row.closing → T.Closed (shape_in life) (talk_in life)
   row_closed one =
       subst (λ (s : Shape). T.Closed s (talk_in life)) same_shape
-      (one.closed refl life.run (leaves_one row.seat life.run row.closing.old r.new.first r.new.unsaved r.has r.runs r.leaves.last))
+      (one.closed refl life.run (leaves_one r.resumed row.seat life.run row.closing.old r.new.first r.new.unsaved r.has r.can r.runs r.goes r.leaves.last))
 
   -- its run and its closing are told apart by the talks of all
-  pub row_parted : IsParted talks life.run life.closing
+  pub row_parted : IsParted talks (shape_in life) life.run life.closing
   row_parted = is_parted talks row.seat.view.fixed.shape life.run life.closing r.runs r.leaves
       (subst (λ (b : Bool). Closes b life.closing) saved_is (turn_closes r.spared row.closing.old.has_saved mid life.closing life.new r.one.turn))
 

@@ -40,15 +40,16 @@ turn_closes false true v sent w (inr (never, more)) = Plainly (turn_all IsEnding
 
 -- ---- whose each is
 
-ending_of_closing : (talks : List Talk) (front : List Exchange) (call : Call) (rest : List Exchange) → IsEnding call → IsOfClosing talks front call rest
-ending_of_closing talks front C.Free rest ends = absurd ends
-ending_of_closing talks front call rest ends = ends
+module _ (talks : List Talk) (shape : Shape) where
+  ending_of_closing : (front : List Exchange) (call : Call) (rest : List Exchange) → IsEnding call → IsOfClosing talks shape front call rest
+  ending_of_closing front C.Free rest ends = absurd ends
+  ending_of_closing front call rest ends = ends
 
-not_free : (talks : List Talk) (front : List Exchange) (call : Call) (rest : List Exchange) → IsRunCall call → (call ≡ C.Free → IsOfClosing talks front C.Free rest → ⊥) → IsOfClosing talks front call rest → ⊥
-not_free talks front C.Free rest run h o = h refl o
-not_free talks front C.Terminate rest run h o = absurd (cc)
-not_free talks front C.FreeInstance rest run h o = absurd (cc)
-not_free talks front call rest run h o = o
+  not_free : (front : List Exchange) (call : Call) (rest : List Exchange) → IsRunCall call → (call ≡ C.Free → IsOfClosing talks shape front C.Free rest → ⊥) → IsOfClosing talks shape front call rest → ⊥
+  not_free front C.Free rest run h o = h refl o
+  not_free front C.Terminate rest run h o = absurd (cc)
+  not_free front C.FreeInstance rest run h o = absurd (cc)
+  not_free front call rest run h o = o
 
 none_ends : (call : Call) → IsRunCall call → IsEnding call → ⊥
 none_ends C.Terminate run ends = absurd (cc)
@@ -61,17 +62,19 @@ all_behind P [] rest e all is rs = subst (λ (l : List Exchange). All P (calls_i
 all_behind P (x ∷ front) rest e all is rs = all_behind P front rest e (front ++ e ∷ rest) refl (All-tail P x.call (calls_in (front ++ e ∷ rest)) (subst (λ (l : List Exchange). All P (calls_in l)) is rs))
 
 module _ (talks : List Talk) (shape : Shape) (run closing : List Exchange) (runs : All IsRunCall (calls_in run)) (leaves : LeavesState talks shape run) where
-  of_run : (front rest : List Exchange) (e : Exchange) → run ≡ front ++ e ∷ rest → IsOfClosing talks front e.call (rest ++ closing) → ⊥
-  of_run front rest e is = not_free talks front e.call (rest ++ closing) (All-head IsRunCall e.call (calls_in rest) here) (free rest refl) where
+  of_run : (front rest : List Exchange) (e : Exchange) → run ≡ front ++ e ∷ rest → IsOfClosing talks shape front e.call (rest ++ closing) → ⊥
+  of_run front rest e is = not_free talks shape front e.call (rest ++ closing) (All-head IsRunCall e.call (calls_in rest) here) (free rest refl) where
     here : All IsRunCall (e.call ∷ calls_in rest)
     here = all_behind IsRunCall front rest e run is runs
 
-    free : (more : List Exchange) → more ≡ rest → e.call ≡ C.Free → IsOfClosing talks front C.Free (rest ++ closing) → ⊥
+    free : (more : List Exchange) → more ≡ rest → e.call ≡ C.Free → IsOfClosing talks shape front C.Free (rest ++ closing) → ⊥
     free [] none frees o =
-        let freed = leaves.freed front e (is ∙ ap (λ (l : List Exchange). front ++ e ∷ l) (sym none)) frees in
-        elim o.1 [
-          | inl apart ↦ apart freed.0
-          | inr unstepped ↦ absurd (let same : true ≡ false = sym freed.1 ∙ unstepped in cc)
+        elim (leaves.freed front e (is ∙ ap (λ (l : List Exchange). front ++ e ∷ l) (sym none)) frees) [
+          | inl served ↦ absurd (let same : true ≡ false = sym served ∙ o.1 in cc)
+          | inr met ↦ elim o.2 [
+            | inl apart ↦ apart met.0
+            | inr unstepped ↦ absurd (let same : true ≡ false = sym met.1 ∙ unstepped in cc)
+          ]
         ]
     free (x ∷ more) some frees o =
         none_ends x.call (All-head IsRunCall x.call (calls_in more) (All-tail IsRunCall e.call (calls_in (x ∷ more)) (subst (λ (l : List Exchange). All IsRunCall (e.call ∷ calls_in l)) (sym some) here)))
@@ -80,18 +83,18 @@ module _ (talks : List Talk) (shape : Shape) (run closing : List Exchange) (runs
   ending_at : (front rest : List Exchange) (e : Exchange) (all : List Exchange) → all ≡ front ++ e ∷ rest → All IsEnding (calls_in all) → IsEnding e.call
   ending_at front rest e all is es = All-head IsEnding e.call (calls_in rest) (all_behind IsEnding front rest e all is es)
 
-  of_closing : Closes (saved_after shape false run) closing → (front rest : List Exchange) (e : Exchange) → closing ≡ front ++ e ∷ rest → IsOfClosing talks (run ++ front) e.call rest
-  of_closing (Plainly all) front rest e is = ending_of_closing talks (run ++ front) e.call rest (ending_at front rest e closing is all)
+  of_closing : Closes (saved_after shape false run) closing → (front rest : List Exchange) (e : Exchange) → closing ≡ front ++ e ∷ rest → IsOfClosing talks shape (run ++ front) e.call rest
+  of_closing (Plainly all) front rest e is = ending_of_closing talks shape (run ++ front) e.call rest (ending_at front rest e closing is all)
   of_closing (Freeing held f more sent frees all) [] rest e is =
       let same : f ∷ more ≡ e ∷ rest = sym sent ∙ is in
-      subst (λ (l : List Exchange). IsOfClosing talks l e.call rest) (sym (append-nil run))
-      (subst (λ (c : Call). IsOfClosing talks run c rest) (sym frees ∙ ap (λ (x : Exchange). x.call) (first_same f e more rest same))
-      (all_under (λ (x : Exchange). x.call) IsEnding rest (calls_in rest) refl (subst (λ (l : List Exchange). All IsEnding (calls_in l)) (rest_same f e more rest same) all), leaves.held held))
+      subst (λ (l : List Exchange). IsOfClosing talks shape l e.call rest) (sym (append-nil run))
+      (subst (λ (c : Call). IsOfClosing talks shape run c rest) (sym frees ∙ ap (λ (x : Exchange). x.call) (first_same f e more rest same))
+      (all_under (λ (x : Exchange). x.call) IsEnding rest (calls_in rest) refl (subst (λ (l : List Exchange). All IsEnding (calls_in l)) (rest_same f e more rest same) all), (leaves.held held).0, (leaves.held held).1))
   of_closing (Freeing held f more sent frees all) (x ∷ front) rest e is =
-      ending_of_closing talks (run ++ x ∷ front) e.call rest (ending_at front rest e more (rest_same f x more (front ++ e ∷ rest) (sym sent ∙ is)) all)
+      ending_of_closing talks shape (run ++ x ∷ front) e.call rest (ending_at front rest e more (rest_same f x more (front ++ e ∷ rest) (sym sent ∙ is)) all)
 
   -- each call of the run is the run's, and each of the closing the closing's
-  pub is_parted : Closes (saved_after shape false run) closing → IsParted talks run closing
+  pub is_parted : Closes (saved_after shape false run) closing → IsParted talks shape run closing
   is_parted closes = record { of_run = of_run; of_closing = of_closing closes }
 
 -- ---- the steps of a talk are those of its run

@@ -63,7 +63,7 @@ module _ (system : System) (olds news : List View) (log : List Sent) (lives : Li
       )
 
   -- a call that got no reply raised its peer's count
-  rose_of : (why : Why) → IsLost (length system.components) log why → SomeRose olds news
+  pub rose_of : (why : Why) → IsLost (length system.components) log why → SomeRose olds news
   rose_of why lost =
       let k = lost.last.component in
       let found = life_at k lost.within in
@@ -102,8 +102,8 @@ module _ (r : Run) (olds news : List View) (log : List Sent) (lives : List Life)
       (theirs i c.0 found.0.old m c.1 found.3 (tell.each i found.0.old m found.3 at_m).0).2
 
   -- the replies of each are its own
-  replies_of : AreReplies r (first_states r) log
-  replies_of i c m s fmu =
+  pub log_replies : AreReplies r (first_states r) log
+  log_replies i c m s fmu =
       let found = life_at r.system olds news log lives are i (slice_get_within r.system.components i c fmu.component) in
       let told = tell.each i found.0.old m found.3 fmu.machine in
       let first : m.first ≡ s = same_Some m.first s (sym (slice_get-map (λ (n : Machine). n.first) r.machines i ∙ ap (option_map (λ (n : Machine). n.first)) fmu.machine) ∙ fmu.state) in
@@ -124,7 +124,7 @@ module _ (a : Account) (r : Run) (sound : IsSound a.system) (plan : IsPlan a.pla
     ignore = ignore_slots r a.olds a.news (lived.made ++ lived.log) lived.lives own_lives run.tell (subst (λ (s : System). TellTheirs s a.olds) (sym run.system_is) lived.machines);
     making = subst (λ (s : System). IsAnswered (shapes_of s) (making r.plan.link s) lived.made) (sym run.system_is)
         (subst (λ (p : Plan). IsAnswered (shapes_of a.system) (making p.link a.system) lived.made) (sym plan_is) lived.making);
-    replies = replies_of r a.olds a.news (lived.made ++ lived.log) lived.lives own_lives run.tell;
+    replies = log_replies r a.olds a.news (lived.made ++ lived.log) lived.lives own_lives run.tell;
     ends = subst (λ (s : System). EndsBy s r.bound r.plan lived.log lived.is a.end a.before a.after) (sym run.system_is)
         (subst (λ (b : Bound). EndsBy a.system b r.plan lived.log lived.is a.end a.before a.after) (sym run.bound_is)
         (subst (λ (p : Plan). EndsBy a.system a.bound p lived.log lived.is a.end a.before a.after) (sym plan_is) lived.text));
@@ -166,5 +166,5 @@ pub told_unmade : UnmadeByLog → ToldUnmade
 told_unmade law system bound olds news bad r sound run well u = by (subst (λ (s : System). Unmade s r.plan.link olds bad news) (sym run.system_is) u) where
   by : Unmade r.system r.plan.link olds bad news → IsLink bad.why × SomeRose olds news
   by u =
-      let lost = law r bad u.log (run.tell.count ∙ len_olds r.system olds news u.log u.lives u.are) well (replies_of r olds news u.log u.lives u.are run.tell) u.stops in
+      let lost = law r bad u.log (run.tell.count ∙ len_olds r.system olds news u.log u.lives u.are) well (log_replies r olds news u.log u.lives u.are run.tell) u.stops in
       (lost.link, rose_of r.system olds news u.log u.lives u.are bad.why lost)

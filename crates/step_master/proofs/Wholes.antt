@@ -1,5 +1,5 @@
 -- From the first call of each peer to its closing.
-use Rattle.std.proofs.Common.{◌≡◌, inl, inr, ℕ, ◌<◌, ◌≤◌, Bool, true, false, List, [], ◌∷◌, ◌++◌, Option, Some, None, Result, sym, ap, ◌∙◌, subst, arith, length, get_or, map, take, drop}
+use Rattle.std.proofs.Common.{◌≡◌, inl, inr, ℕ, zero, suc, ◌<◌, ◌≤◌, refl, Bool, true, false, List, [], ◌∷◌, ◌++◌, Option, Some, None, Result, sym, ap, ◌∙◌, subst, arith, length, get_or, map, take, drop}
 use Rattle.std.specs.Prelude.{All, ◌||◌}
 use Rattle.std.specs.List.{list_any, slice_get}
 use Rattle.std.specs.Option.{option_map}
@@ -21,30 +21,53 @@ use Rattle.fmu_peer.specs.Answer.{IsFirstBad, IsLink, IsWhy}
 use Rattle.fmu_peer.specs.CloseAll.{ClosesOne, Closing, InOrder, Instance, afters, befores, is_source_lost}
 use Rattle.fmu_peer.specs.Talk as T
 use Rattle.fmu_peer.specs.Updates.{AreUpdatesNeeded}
-use Rattle.fmu_peer.specs.View.{View}
+use Rattle.fmu_peer.specs.View.{View, without_machine}
+use Rattle.sim_base.specs.Sink.{SinkView}
 use Rattle.system_model.specs.EarlyReturn.{early_count}
 use Rattle.system_model.specs.declared.bound.Bound.{Bound}
 use Rattle.system_model.specs.declared.plan.Plan.{Plan}
 use Rattle.system_model.specs.declared.system.Component.{Component}
+use Rattle.system_model.specs.declared.system.Port.{Port}
+use Rattle.system_model.specs.declared.system.Role.{Role}
+use Rattle.system_model.specs.declared.system.Role.TheVariants.{Input, Output, ClockInput, ClockOutput, TimeClock}
 use Rattle.system_model.specs.declared.system.System.{System}
+use Rattle.system_model.specs.declared.system.Timing.TheVariants.{Periodic, Answered, Countdown, Changing}
+use Rattle.system_model.specs.declared.plan.EndKind.TheVariants as K
+use Rattle.system_model.specs.Bounds.{BindsParameters}
+use Rattle.system_model.specs.Shapes.{IsSoundShape}
+use Rattle.system_model.specs.Sound.{IsSound}
+use Rattle.system_model.specs.Text.{end_text}
+use Rattle.run_model.specs.Run.{Once}
+use Rattle.system_checkpoint.specs.declared.snapshot.Arming.{Arming}
+use Rattle.system_checkpoint.specs.declared.snapshot.ClockTimes.{ClockTimes}
+use Rattle.system_checkpoint.specs.declared.snapshot.Snapshot.{Snapshot}
+use Rattle.system_checkpoint.specs.Spelling.{AllBy, CanBeHeld, IsState}
+use Rattle.slot_calls.specs.Keeping.{without_machines}
 use Rattle.slot_calls.specs.declared.bad_answer.BadAnswer.{BadAnswer}
 use Rattle.slot_calls.specs.Log.{Has, Sent, Told, part}
 use Rattle.slot_calls.specs.SavedStates.{IsParted, LeavesState, Talk, last_step}
 use Rattle.slot_calls.specs.Stage.{shapes, shapes_of}
-use Rattle.slot_calls.proofs.CallerLemmas.{last_on, told_on}
+use Rattle.slot_calls.proofs.CallerLemmas.{last_on, told_on, told_without}
+use Rattle.calling_sequence.specs.declared.experiment.Experiment.{Experiment}
+use Rattle.calling_sequence.specs.Course.{Spot}
+use Rattle.calling_sequence.specs.Holding.{Back, HoldsWith, NotBack, PutsPiece, ResumesSlots, spot_in, timer_by, timers_by}
+use Rattle.calling_sequence.specs.Plans.{CountsBy}
 use Rattle.calling_sequence.specs.declared.run_end.RunEnd.{RunEnd}
 use Rattle.calling_sequence.specs.declared.run_end.RunEnd.TheVariants as E
 use Rattle.calling_sequence.specs.Ends.{EndsBy}
-use Rattle.course_laws.specs.Laws.{AnswersAre, AreNeeded, AreTalks, EndAs, FirstBadAnswer, IsFirstBadOf, IsStateless, NoCallTwice, NothingSaved, StatesAreLeft, UpdatesAskedFor}
+use Rattle.course_laws.specs.Laws.{AnswersAre, AreNeeded, AreTalks, EndAs, FirstBadAnswer, GoesOneWay, GoesWith, IsFirstBadOf, IsStateless, NoCallTwice, NothingSaved, StatesAreLeft, UpdatesAskedFor}
 use Rattle.fmu_peer.specs.Talk.{calls_in}
-use Rattle.course_laws.specs.Runs.{Comes, EndsCome, TellsEnd, Unmade}
-use Rattle.step_master.specs.Lived.{LivesAreOver, RunIsLived, UnmadeIsClosed}
-use Rattle.step_master.specs.Lives.{AreGood, AreLives, EndsLives, IsLeastBad, IsLife, Life, is_spared, is_unanswered, shape_in, talk_in, talks_in}
-use Rattle.step_master.specs.Master.{Closes}
+use Rattle.course_laws.specs.Runs.{AreArmable, BackBadly, Comes, ComesAnyhow, EndsCome, HoldsCome, IsArmable, MayBack, RestsCome, TellsEnd, Unmade, Wholly}
+use Rattle.step_master.specs.Holding as H
+use Rattle.step_master.specs.Holding.{PreparesRest}
+use Rattle.step_master.specs.Lived.{Account, HoldIsLived, LivesAreOver, RestIsLived, RestLived, RunIsLived, UnmadeIsClosed, experiment_in, resumed_log}
+use Rattle.step_master.specs.Lives.{AreGood, AreLives, AreUnsaved, EndsLives, IsLeastBad, IsLife, Life, is_spared, is_unanswered, shape_in, talk_in, talks_in}
+use Rattle.step_master.specs.Master.{Closes, Standing}
 use Rattle.step_master.specs.Seats.{seated, views_of}
 use Rattle.step_master.specs.System.{ArePeersOf}
 use Rattle.step_master.proofs.Living.{IsRow, Row, at_turn, is_life, life_of, row_at, row_closed, row_parted, row_plain, row_siblings, rows_from, sides_are, turn_open}
 use Rattle.step_master.proofs.Leaving.{closed_over}
+use Rattle.step_master.proofs.WithoutMachines.{closes_without, peers_without, seated_without}
 use Rattle.step_master.proofs.Parted.{closing_steps, turn_closes}
 use Rattle.step_master.proofs.SeatLemmas.{IsSeat, are_seats, got, length_seated, seated_shapes, sources_seated, unmapped, views_seated}
 
@@ -52,11 +75,19 @@ use Rattle.step_master.proofs.SeatLemmas.{IsSeat, are_seats, got, length_seated,
 mapped : {A B : Type 0} (f : A → B) (xs : List A) (k : ℕ) (x : A) → slice_get xs k ≡ Some x → slice_get (map f xs) k ≡ Some (f x)
 mapped f xs k x is = slice_get-map f xs k ∙ ap (option_map f) is
 
+-- who can put a state as bytes can save it
+abbrev SavesAsBytes : Shape → Type 0
+SavesAsBytes shape = shape.can_serialize_state ≡ true → shape.can_save_state ≡ true
+
+sound_saves : (system : System) → IsSound system → (k : ℕ) (d : Shape) → k < length system.components → SavesAsBytes (get_or (shapes_of system) k d)
+sound_saves system sound k d w =
+    (All-map IsSoundShape (λ (c : Component). c.shape) system.components sound.components.shapes k d (let e = length-map system.components (λ (c : Component). c.shape) in omega (arith, e, w))).serialized
+
 -- a log whose calls are needed, and whose Updates are asked for
 module _ (system : System) (olds : List View) (peers : ArePeersOf system olds) (log : List Sent) (mids : List Instance) (news : List View) (told : Told log (seated system.components olds) mids) (closes : Closes mids news)
     (needed : (k : ℕ) → k < length system.components → AreNeeded (calls_in (part k log))) (updates : (talks : List (List Exchange)) → AreTalks (length system.components) log talks → AreUpdatesNeeded talks)
     (left : (talks : List Talk) → EndAs system log talks → (k : ℕ) (d : Shape) → k < length system.components → LeavesState talks (get_or (shapes_of system) k d) (part k log))
-    (plain : early_count (shapes_of system) ≤ 1 → (k : ℕ) → All IsStateless (calls_in (part k log))) where
+    (can : (k : ℕ) (d : Shape) → k < length system.components → SavesAsBytes (get_or (shapes_of system) k d)) (way : (resumed : Bool) × ((k : ℕ) → All (GoesWith resumed) (calls_in (part k log)))) where
   abbrev closings : List Closing
   closings = closes.closes.closings
 
@@ -132,6 +163,9 @@ module _ (system : System) (olds : List View) (peers : ArePeersOf system olds) (
         runs = need.runs;
         lean = need.lean;
         leaves = run_by (LeavesState talks) n row at (λ d. left talks ends_as n d within);
+        can = run_by (λ s es. SavesAsBytes s) n row at (λ d. can n d within);
+        resumed = way.0;
+        goes = way.1 row.number;
       }
 
   all_rows : All (IsRow talks log) rows
@@ -187,10 +221,12 @@ module _ (system : System) (olds : List View) (peers : ArePeersOf system olds) (
     each = All-map IsLife (life_of log) rows (λ k d w. is_life talks log (get_or rows k d) (all_rows k d w));
     siblings = row_siblings talks log rows all_rows order;
     updates = updates (map (λ (l : Life). l.run) lives) (record { len = length-map lives (λ (l : Life). l.run) ∙ len_lives; each = talk_at });
-    parted = All-map (λ (l : Life). IsParted talks l.run l.closing) (life_of log) rows (λ k d w. row_parted talks log (get_or rows k d) (all_rows k d w));
-    unsaved = λ few. All-map (λ (l : Life). All IsStateless (calls_in (talk_in l))) (life_of log) rows (λ k d w. row_plain talks log (get_or rows k d) (all_rows k d w) (plain few (get_or rows k d).number));
+    parted = All-map (λ (l : Life). IsParted talks (shape_in l) l.run l.closing) (life_of log) rows (λ k d w. row_parted talks log (get_or rows k d) (all_rows k d w));
     closed = closed_at;
   }
+
+  pub lives_plain : (early_count (shapes_of system) ≤ 1 → (k : ℕ) → All IsStateless (calls_in (part k log))) → AreUnsaved system lives
+  lives_plain plain = λ few. All-map (λ (l : Life). All IsStateless (calls_in (talk_in l))) (life_of log) rows (λ k d w. row_plain talks log (get_or rows k d) (all_rows k d w) (plain few (get_or rows k d).number))
 
   -- ---- how they end
 
@@ -246,7 +282,82 @@ module _ (system : System) (olds : List View) (peers : ArePeersOf system olds) (
 
 -- ---- the laws, from those of a run's calls
 
-module _ (answers : FirstBadAnswer) (once : NoCallTwice) (asked_for : UpdatesAskedFor) (states : StatesAreLeft) (unsaved : NothingSaved) (ends : EndsCome) where
+-- ---- where a run stands that is resumed
+
+all_by_length : {A B : Type 0} (P : A → B → Type 0) (xs : List A) (ys : List B) → AllBy P xs ys → length ys ≡ length xs
+all_by_length P [] [] all = refl
+all_by_length P [] (y ∷ ys) all = absurd all
+all_by_length P (x ∷ xs) [] all = absurd all
+all_by_length P (x ∷ xs) (y ∷ ys) all = ap suc (all_by_length P xs ys all.1)
+
+pub states_each : (system : System) (held : Snapshot) → CanBeHeld system held → length held.states ≡ length system.components
+states_each system held can = all_by_length IsState system.components held.states can.states
+
+-- a timer that is armed is one of a countdown or changing Clock
+armed_role : (role : Role) (times : Option ClockTimes) (arming : Arming) (point : ℕ) → timer_by role times arming ≡ Once point → IsArmable role
+armed_role (TimeClock (Periodic interval shift)) times arming point e = absurd (cc)
+armed_role (TimeClock Answered) None arming point e = absurd (cc)
+armed_role (TimeClock Answered) (Some times) arming point e = absurd (cc)
+armed_role (TimeClock Countdown) times arming point e = inl refl
+armed_role (TimeClock Changing) times arming point e = inr refl
+armed_role (Input feed) times arming point e = absurd (cc)
+armed_role Output times arming point e = absurd (cc)
+armed_role (ClockInput feed) times arming point e = absurd (cc)
+armed_role ClockOutput times arming point e = absurd (cc)
+
+armed_among : (ports : List Port) (times : List (Option ClockTimes)) (armings : List Arming) (p : ℕ) (port : Port) (point : ℕ) → slice_get ports p ≡ Some port → slice_get (timers_by ports times armings) p ≡ Some (Once point) → IsArmable port.role
+armed_among [] times armings p port point of is = absurd (cc)
+armed_among (x ∷ ports) [] armings p port point of is = absurd (cc)
+armed_among (x ∷ ports) (t ∷ times) [] p port point of is = absurd (cc)
+armed_among (x ∷ ports) (t ∷ times) (a ∷ armings) zero port point of is =
+    subst (λ (y : Port). IsArmable y.role) (some_same x port of) (armed_role x.role t a point (some_same (timer_by x.role t a) (Once point) is)) where
+      some_same : {X : Type 0} (u v : X) → Some u ≡ Some v → u ≡ v
+      some_same u v h = cc
+armed_among (x ∷ ports) (t ∷ times) (a ∷ armings) (suc p) port point of is = armed_among ports times armings p port point of is
+
+armed_there : (system : System) (held : Snapshot) → AreArmable system (spot_in system held).timers
+armed_there system held p port point of is = armed_among system.ports held.times held.armings p port point of is
+
+-- what was run, by what the master ran
+same_experiment : (a : Account) (s : Standing) → s.system ≡ a.system → s.bound ≡ a.bound → s.plan ≡ a.plan → H.experiment_of s ≡ experiment_in a
+same_experiment a s system bound plan =
+    ap (λ (x : System). make x s.bound s.plan) system ∙ ap (λ (x : Bound). make a.system x s.plan) bound ∙ ap (make a.system a.bound) plan where
+      make : System → Bound → Plan → Experiment
+      make system bound plan = record { system = system; bound = bound; plan = plan }
+
+module _ (answers : FirstBadAnswer) (once : NoCallTwice) (asked_for : UpdatesAskedFor) (states : StatesAreLeft) (one_way : GoesOneWay) (unsaved : NothingSaved) (ends : EndsCome) (holds : HoldsCome) (rests : RestsCome) where
+  -- a log that comes anyhow, of peers that were new
+  module _ (system : System) (sound : IsSound system) (bad : Option BadAnswer) (log : List Sent) (come : ComesAnyhow system bad log) (olds : List View) (peers : ArePeersOf system olds) (mids : List Instance) (news : List View) (told : Told log (seated system.components olds) mids) (closes : Closes mids news) where
+    needed : (k : ℕ) → k < length system.components → AreNeeded (calls_in (part k log))
+    needed = once system bad log sound come
+
+    updates : (talks : List (List Exchange)) → AreTalks (length system.components) log talks → AreUpdatesNeeded talks
+    updates talks are = asked_for system bad log talks sound come are
+
+    left : (talks : List Talk) → EndAs system log talks → (k : ℕ) (d : Shape) → k < length system.components → LeavesState talks (get_or (shapes_of system) k d) (part k log)
+    left talks are = states system bad log talks sound come are
+
+    abbrev all : List Life
+    all = lives system olds peers log mids news told closes needed updates left (sound_saves system sound) (one_way system bad log sound come)
+
+    are_all : AreLives system olds news log all
+    are_all = are_lives system olds peers log mids news told closes needed updates left (sound_saves system sound) (one_way system bad log sound come)
+
+    all_plain : Comes system bad log → AreUnsaved system all
+    all_plain whole = lives_plain system olds peers log mids news told closes needed updates left (sound_saves system sound) (one_way system bad log sound come) (unsaved system bad log sound whole)
+
+    ends_all : (end : RunEnd) → TellsEnd end bad → EndsLives end all
+    ends_all end tells = ends_lives system olds peers log mids news told closes needed updates left (sound_saves system sound) (one_way system bad log sound come) end bad tells (answers system bad log sound come)
+
+    least_all : (b : BadAnswer) → bad ≡ Some b → IsLeastBad b all
+    least_all b is = bad_lives system olds peers log mids news told closes needed updates left (sound_saves system sound) (one_way system bad log sound come) b
+        (subst (λ (o : Option BadAnswer). AnswersAre (shapes_of system) o log) is (answers system bad log sound come))
+
+    -- the end is that of what was to be put, or its put failed
+    ends_put : (outcome : RunEnd) (piece : List ℕ) (before after : SinkView) (end : RunEnd) → TellsEnd outcome bad → PutsPiece outcome piece before after end → EndsLives end all
+    ends_put outcome piece before after end tells (inl (is, put)) = subst (λ (e : RunEnd). EndsLives e all) (sym is) (ends_all outcome tells)
+    ends_put outcome piece before after end tells (inr (is, cut)) = subst (λ (e : RunEnd). EndsLives e all) (sym is) (ends_all E.WriteFault tt)
+
   pub run_is_lived : RunIsLived
   run_is_lived a ready done sound binds counts peers prepares runs closes count =
       let text : EndsBy a.system a.bound a.plan runs.log runs.is a.end a.before a.after =
@@ -257,36 +368,119 @@ module _ (answers : FirstBadAnswer) (once : NoCallTwice) (asked_for : UpdatesAsk
       let told : Told log (seated a.system.components a.olds) done.instances =
       told_on (seated a.system.components a.olds) ready.instances done.instances prepares.log runs.log prepares.told runs.told in
       let come = ends a.system a.bound a.plan prepares.log runs.log runs.is a.end a.before a.after binds counts prepares.answered text in
-      let needed = once a.system come.0 log sound come.2 in
-      let updates = λ (talks : List (List Exchange)) (are : AreTalks (length a.system.components) log talks). asked_for a.system come.0 log talks sound come.2 are in
-      let left = λ (talks : List Talk) (are : EndAs a.system log talks). states a.system come.0 log talks sound come.2 are in
-      let plain = λ (few : early_count (shapes_of a.system) ≤ 1). unsaved a.system come.0 log sound come.2 few in
+      let anyhow : ComesAnyhow a.system come.0 log = Wholly come.0 log come.2 in
       record {
         made = prepares.log;
         log = runs.log;
         is = runs.is;
-        lives = lives a.system a.olds peers log done.instances a.news told closes needed updates left plain;
+        lives = all a.system sound come.0 log anyhow a.olds peers done.instances a.news told closes;
         making = prepares.answered;
-        are = are_lives a.system a.olds peers log done.instances a.news told closes needed updates left plain;
+        are = are_all a.system sound come.0 log anyhow a.olds peers done.instances a.news told closes;
         text = text;
         counted = count ∙ runs.counted;
-        ends = ends_lives a.system a.olds peers log done.instances a.news told closes needed updates left plain a.end come.0 come.1 (answers a.system come.0 log sound come.2);
+        ends = ends_all a.system sound come.0 log anyhow a.olds peers done.instances a.news told closes a.end come.1;
+        unsaved = all_plain a.system sound come.0 log anyhow a.olds peers done.instances a.news told closes come.2;
         machines = prepares.machines;
       }
+
+  pub hold_is_lived : HoldIsLived
+  hold_is_lived a at ready done sound binds counts peers can prepares h closes =
+      let e = same_experiment a ready prepares.system_is prepares.bound_is prepares.plan_is in
+      let slots = h.holds in
+      let holding : HoldsWith (experiment_in a) at ready.instances slots.outcome slots.log slots.piece =
+      subst (λ (x : Experiment). HoldsWith x at ready.instances slots.outcome slots.log slots.piece) e slots.holds in
+      let log = prepares.log ++ slots.log in
+      let told : Told log (seated a.system.components a.olds) done.instances =
+      told_on (seated a.system.components a.olds) ready.instances done.instances prepares.log slots.log prepares.told slots.told in
+      let come = holds (experiment_in a) at ready.instances prepares.log slots.log slots.piece slots.outcome binds counts prepares.answered holding in
+      record {
+        made = prepares.log;
+        log = slots.log;
+        lives = all a.system sound come.0 log come.2 a.olds peers done.instances a.news told closes;
+        making = prepares.answered;
+        are = are_all a.system sound come.0 log come.2 a.olds peers done.instances a.news told closes;
+        starts = ready.instances;
+        told = prepares.told;
+        outcome = slots.outcome;
+        piece = slots.piece;
+        holds = holding;
+        puts = slots.puts;
+        ends = ends_put a.system sound come.0 log come.2 a.olds peers done.instances a.news told closes slots.outcome slots.piece a.before a.after a.end come.1 slots.puts;
+        peers = peers;
+        machines = prepares.machines;
+      }
+
+  -- a run that is resumed
+  module _ (a : Account) (held : Snapshot) (ready done : Standing) (sound : IsSound a.system) (binds : BindsParameters a.system a.bound) (counts : CountsBy a.system a.plan) (peers : ArePeersOf a.system a.olds) (can : CanBeHeld a.system held) (prepares : PreparesRest a.system a.plan held a.olds ready) (closes : Closes done.instances a.news) where
+    abbrev s : Spot
+    s = spot_in a.system held
+
+    abbrev sizes : List ℕ
+    sizes = map length held.states
+
+    abbrev bare : List View
+    bare = map without_machine a.olds
+
+    may : MayBack a.system s sizes
+    may = record { each = length-map held.states length ∙ states_each a.system held can; armable = armed_there a.system held }
+
+    told_bare : (log : List Sent) → Told log (without_machines ready.instances) (without_machines done.instances) → Told (prepares.log ++ log) (seated a.system.components bare) (without_machines done.instances)
+    told_bare log told = subst (λ (l : List Instance). Told (prepares.log ++ log) l (without_machines done.instances)) (sym (seated_without a.system.components a.olds))
+        (told_on (without_machines (seated a.system.components a.olds)) (without_machines ready.instances) (without_machines done.instances) prepares.log log
+        (told_without prepares.log (seated a.system.components a.olds) ready.instances prepares.told) told)
+
+    made_of : (log : List Sent) (bad : Option BadAnswer) (come : ComesAnyhow a.system bad (prepares.log ++ log)) (told : Told (prepares.log ++ log) (seated a.system.components bare) (without_machines done.instances)) →
+        (resumes : ResumesSlots (experiment_in a) s held.states ready.instances done.instances a.before a.after a.instants a.end) → log ≡ resumed_log resumes →
+        EndsLives a.end (all a.system sound bad (prepares.log ++ log) come bare (peers_without a.system a.olds peers) (without_machines done.instances) (map without_machine a.news) told (closes_without done.instances a.news closes)) → RestLived a held
+    made_of log bad come told resumes log_is ending = record {
+      made = prepares.log;
+      log = log;
+      lives = all a.system sound bad (prepares.log ++ log) come bare (peers_without a.system a.olds peers) (without_machines done.instances) (map without_machine a.news) told (closes_without done.instances a.news closes);
+      making = prepares.answered;
+      are = are_all a.system sound bad (prepares.log ++ log) come bare (peers_without a.system a.olds peers) (without_machines done.instances) (map without_machine a.news) told (closes_without done.instances a.news closes);
+      starts = ready.instances;
+      lasts = done.instances;
+      told = prepares.told;
+      resumes = resumes;
+      log_is = log_is;
+      ends = ending;
+      peers = peers;
+      machines = prepares.machines;
+    }
+
+    rest_by : (resumes : ResumesSlots (experiment_in a) s held.states ready.instances done.instances a.before a.after a.instants a.end) → RestLived a held
+    rest_by (Back mids back told_back answered restored runs) =
+        let log = back ++ runs.log in
+        let told = told_bare log (told_on (without_machines ready.instances) (without_machines mids) (without_machines done.instances) back runs.log told_back (told_without runs.log mids done.instances runs.told)) in
+        let come = rests a.system a.bound a.plan s sizes prepares.log back runs.log runs.is a.end a.before a.after binds counts may prepares.answered answered runs.ends in
+        made_of log come.0 come.2 told (Back mids back told_back answered restored runs) refl
+        (ends_all a.system sound come.0 (prepares.log ++ log) come.2 bare (peers_without a.system a.olds peers) (without_machines done.instances) (map without_machine a.news) told (closes_without done.instances a.news closes) a.end come.1)
+    rest_by (NotBack bad log told_back stops restored none puts) =
+        let told = told_bare log told_back in
+        let come : ComesAnyhow a.system (Some bad) (prepares.log ++ log) = BackBadly a.bound a.plan s sizes bad prepares.log log binds counts may prepares.answered stops in
+        made_of log (Some bad) come told (NotBack bad log told_back stops restored none puts) refl
+        (ends_put a.system sound (Some bad) (prepares.log ++ log) come bare (peers_without a.system a.olds peers) (without_machines done.instances) (map without_machine a.news) told (closes_without done.instances a.news closes)
+        (E.Bad bad) (end_text K.Fault s.t) a.before a.after a.end refl puts)
+
+  pub rest_is_lived : RestIsLived
+  rest_is_lived a held ready done sound binds counts peers can holdable bound_is prepares rest closes count =
+      let e = same_experiment a ready prepares.system_is bound_is prepares.plan_is in
+      let resumes : ResumesSlots (experiment_in a) (spot_in a.system held) held.states ready.instances done.instances a.before a.after a.instants a.end =
+      subst (λ (n : ℕ). ResumesSlots (experiment_in a) (spot_in a.system held) held.states ready.instances done.instances a.before a.after n a.end) (sym count)
+      (subst (λ (x : Experiment). ResumesSlots x (spot_in x.system held) held.states ready.instances done.instances a.before a.after done.instants a.end) e rest.resumes) in
+      rest_by a held ready done sound binds counts peers can prepares closes resumes
 
   pub unmade_is_closed : UnmadeIsClosed
   unmade_is_closed system link olds news bad sound peers u =
       let come : Comes system (Some bad) u.log = Unmade link bad u.log u.stops in
-      let needed = once system (Some bad) u.log sound come in
-      let updates = λ (talks : List (List Exchange)) (are : AreTalks (length system.components) u.log talks). asked_for system (Some bad) u.log talks sound come are in
-      let left = λ (talks : List Talk) (are : EndAs system u.log talks). states system (Some bad) u.log talks sound come are in
-      let plain = λ (few : early_count (shapes_of system) ≤ 1). unsaved system (Some bad) u.log sound come few in
+      let anyhow : ComesAnyhow system (Some bad) u.log = Wholly (Some bad) u.log come in
       record {
         log = u.log;
-        lives = lives system olds peers u.log u.mids news u.told u.closes needed updates left plain;
+        lives = all system sound (Some bad) u.log anyhow olds peers u.mids news u.told u.closes;
         stops = u.stops;
-        are = are_lives system olds peers u.log u.mids news u.told u.closes needed updates left plain;
-        least = bad_lives system olds peers u.log u.mids news u.told u.closes needed updates left plain bad (answers system (Some bad) u.log sound come);
+        are = are_all system sound (Some bad) u.log anyhow olds peers u.mids news u.told u.closes;
+        least = least_all system sound (Some bad) u.log anyhow olds peers u.mids news u.told u.closes bad refl;
+        unsaved = all_plain system sound (Some bad) u.log anyhow olds peers u.mids news u.told u.closes come;
       }
 
 pub lives_are_over : LivesAreOver

@@ -122,7 +122,7 @@ abbrev pub talks_in : List Life → List Talk
 talks_in lives =
     map (λ (l : Life). record { shape = shape_in l; exchanges = talk_in l }) lives
 
--- the histories of a system's peers, in the order of the components: each has its part of the log, those after a Fatal of their source have no closing, and each other is closed; no Update follows another at one point that wasn't asked for; which calls are the run's, and which the closing's, the talks of all tell; where at most one FMU might return early, no call saves a state, goes back to one or frees one
+-- the histories of a system's peers, in the order of the components: each has its part of the log, those after a Fatal of their source have no closing, and each other is closed; no Update follows another at one point that wasn't asked for; which calls are the run's, and which the closing's, the talks of all tell
 pub record AreLives (system : System) (olds news : List View) (log : List Sent)
     (lives : List Life) : Type 0 where
   pub olds_are : map (λ (l : Life). l.old) lives ≡ olds
@@ -133,11 +133,15 @@ pub record AreLives (system : System) (olds news : List View) (log : List Sent)
   pub each : All IsLife lives
   pub siblings : Siblings (map member_in lives)
   pub updates : AreUpdatesNeeded (map (λ (l : Life). l.run) lives)
-  pub parted : All (λ (l : Life). IsParted (talks_in lives) l.run l.closing) lives
-  pub unsaved : early_count (shapes_of system) ≤ 1 →
-      All (λ (l : Life). All IsStateless (calls_in (talk_in l))) lives
+  pub parted : All (λ (l : Life). IsParted (talks_in lives) (shape_in l) l.run l.closing) lives
   pub closed : (k : ℕ) (life : Life) → slice_get lives k ≡ Some life →
       is_spared lives k life ≡ false → T.Closed (shape_in life) (talk_in life)
+
+-- where at most one FMU might return early, no call saves a state, goes back to one or frees one
+abbrev pub AreUnsaved : System → List Life → Type 0
+AreUnsaved system lives =
+    early_count (shapes_of system) ≤ 1 →
+    All (λ (l : Life). All IsStateless (calls_in (talk_in l))) lives
 
 -- each of them is over, or spared
 abbrev pub AreOver : List Life → Type 0
@@ -166,5 +170,6 @@ EndsLives (E.Asked point) lives = AreGood lives
 EndsLives (E.EventLimit point) lives = AreGood lives
 EndsLives (E.FixedStep component at end) lives = AreGood lives
 EndsLives (E.Range lost at) lives = AreGood lives
+EndsLives (E.Held at) lives = AreGood lives
 EndsLives (E.Bad bad) lives = IsLeastBad bad lives
 EndsLives E.WriteFault lives = AreGood lives ⊎ ((bad : BadAnswer) × IsLeastBad bad lives)

@@ -1,5 +1,5 @@
 -- What a master is to its callers, and what its calls make of it and of its peers, for any replies (FMI 3.0, 4.2.1).
-use Rattle.std.specs.Prelude.{◌≡◌, ℕ, Bool, true, false, List, length}
+use Rattle.std.specs.Prelude.{◌≡◌, ℕ, Bool, true, false, List, length, Option, None}
 use Rattle.sim_base.specs.Sink.{SinkView}
 use Rattle.fmu_peer.specs.CloseAll.{ClosesAll, Instance}
 use Rattle.fmu_peer.specs.View.{View}
@@ -7,6 +7,7 @@ use Rattle.system_model.specs.declared.bound.Bound.{Bound}
 use Rattle.system_model.specs.declared.plan.Plan.{Plan}
 use Rattle.system_model.specs.declared.system.System.{System}
 use Rattle.system_model.specs.Text.{Instant}
+use Rattle.system_checkpoint.specs.declared.snapshot.Snapshot.{Snapshot}
 use Rattle.slot_calls.specs.declared.bad_answer.BadAnswer.{BadAnswer}
 use Rattle.step_master.specs.declared.prepare_end.PrepareFault.{PrepareFault}
 use Rattle.step_master.specs.declared.prepare_end.PrepareFault.TheVariants as F
@@ -18,11 +19,12 @@ use Rattle.step_master.specs.Seats.{seated, views_of}
 use Rattle.slot_calls.specs.Stage.{IsAnswered, StopsAt, shapes_of}
 use Rattle.step_master.specs.System.{TellTheirs}
 
--- what it runs, with which values of the parameters, its instances in the order of the components, whether it was run, and how many instants it put
+-- what it runs, with which values of the parameters, what the run goes on from where it is resumed, its instances in the order of the components, whether it was run, and how many instants it put
 pub record Standing : Type 0 where
   pub system : System
   pub bound : Bound
   pub plan : Plan
+  pub held : Option Snapshot
   pub instances : List Instance
   pub was_run : Bool
   pub instants : ℕ
@@ -38,6 +40,14 @@ pub record Closes (olds : List Instance) (news : List View) : Type 0 where
 -- ---- preparing
 
 -- each instance was made, and nothing else was sent; what the peers tell are machines of their shapes
+pub record Makes (system : System) (link : ℕ) (views : List View)
+    (made : List Instance) : Type 0 where
+  pub log : List Sent
+  pub told : Told log (seated system.components views) made
+  pub answered : IsAnswered (shapes_of system) (making link system) log
+  pub machines : TellTheirs system views
+
+-- a master with instances that were made, for a whole run
 pub record Prepares (system : System) (bound : Bound) (plan : Plan) (views : List View)
     (new : Standing) : Type 0 where
   pub log : List Sent
@@ -46,6 +56,7 @@ pub record Prepares (system : System) (bound : Bound) (plan : Plan) (views : Lis
   pub system_is : new.system ≡ system
   pub bound_is : new.bound ≡ bound
   pub plan_is : new.plan ≡ plan
+  pub whole : new.held ≡ None
   pub unrun : new.was_run ≡ false
   pub none : new.instants ≡ 0
   pub machines : TellTheirs system views

@@ -1,5 +1,5 @@
 -- What is put where the peers tell machines: the run of these so far, and their one trace (FMI 3.0, 4.2.1: Co-Simulation).
-use Rattle.std.specs.Prelude.{◌≡◌, ◌⊎◌, ℕ, List, length, Some}
+use Rattle.std.specs.Prelude.{◌≡◌, ◌⊎◌, ℕ, ◌≤◌, true, List, length, Some}
 use Rattle.std.specs.List.{slice_get}
 use Rattle.sim_base.specs.Causes.{Rose}
 use Rattle.fmu_peer.specs.Answer.{IsLink}
@@ -10,13 +10,22 @@ use Rattle.system_model.specs.declared.system.System.{System}
 use Rattle.system_model.specs.Bounds.{BindsParameters}
 use Rattle.system_model.specs.Sound.{IsSound}
 use Rattle.run_model.specs.Behaved.{WellBehaved}
-use Rattle.run_model.specs.Run.{Run}
+use Rattle.system_model.specs.Text.{Instant}
+use Rattle.run_model.specs.Run.{Run, Situation}
+use Rattle.run_rest.specs.Held.{Held, HeldAt}
+use Rattle.run_rest.specs.Laws.{StepsWithin}
+use Rattle.run_rest.specs.Packing.{ReadsBack}
+use Rattle.system_checkpoint.specs.declared.snapshot.Snapshot.{Snapshot}
 use Rattle.slot_calls.specs.declared.bad_answer.BadAnswer.{BadAnswer}
 use Rattle.calling_sequence.specs.declared.run_end.RunEnd.{RunEnd}
 use Rattle.calling_sequence.specs.declared.run_end.RunEnd.TheVariants as E
+use Rattle.trace_text.specs.Holding.{IsHoldable}
+use Rattle.calling_sequence.specs.Ready.{IsPlanOf}
 use Rattle.system_model.specs.Plans.{IsPlan}
-use Rattle.machine_courses.specs.Outcomes.{CutsTrace, Output, PutsRun}
-use Rattle.step_master.specs.Lived.{Account, Lived, Unmade}
+use Rattle.machine_courses.specs.Held.{HoldsRun, checkpoint_of, ends_before, packings_of}
+use Rattle.machine_courses.specs.Kept.{PutsState, TakesState}
+use Rattle.machine_courses.specs.Outcomes.{CutsTraceIn, Output, PutsRun, PutsRunIn, Stretch, rest_behind, whole_of}
+use Rattle.step_master.specs.Lived.{Account, HeldLived, Lived, RestLived, Unmade}
 
 -- ---- machines
 
@@ -46,11 +55,20 @@ pub record SomeRose (olds news : List View) : Type 0 where
   pub after : slice_get news place ≡ Some new
   pub rose : Rose old.faults new.faults
 
--- nothing but a call that failed breaks the run of machines that behave well off
+-- nothing but a call that failed breaks the run of machines that behave well off, or a put; so far as this stretch of it goes
+abbrev pub TracesWellIn : Account → Run → Stretch → RunEnd → Type 0
+TracesWellIn a r part (E.Bad bad) = IsLink bad.why × SomeRose a.olds a.news
+TracesWellIn a r part E.WriteFault = SomeRose a.olds a.news ⊎ CutsTraceIn r part (output_of a)
+TracesWellIn a r part end = PutsRunIn r part (output_of a) end
+
+-- of a whole run
 abbrev pub TracesWell : Account → Run → RunEnd → Type 0
-TracesWell a r (E.Bad bad) = IsLink bad.why × SomeRose a.olds a.news
-TracesWell a r E.WriteFault = SomeRose a.olds a.news ⊎ CutsTrace r (output_of a)
-TracesWell a r end = PutsRun r (output_of a) end
+TracesWell a r end = TracesWellIn a r (whole_of r) end
+
+-- and nothing but a call that failed that of one which is held
+abbrev pub HoldsWell : Account → Run → ℕ → RunEnd → List ℕ → Type 0
+HoldsWell a r at (E.Bad bad) piece = IsLink bad.why × SomeRose a.olds a.news
+HoldsWell a r at end piece = HoldsRun r at end piece
 
 -- ---- laws
 
@@ -66,6 +84,47 @@ ToldTrace =
     (a : Account) (r : Run) → IsSound a.system →
     BindsParameters a.system a.bound → IsPlan a.plan → IsRunOf a.system a.bound a.olds r →
     r.plan ≡ a.plan → WellBehaved r → Lived a → TracesWell a r a.end
+
+-- where their run was to be held, the checkpoint that is put is that of its snapshot there
+abbrev pub ToldHeld : Type 0
+ToldHeld =
+    (a : Account) (at : ℕ) (r : Run) → IsSound a.system → IsPlan a.plan →
+    IsRunOf a.system a.bound a.olds r → r.plan ≡ a.plan → (h : HeldLived a at) →
+    HoldsRun r at h.outcome h.piece
+
+-- and of machines that behave well and put their states well, it is put but for a call that failed
+abbrev pub ToldHeldWell : Type 0
+ToldHeldWell =
+    (a : Account) (at : ℕ) (r : Run) → IsSound a.system →
+    BindsParameters a.system a.bound → IsPlan a.plan → IsHoldable a.system a.plan →
+    IsRunOf a.system a.bound a.olds r → r.plan ≡ a.plan → WellBehaved r →
+    ((i : ℕ) → PutsState r i) → (h : HeldLived a at) → HoldsWell a r at h.outcome h.piece
+
+-- and where their run ended before, it came to no such point
+abbrev pub ToldNone : Type 0
+ToldNone =
+    (a : Account) (at : ℕ) (r : Run) → IsSound a.system → IsPlan a.plan →
+    IsRunOf a.system a.bound a.olds r → r.plan ≡ a.plan → StepsWithin r → (h : HeldLived a at) →
+    ends_before h.outcome ≡ true → (is : List Instant) (z : Situation) → HeldAt r at is z → ⊥
+
+-- where a run was resumed with that checkpoint, by its plan but for the workers and the link, and their states are read back as they were saved, what is put is what is left of their run
+abbrev pub ToldRest : Type 0
+ToldRest =
+    (a : Account) (r : Run) (front : List Instant) (z : Situation) (held : Snapshot) →
+    IsSound a.system → IsPlan a.plan → r.system ≡ a.system → IsPlanOf a.plan held →
+    TellMachines a.olds r.machines → ReadsBack r (packings_of r) → Held r front z →
+    r.plan.start ≤ z.t → held ≡ checkpoint_of r z → RestLived a held →
+    PutsRunIn r (rest_behind front) (output_of a) a.end
+
+-- and where they behave well and take in their states well, nothing but a call that failed breaks it off, or a put
+abbrev pub ToldRestWell : Type 0
+ToldRestWell =
+    (a : Account) (r : Run) (front : List Instant) (z : Situation) (held : Snapshot) →
+    IsSound a.system → BindsParameters a.system r.bound → IsPlan a.plan →
+    IsHoldable a.system a.plan → r.system ≡ a.system → IsPlanOf a.plan held →
+    TellMachines a.olds r.machines → WellBehaved r → ReadsBack r (packings_of r) →
+    ((i : ℕ) → TakesState r a.plan i) → Held r front z → r.plan.start ≤ z.t →
+    held ≡ checkpoint_of r z → RestLived a held → TracesWellIn a r (rest_behind front) a.end
 
 -- and their system is prepared, but for a call that failed
 abbrev pub ToldUnmade : Type 0

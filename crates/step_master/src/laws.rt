@@ -1,16 +1,18 @@
-ghost use Rattle.step_master.specs.Lived.{LivesAreOver, RunIsLived, UnmadeIsClosed};
-ghost use Rattle.step_master.specs.Traced.{ToldRun, ToldTrace, ToldUnmade};
+ghost use Rattle.step_master.specs.Lived.{HoldIsLived, LivesAreOver, RestIsLived, RunIsLived, UnmadeIsClosed};
+ghost use Rattle.step_master.specs.Traced.{ToldHeld, ToldHeldWell, ToldNone, ToldRest, ToldRestWell, ToldRun, ToldTrace, ToldUnmade};
 
 use course_laws::calls_of_runs;
-use machine_courses::logs_of_machines;
+use machine_courses::{logs_of_machines, logs_of_rests};
 
-/// Laws: of a system that was prepared, run and closed, and of one that couldn't be prepared, the talk of each peer is
-/// legal, lean and closed, an Update follows another at one point only where one was asked for or a Clock was armed for the
-/// point, the end is told by the first bad answer of the least component, and each peer is over, but for those that are sent
-/// nothing more after a Fatal of their source: it was never asked, its instance is gone or lost, or it keeps a state that Free
-/// was answered Discard for.
+/// Laws: of a system that was prepared, run, held or resumed, and closed, and of one that couldn't be prepared, the talk of
+/// each peer is legal, lean and closed, an Update follows another at one point only where one was asked for or a Clock was
+/// armed for the point, the end is told by the first bad answer of the least component, and each peer is over, but for those
+/// that are sent nothing more after a Fatal of their source: it was never asked, its instance is gone or lost, or it keeps a
+/// state that Free was answered Discard for.
 pub fn lives_of_peers()
     ensures run { RunIsLived }
+    ensures hold { HoldIsLived }
+    ensures rest { RestIsLived }
     ensures unmade { UnmadeIsClosed }
     ensures over { LivesAreOver }
 {
@@ -18,11 +20,20 @@ pub fn lives_of_peers()
 }
 
 /// Laws: where the peers tell machines, the instants that were put are those of their run, and where the machines behave
-/// well, the text is that of their trace, but for a call or a put that failed.
+/// well, the text is that of their trace, but for a call or a put that failed. Of a run that was held the checkpoint is that
+/// of their run's snapshot where it first comes to a point that is done, and one that is resumed with it, by the same plan
+/// but for the workers and the link, puts what is left of their run; each but for a call or a put that failed, where the
+/// machines behave well, and put and take in their states well.
 pub fn runs_of_machines()
     ensures run { ToldRun }
     ensures trace { ToldTrace }
     ensures unmade { ToldUnmade }
+    ensures held { ToldHeld }
+    ensures held_well { ToldHeldWell }
+    ensures none { ToldNone }
+    ensures rest { ToldRest }
+    ensures rest_well { ToldRestWell }
 {
     logs_of_machines();
+    logs_of_rests();
 }

@@ -1,4 +1,4 @@
-ghost use Rattle.std.specs.Prelude.{◌≡◌, ◌≤◌, ◌^◌, [], false, is_some, All, OnOk, length, map, vec_len, vec_capacity};
+ghost use Rattle.std.specs.Prelude.{◌≡◌, ◌≤◌, ◌^◌, [], false, is_some, All, IfOk, OnOk, length, map, vec_len, vec_capacity};
 ghost use Rattle.fmi_calls.specs.Next.{fresh};
 ghost use Rattle.fmu_peer.specs.CloseAll.{instance_in, peer_in};
 ghost use Rattle.step_master.specs.Seats.{IsFresh, seat, seated};
@@ -8,8 +8,10 @@ ghost use Rattle.slot_calls.specs.Slots.{LiveSlot, Stands, instances};
 ghost use Rattle.slot_calls.specs.Stage.{Stage, nothing, shapes, to_each};
 
 use fmu_peer::{Fmu, Held, Job, Peer, Slot};
+use sim_base::Items;
 use slot_calls::{Ask, BadAnswer, each};
-use system_model::Component;
+use std::alloc::{AllocError, Global};
+use system_model::{Bound, Component};
 
 /// Puts each peer into the slot of its component.
 pub(crate) fn take_seats<L: Peer>(
@@ -95,4 +97,18 @@ pub(crate) fn make<L: Peer>(slots: &mut [Slot<L>], link: u32) -> Result<(), BadA
 {
     each(slots, Ask::Instantiate { link })?;
     Ok(())
+}
+
+/// No value for any parameter.
+pub(crate) fn no_bound(alloc: Global, components: &[Component]) -> Result<Bound, AllocError>
+    ensures { IfOk result (λ bound. bound.components ≡ map (λ component. []) components.now) }
+{
+    let mut lists = Vec::with_capacity(alloc, components.len())?;
+    while lists.len() < components.len() {
+        lists.push(Items::from_vec(Vec::new(alloc)))?;
+    }
+    Ok(Bound {
+        components: Items::from_vec(lists),
+        unreached: 0,
+    })
 }

@@ -1,15 +1,14 @@
 -- What a checkpoint begins with.
-use Rattle.std.proofs.Common.{◌≡◌, ℕ, ◌+◌, ◌-◌, ◌<◌, ◌≤◌, ◌^◌, List, [], length, take, refl, sym, ap, subst, ◌∙◌, arith}
+use Rattle.std.proofs.Common.{◌≡◌, ℕ, ◌+◌, ◌-◌, ◌<◌, ◌^◌, List, length, take, sym, ap, subst, arith}
 use Rattle.std.proofs.lemmas.List.{take_all}
-use Rattle.system_model.specs.declared.plan.Plan.{Plan}
-use Rattle.exact_parts.specs.Taking.{AreSingle, Begins, Behind, Breaks, Gets, IsFront}
+use Rattle.exact_parts.specs.Taking.{AreSingle, Begins, Breaks, Gets, IsFront}
 use Rattle.exact_parts.specs.Field.{Field}
-use Rattle.exact_parts.specs.Each.{IsText, Made}
+use Rattle.exact_parts.specs.Each.{IsText}
 use Rattle.exact_parts.proofs.CallerLemmas.{HasSome, LeadsTo, begins, behind_single, field_single, got_breaks, kept_single, led_some, not_within_all}
 use Rattle.system_checkpoint.specs.declared.first.First.{First}
 use Rattle.system_checkpoint.specs.Parts.{between}
 use Rattle.system_checkpoint.specs.First.{HasNone, HasPlan, IsFirst, LimitOf, NumbersOf, PointOf, StartOf, StepOf, StopOf, count_max, first_of, limit_max, magic, plan_of}
-use Rattle.system_checkpoint.proofs.PartLemmas.{field_some, made_some, sane_8, text_single, text_some, within}
+use Rattle.system_checkpoint.proofs.PartLemmas.{field_some, made_some, sane_8, text_single, within}
 use Rattle.system_checkpoint.proofs.ListLemmas.{IsBefore}
 
 -- ---- one value

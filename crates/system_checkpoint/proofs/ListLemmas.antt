@@ -1,6 +1,6 @@
 -- The walk over the parts of ports and of components.
-use Rattle.std.proofs.Common.{◌≡◌, ℕ, suc, ◌+◌, ◌-◌, ◌<◌, ◌≤◌, ◌^◌, Bool, true, false, List, [], ◌∷◌, ◌++◌, length, take, drop, get_or, refl, sym, ap, subst, ◌∙◌, arith}
-use Rattle.std.specs.Prelude.{if◌then◌else◌, Option, Some, None}
+use Rattle.std.proofs.Common.{◌≡◌, ℕ, suc, ◌+◌, ◌-◌, ◌<◌, ◌≤◌, ◌^◌, Bool, true, false, List, [], ◌∷◌, ◌++◌, length, take, drop, get_or, sym, subst, arith}
+use Rattle.std.specs.Prelude.{if◌then◌else◌, Some, None}
 use Rattle.std.proofs.Math.Seq.{drop-cons}
 use Rattle.std.proofs.lemmas.List.{drop-drop, drop_all, length-drop, take_all}
 use Rattle.system_model.specs.declared.system.Component.{Component}
@@ -9,13 +9,11 @@ use Rattle.exact_parts.specs.declared.taken.Taken.{Taken}
 use Rattle.exact_parts.specs.declared.taken.Taken.TheVariants.{Got, NeedMore, Bad}
 use Rattle.exact_parts.specs.Taking.{AreSingle, Behind, Breaks, Gets, IsFront, Takes, moved}
 use Rattle.exact_parts.specs.Field.{IsSane}
-use Rattle.exact_parts.specs.Each.{Each, Made}
-use Rattle.exact_parts.proofs.CallerLemmas.{Goes, HasSome, LeadsTo, each_single, each_some, goes_at_first, goes_bad, goes_end, goes_more, goes_on, kept_single, led_bad, led_more}
-use Rattle.system_checkpoint.specs.declared.snapshot.Arming.{Arming}
+use Rattle.exact_parts.specs.Each.{Each}
+use Rattle.exact_parts.proofs.CallerLemmas.{Goes, HasSome, LeadsTo, each_single, goes_at_first, goes_bad, goes_end, goes_more, goes_on, kept_single, led_bad, led_more}
 use Rattle.system_checkpoint.specs.declared.snapshot.Arming.TheVariants.{NoClock}
-use Rattle.system_checkpoint.specs.declared.snapshot.ClockTimes.{ClockTimes}
 use Rattle.system_checkpoint.specs.declared.snapshot.Snapshot.{Snapshot}
-use Rattle.system_checkpoint.specs.Parts.{Optional, State, Times, arming_of, between, words}
+use Rattle.system_checkpoint.specs.Parts.{Optional, Times, arming_of, between, words}
 use Rattle.system_checkpoint.specs.Whole.{ArmingIf, ArmingOf, EventOf, StateOf, TimesIf, TimesOf, WordOf, is_asked, may_be_armed}
 use Rattle.system_checkpoint.proofs.PartLemmas.{made_some, then_takes, nothing_single, nothing_some, optional_single, optional_some, sane_8, state_single, state_some, times_single, times_some, words_sane}
 

@@ -1,18 +1,17 @@
 -- Parts of a checkpoint: each is of one value and no proper prefix of another, and each can stand.
 use Rattle.std.proofs.Common.{◌≡◌, ℕ, zero, suc, ◌+◌, ◌-◌, ◌<◌, ◌≤◌, ◌^◌, Bool, true, false, List, [], ◌∷◌, ◌++◌, length, take, drop, get_or, refl, sym, ap, subst, ◌∙◌, arith, inl, inr}
-use Rattle.std.specs.Prelude.{◌==◌, if◌then◌else◌, Option, Some, None}
+use Rattle.std.specs.Prelude.{◌==◌, if◌then◌else◌}
 use Rattle.std.proofs.lemmas.Bool.{cases_lt}
 use Rattle.std.proofs.lemmas.List.{length-append, length-take, length-drop, append-nil, nil_from_length, take_all, take_more, take-append-drop}
 use Rattle.value_types.specs.declared.values.PortType.{PortType}
 use Rattle.value_types.specs.declared.values.PortType.TheVariants.{Int8, UInt8, Int16, UInt16, Int32, UInt32, Int64, UInt64, Boolean, Enumeration, Clock}
 use Rattle.exact_parts.specs.declared.field.Spans.{Spans}
 use Rattle.exact_parts.specs.declared.taken.Taken.{Taken}
-use Rattle.exact_parts.specs.declared.taken.Taken.TheVariants.{Got, NeedMore, Bad}
+use Rattle.exact_parts.specs.declared.taken.Taken.TheVariants.{Got}
 use Rattle.exact_parts.specs.Taking.{AreSingle, Behind, Breaks, Gets, IsFront, Takes, moved}
 use Rattle.exact_parts.specs.Field.{AreBytes, Field, InSpans, IsSane}
 use Rattle.exact_parts.specs.Each.{Block, IsText, Made}
 use Rattle.exact_parts.proofs.CallerLemmas.{HasSome, LeadsTo, are_bytes, behind_single, field_filled, field_single, kept_single, led_some, next_takes, taken_bytes}
-use Rattle.system_checkpoint.specs.declared.snapshot.ClockTimes.{ClockTimes}
 use Rattle.system_checkpoint.specs.Parts.{Known, Low, Nothing, Optional, Shift, State, Times, Wide, Word, between, clock_times, joined, low_span, option_of, spans_behind, words}
 
 -- ---- in general

@@ -12,20 +12,19 @@ use Rattle.system_model.specs.declared.system.System.{System}
 use Rattle.system_model.specs.declared.system.Component.{Component}
 use Rattle.system_model.specs.declared.system.Port.{Port}
 use Rattle.exact_parts.specs.declared.field.Spans.{Spans}
-use Rattle.exact_parts.specs.Taking.{Behind}
 use Rattle.exact_parts.specs.Field.{AreBytes, Field, InSpans}
-use Rattle.exact_parts.specs.Each.{Block, Each, EachFrom, IsText, Made}
+use Rattle.exact_parts.specs.Each.{Each, EachFrom, Made}
 use Rattle.exact_parts.proofs.CallerLemmas.{field_1, field_4, field_8, only_1, only_4, only_8}
 use Rattle.system_checkpoint.specs.declared.first.First.{First}
 use Rattle.system_checkpoint.specs.declared.snapshot.Arming.{Arming}
 use Rattle.system_checkpoint.specs.declared.snapshot.Arming.TheVariants.{NoClock, Unarmed, At}
 use Rattle.system_checkpoint.specs.declared.snapshot.ClockTimes.{ClockTimes}
 use Rattle.system_checkpoint.specs.declared.snapshot.Snapshot.{Snapshot}
-use Rattle.system_checkpoint.specs.Parts.{Known, Low, Nothing, Optional, Shift, State, Times, Wide, Word, any, arming_of, around_zero, between, clock_times, joined, low_span, option_of, spans_behind, state_max, words}
+use Rattle.system_checkpoint.specs.Parts.{Known, Nothing, Optional, Times, Wide, arming_of, between, clock_times, low_span, option_of, spans_behind, words}
 use Rattle.system_checkpoint.specs.First.{IsFirst, count_max, first_of, limit_max, magic, plan_of}
 use Rattle.system_checkpoint.specs.Whole.{ArmingIf, ArmingOf, Checkpoint, EventOf, StateOf, TimesIf, TimesOf, WordOf, begun, is_asked, may_be_armed}
 use Rattle.system_checkpoint.specs.Spelling.{AllBy, AreTimes, CanBeHeld, HasArming, HasEvent, HasTimes, IsArming, IsInLimits, IsState, IsToCome, IsWord, arming_bytes, first_bytes, option_bytes, sized, spelling, times_bytes, wide_bytes}
-use Rattle.system_checkpoint.proofs.PartLemmas.{IsWithin, in_between, within}
+use Rattle.system_checkpoint.proofs.PartLemmas.{in_between, within}
 
 both_are : (bytes front rest one other : List ℕ) → bytes ≡ front ++ rest → front ≡ one → rest ≡ other → bytes ≡ one ++ other
 both_are bytes front rest one other both e f = both ∙ ap (λ xs. xs ++ rest) e ∙ ap (λ xs. one ++ xs) f

@@ -1,17 +1,16 @@
 -- A checkpoint as a whole.
-use Rattle.std.proofs.Common.{◌≡◌, ℕ, ◌+◌, ◌-◌, ◌<◌, ◌≤◌, ◌^◌, List, [], ◌∷◌, ◌++◌, length, take, drop, refl, sym, ap, subst, ◌∙◌, append_assoc, arith}
-use Rattle.std.specs.Prelude.{Option, Bool, true, false, ◌==◌, if◌then◌else◌, Result, Ok, Err}
+use Rattle.std.proofs.Common.{◌≡◌, ℕ, ◌+◌, ◌<◌, ◌^◌, List, [], ◌++◌, length, take, drop, refl, sym, ap, subst, ◌∙◌, append_assoc, arith}
+use Rattle.std.specs.Prelude.{Option, true, false, ◌==◌, if◌then◌else◌, Ok, Err}
 use Rattle.std.proofs.lemmas.Bool.{eqb-false, eqb-true}
 use Rattle.std.proofs.lemmas.List.{append-nil, length-append, length-drop, length-take, take-append-drop, take-take, take_all}
 use Rattle.system_model.specs.declared.system.System.{System}
 use Rattle.exact_parts.specs.declared.taken.Taken.{Taken}
 use Rattle.exact_parts.specs.declared.taken.Taken.TheVariants.{Got, NeedMore, Bad}
-use Rattle.exact_parts.specs.Taking.{AreSingle, Begins, Behind, Breaks, Gets, IsFront, Takes}
-use Rattle.exact_parts.specs.Each.{Each, Made}
+use Rattle.exact_parts.specs.Taking.{AreSingle, Begins, Breaks, Gets, IsFront, Takes}
+use Rattle.exact_parts.specs.Each.{Each}
 use Rattle.exact_parts.proofs.CallerLemmas.{HasSome, LeadsTo, begins, begins_cut, behind_single, each_single, each_some, kept_single, led_some, not_within_all}
 use Rattle.system_checkpoint.specs.declared.first.First.{First}
 use Rattle.system_checkpoint.specs.declared.snapshot.Arming.{Arming}
-use Rattle.system_checkpoint.specs.declared.snapshot.CheckpointFault.{CheckpointFault}
 use Rattle.system_checkpoint.specs.declared.snapshot.CheckpointFault.TheVariants as F
 use Rattle.system_checkpoint.specs.declared.snapshot.ClockTimes.{ClockTimes}
 use Rattle.system_checkpoint.specs.declared.snapshot.Snapshot.{Snapshot}

@@ -1,5 +1,5 @@
 -- What a checkpoint begins with: the magic word, and the plan and the point of the run, in eight bytes each.
-use Rattle.std.specs.Prelude.{◌≡◌, ℕ, ◌+◌, ◌-◌, ◌<◌, ◌≤◌, ◌^◌, List, length, take, codes}
+use Rattle.std.specs.Prelude.{ℕ, ◌+◌, ◌-◌, ◌<◌, ◌≤◌, ◌^◌, List, length, take, codes}
 use Rattle.system_model.specs.declared.plan.Plan.{Plan}
 use Rattle.exact_parts.specs.Taking.{Begins, Behind, Gets}
 use Rattle.exact_parts.specs.Field.{Field}

@@ -7,7 +7,7 @@ use Rattle.exact_parts.specs.Taking.{Behind}
 use Rattle.exact_parts.specs.Field.{Field}
 use Rattle.exact_parts.specs.Each.{Block, IsText, Made}
 use Rattle.system_checkpoint.specs.declared.snapshot.Arming.{Arming}
-use Rattle.system_checkpoint.specs.declared.snapshot.Arming.TheVariants.{NoClock, Unarmed, At}
+use Rattle.system_checkpoint.specs.declared.snapshot.Arming.TheVariants.{Unarmed, At}
 use Rattle.system_checkpoint.specs.declared.snapshot.ClockTimes.{ClockTimes}
 
 -- ---- spans

@@ -1,5 +1,5 @@
 -- The bytes of a checkpoint, and what may be held in one.
-use Rattle.std.specs.Prelude.{◌≡◌, ℕ, ◌+◌, ◌<◌, ◌≤◌, ◌^◌, ◌/◌, ◌%◌, if◌then◌else◌, Bool, true, false, List, [], ◌∷◌, ◌++◌, Option, Some, None, IfSome, length}
+use Rattle.std.specs.Prelude.{◌≡◌, ℕ, ◌+◌, ◌*◌, ◌<◌, ◌≤◌, ◌^◌, ◌/◌, ◌%◌, if◌then◌else◌, Bool, true, false, List, [], ◌∷◌, ◌++◌, Option, Some, None, IfSome, length}
 use Rattle.std.specs.List.{flat_map}
 use Rattle.std.specs.Int.{w32, w64, to_be_bytes}
 use Rattle.system_model.specs.declared.plan.Plan.{Plan}
@@ -55,6 +55,11 @@ spelling header held =
     first_bytes held.plan held.point ++ (sized header ++ (flat_map sized held.states ++
     (flat_map option_bytes held.words ++ (flat_map times_bytes held.times ++
     (flat_map arming_bytes held.armings ++ flat_map option_bytes held.events)))))
+
+-- the most bytes that a checkpoint has, of so many components and ports and with a header of so many bytes
+abbrev pub greatest_len : (components ports header : ℕ) → ℕ
+greatest_len components ports header =
+    components * (4 + state_max + 9) + ports * (9 + 32 + 9) + (header + 60)
 
 -- ---- what may be held
 
@@ -139,3 +144,14 @@ abbrev pub KeepsOne : Type 0
 KeepsOne = (system : System) (header : List ℕ) (held other : Snapshot) (bytes more : List ℕ) →
     Checkpoint system header held bytes → Checkpoint system header other (bytes ++ more) →
     (held ≡ other) × (length more ≡ 0)
+
+-- a checkpoint has no more bytes than that
+abbrev pub SpellsFew : Type 0
+SpellsFew = (system : System) (header : List ℕ) (held : Snapshot) → CanBeHeld system held →
+    length (spelling header held) ≤
+    greatest_len (length system.components) (length system.ports) (length header)
+
+-- of at most 256 components and 65,536 ports, with a header of at most 2^27 bytes, none passes 512 MiB
+abbrev pub FitsFile : Type 0
+FitsFile = (components ports header : ℕ) → components ≤ 256 → ports ≤ 65536 → header ≤ 2 ^ 27 →
+    greatest_len components ports header ≤ 2 ^ 29

@@ -1,4 +1,6 @@
-use crate::{CheckpointFault, Snapshot, put_checkpoint, read_checkpoint, read_plan};
+use crate::{
+    CheckpointFault, Snapshot, checkpoint_len, put_checkpoint, read_checkpoint, read_plan,
+};
 use sim_base::Items;
 use std::alloc::Global;
 use std::test::Fail;
@@ -45,9 +47,12 @@ fn a_run_is_held_and_read_back(rt: HostRuntime) -> Result<(), Fail> {
         armings: Items::from_vec(Vec::new(alloc)),
         events: Items::from_vec(Vec::new(alloc)),
     };
-    let mut out = Vec::new(alloc);
-    put_checkpoint(&none, HEADER, &mut out)?;
+    let mut out = Vec::with_capacity(alloc, 62)?;
+    put_checkpoint(&none, HEADER, &mut out);
     assert_eq!(rt; out.as_slice(), BYTES.as_slice());
+    assert_eq!(rt; checkpoint_len(0, 0, 2), Some(62));
+    assert_eq!(rt; checkpoint_len(256, 65_536, 1 << 27), Some(405_933_372));
+    assert_eq!(rt; checkpoint_len(usize::MAX, 0, 0), None);
     Ok(())
 }
 

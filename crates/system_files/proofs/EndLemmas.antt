@@ -269,7 +269,7 @@ module _ (s : Search) (o : Outline) (old mid : FolderView) (outline : TakesOutli
         asked_then old middle new some g.reads (asked_for s o o.systems.components) (flat_map (binding_files s.directory o) taken) r.1 g.asks,
       )
 
-  all_reach : (shapes : List Shape) (given : List GivenBinding) (new : FolderView) → TakesParts s.per_second s.directory o shapes given mid new →
+  pub all_reach : (shapes : List Shape) (given : List GivenBinding) (new : FolderView) → TakesParts s.per_second s.directory o shapes given mid new →
       (reads : List ReadNote) × ReachesBindingsAlone s reads o shapes o.systems.bindings given [] × Asks reads (asked_with s o o.systems.bindings) old new
   all_reach shapes given new t = parts_reach shapes o.systems.bindings given [] t.mid new (sym (append-nil o.systems.bindings)) t.takes t.gives
 

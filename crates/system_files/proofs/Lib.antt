@@ -12,3 +12,4 @@ pub mod ShapeLemmas
 pub mod BindingLemmas
 pub mod EndLemmas
 pub mod SoundLemmas
+pub mod HoldingLemmas

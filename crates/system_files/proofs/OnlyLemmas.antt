@@ -77,7 +77,7 @@ Agrees s reads asked finding = (others : List (List ℕ)) (other : Finding) → 
 -- ---- where the folder tells its files
 
 module _ (s : Search) (reads : List ReadNote) (steady : AreSteady reads) where
-  outline_once : (subject : Subject) (directory : List ℕ) (o other : Outline) → OutlinesAlone subject directory reads o → Outlines subject directory reads other → o ≡ other
+  pub outline_once : (subject : Subject) (directory : List ℕ) (o other : Outline) → OutlinesAlone subject directory reads o → Outlines subject directory reads other → o ≡ other
   outline_once what.Fmu directory o other a f = a ∙ sym f
   outline_once what.System directory o other a f = gathers_once directory reads steady o other a f
 

@@ -4,3 +4,4 @@ pub mod Documents
 pub mod Order
 pub mod Loads
 pub mod Steps
+pub mod Holding

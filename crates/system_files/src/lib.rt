@@ -3,6 +3,7 @@
 
 mod bindings;
 mod documents;
+mod holding;
 mod loaded;
 mod loading;
 mod named;
@@ -13,6 +14,7 @@ mod shapes;
 mod subject;
 mod together;
 
+pub use holding::load_held;
 pub use loaded::Loaded;
 pub use loading::{LoadEnd, load};
 pub use named::{FileFault, NamedFile};

@@ -70,8 +70,8 @@ pub fn load<F: Folder>(
     }
 }
 
-// The outline of what is asked for.
-fn load_outline<F: Folder>(
+/// The outline of what is asked for.
+pub(crate) fn load_outline<F: Folder>(
     alloc: Global,
     subject: Subject,
     directory: &str,
@@ -91,8 +91,8 @@ fn load_outline<F: Folder>(
     }
 }
 
-// Reads the descriptions of the FMUs and the parameters of the bindings, and puts the system together.
-fn load_models<F: Folder>(
+/// Reads the descriptions of the FMUs and the parameters of the bindings, and puts the system together.
+pub(crate) fn load_models<F: Folder>(
     alloc: Global,
     directory: &str,
     resolution: u64,

@@ -1,5 +1,6 @@
 //! Shapes of built-in machines, and one that is driven through calls whose answers are wanted.
-ghost use Rattle.std.specs.Prelude.{◌+◌, ◌<◌, ◌^◌};
+ghost use Rattle.std.specs.Prelude.{◌≡◌, ◌+◌, ◌<◌, ◌^◌, not};
+ghost use Rattle.fmu_peer.specs.View.{carries_bytes};
 
 use bench_fmus::Bench;
 use fmi_calls::{Call, Content, Reply, permitted};
@@ -126,8 +127,15 @@ pub(crate) fn step(at: u64, size: u64, terminate: bool) -> (Call, Content)
     (Call::DoStep { at, size }, content)
 }
 
+/// Whether no bytes follow the call or its reply.
+pub(crate) fn is_plain(call: &Call) -> bool
+    ensures { result ≡ not (carries_bytes call.now) }
+{
+    !matches!(call, Call::Serialize | Call::Deserialize { .. })
+}
+
 fn answers<L: Peer>(peer: &mut L, call: &Call, content: &Content) -> bool {
-    if !permitted(peer.shape(), peer.phase(), call) {
+    if !is_plain(call) || !permitted(peer.shape(), peer.phase(), call) {
         return false;
     }
     let wanted = Reply::Done {
@@ -137,7 +145,8 @@ fn answers<L: Peer>(peer: &mut L, call: &Call, content: &Content) -> bool {
     peer.call(call) == Ok(wanted)
 }
 
-fn answers_each<L: Peer>(peer: &mut L, steps: &[(Call, Content)]) -> bool {
+/// Whether a peer answers these calls so.
+pub(crate) fn answers_each<L: Peer>(peer: &mut L, steps: &[(Call, Content)]) -> bool {
     for (call, content) in steps {
         if !answers(peer, call, content) {
             return false;

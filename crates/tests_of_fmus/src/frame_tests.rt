@@ -12,7 +12,7 @@ const THIRD: Fraction = Fraction {
 };
 
 // Calls without texts with their frames, and a dot for each byte that has to be 0.
-static CALLS: [(Call, &[u8; 24], &[u8; 24]); 17] = [
+static CALLS: [(Call, &[u8; 24], &[u8; 24]); 19] = [
     (
         Call::EnterInitialization {
             start: 10,
@@ -110,10 +110,24 @@ static CALLS: [(Call, &[u8; 24], &[u8; 24]); 17] = [
         b"\x12\0\0\0\0\0\0\0\0\0\0\0\0\0\0\0\0\0\0\0\0\0\0\0",
         b"#.......................",
     ),
+    (
+        Call::Serialize,
+        b"\x14\0\0\0\0\0\0\0\0\0\0\0\0\0\0\0\0\0\0\0\0\0\0\0",
+        b"#.......................",
+    ),
+    (
+        Call::Deserialize {
+            length: 0x01020304,
+            point: 10,
+            stop: 258,
+        },
+        b"\x15\0\0\0\x01\x02\x03\x04\0\0\0\0\0\0\0\x0a\0\0\0\0\0\0\x01\x02",
+        b"#...####################",
+    ),
 ];
 
 // The same of replies.
-static REPLIES: [(Reply, &[u8; 24], &[u8; 24]); 25] = [
+static REPLIES: [(Reply, &[u8; 24], &[u8; 24]); 30] = [
     (
         Reply::Done {
             is_warning: false,
@@ -315,6 +329,38 @@ static REPLIES: [(Reply, &[u8; 24], &[u8; 24]); 25] = [
         b"##......................",
     ),
     (
+        Reply::Done {
+            is_warning: false,
+            content: Content::Serialize { length: 0 },
+        },
+        b"\x14\0\0\0\0\0\0\0\0\0\0\0\0\0\0\0\0\0\0\0\0\0\0\0",
+        b"##...###................",
+    ),
+    (
+        Reply::Done {
+            is_warning: true,
+            content: Content::Serialize { length: 0x0f0203 },
+        },
+        b"\x14\x01\0\0\0\x0f\x02\x03\0\0\0\0\0\0\0\0\0\0\0\0\0\0\0\0",
+        b"##...###................",
+    ),
+    (
+        Reply::Done {
+            is_warning: false,
+            content: Content::Serialize { length: 1 << 20 },
+        },
+        b"\x14\0\0\0\0\x10\0\0\0\0\0\0\0\0\0\0\0\0\0\0\0\0\0\0",
+        b"##...#..................",
+    ),
+    (
+        Reply::Done {
+            is_warning: false,
+            content: Content::Deserialize,
+        },
+        b"\x15\0\0\0\0\0\0\0\0\0\0\0\0\0\0\0\0\0\0\0\0\0\0\0",
+        b"##......................",
+    ),
+    (
         Reply::Refused {
             kind: Kind::DoStep,
             status: BadStatus::Discard,
@@ -336,6 +382,14 @@ static REPLIES: [(Reply, &[u8; 24], &[u8; 24]); 25] = [
             status: BadStatus::Fatal,
         },
         b"\x12\x04\0\0\0\0\0\0\0\0\0\0\0\0\0\0\0\0\0\0\0\0\0\0",
+        b"##......................",
+    ),
+    (
+        Reply::Refused {
+            kind: Kind::Serialize,
+            status: BadStatus::Error,
+        },
+        b"\x14\x03\0\0\0\0\0\0\0\0\0\0\0\0\0\0\0\0\0\0\0\0\0\0",
         b"##......................",
     ),
 ];
@@ -366,9 +420,10 @@ static INSTANTIATES: [(bool, bool, &str, &str, &[u8]); 3] = [
 ];
 
 // Bytes that begin no frame of a call, and the first byte that continues none: kinds, types, words, lengths and texts.
-static NO_CALLS: [(&[u8], usize); 30] = [
+static NO_CALLS: [(&[u8], usize); 31] = [
     (b"\0\0\0\0\0\0\0\0\0\0\0\0\0\0\0\0\0\0\0\0\0\0\0\0", 0),
     (b"\x13\0\0\0\0\0\0\0\0\0\0\0\0\0\0\0\0\0\0\0\0\0\0\0", 0),
+    (b"\x16\0\0\0\0\0\0\0\0\0\0\0\0\0\0\0\0\0\0\0\0\0\0\0", 0),
     (
         b"\x06\x01\0\0\0\0\0\0\0\0\0\0\0\0\0\x0a\0\0\0\0\0\0\0\x0a",
         1,
@@ -472,9 +527,14 @@ static NO_CALLS: [(&[u8], usize); 30] = [
 ];
 
 // The same of replies.
-static NO_REPLIES: [(&[u8], usize); 9] = [
+static NO_REPLIES: [(&[u8], usize); 14] = [
     (b"\0\0\0\0\0\0\0\0\0\0\0\0\0\0\0\0\0\0\0\0\0\0\0\0", 0),
     (b"\x13\0\0\0\0\0\0\0\0\0\0\0\0\0\0\0\0\0\0\0\0\0\0\0", 0),
+    (b"\x16\0\0\0\0\0\0\0\0\0\0\0\0\0\0\0\0\0\0\0\0\0\0\0", 0),
+    (b"\x14\0\0\0\0\x10\0\x01\0\0\0\0\0\0\0\0\0\0\0\0\0\0\0\0", 7),
+    (b"\x14\0\0\0\0\x11\0\0\0\0\0\0\0\0\0\0\0\0\0\0\0\0\0\0", 5),
+    (b"\x14\x02\0\0\0\0\0\x01\0\0\0\0\0\0\0\0\0\0\0\0\0\0\0\0", 7),
+    (b"\x15\0\0\0\0\0\0\x01\0\0\0\0\0\0\0\0\0\0\0\0\0\0\0\0", 7),
     (b"\x01\x05\0\0\0\0\0\0\0\0\0\0\0\0\0\0\0\0\0\0\0\0\0\0", 1),
     (b"\x06\x02\x01\0\0\0\0\0\0\0\0\0\0\0\0\0\0\0\0\0\0\0\0\0", 2),
     (b"\x06\0\x08\0\0\0\0\0\0\0\0\0\0\0\0\0\0\0\0\0\0\0\0\0", 2),

@@ -4,6 +4,8 @@
 #[cfg(test)]
 mod clock_tests;
 #[cfg(test)]
+mod counter_state_tests;
+#[cfg(test)]
 mod counter_tests;
 #[cfg(test)]
 mod driving;
@@ -29,3 +31,5 @@ mod pipe_tests;
 mod reply_tests;
 #[cfg(test)]
 mod start_tests;
+#[cfg(test)]
+mod state_tests;

@@ -1,5 +1,6 @@
 ghost use Rattle.std.specs.Prelude.{◌≡◌, IfOk};
 
+use crate::driving::is_plain;
 use fmi_calls::{BadStatus, Call, Content, Kind, Reply, permitted};
 use fmu_link::{MemWire, Piped, Wire, WireFault};
 use fmu_peer::{Peer, PeerFault};
@@ -67,7 +68,10 @@ fn ask<W: Wire + Send>(
     peer: &mut Piped<W>,
     call: Call,
 ) -> Result<Reply, PeerFault> {
-    assert!(rt; permitted(peer.shape(), peer.phase(), &call), "at {call:?}");
+    assert!(rt;
+        is_plain(&call) && permitted(peer.shape(), peer.phase(), &call),
+        "at {call:?}"
+    );
     peer.call(&call)
 }
 

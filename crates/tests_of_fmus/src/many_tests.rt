@@ -1,5 +1,5 @@
 //! Several calls to one peer at once: they are answered one after another, up to the first answer that isn't good.
-use crate::driving::{INITIALIZE, INSTANTIATE, counter_shape};
+use crate::driving::{INITIALIZE, INSTANTIATE, counter_shape, is_plain};
 use bench_fmus::{Script, Scripts};
 use fmi_calls::{BadStatus, Call, Content, Kind, Reply, permitted};
 use fmu_peer::{Peer, PeerFault, Spawner, StartFault};
@@ -82,7 +82,7 @@ fn start(
     assert!(rt; shape.token.as_str().len() <= 1 << 24);
     let mut peer = scripts.start(alloc, "host", "c", "fmus/c", &shape)?;
     for call in &[INSTANTIATE, INITIALIZE] {
-        assert!(rt; permitted(peer.shape(), peer.phase(), call));
+        assert!(rt; is_plain(call) && permitted(peer.shape(), peer.phase(), call));
         assert!(rt; peer.call(call).is_ok());
     }
     Ok(peer)

@@ -45,6 +45,14 @@ pub(crate) const RESTORE: Call = Call::Restore;
 
 pub(crate) const EMPTY: Call = Call::Free;
 
+pub(crate) const SERIALIZE: Call = Call::Serialize;
+
+pub(crate) const DESERIALIZE: Call = Call::Deserialize {
+    length: 7,
+    point: 10,
+    stop: 100,
+};
+
 pub(crate) const TERMINATE: Call = Call::Terminate;
 
 pub(crate) const FREE: Call = Call::FreeInstance;

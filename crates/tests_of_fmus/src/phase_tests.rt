@@ -1,8 +1,8 @@
 //! The state machine of an FMU with and without event mode: the state after each path of calls, and what is permitted there.
 use crate::paths::{
-    EMPTY, ENTER, ENTER_STEP, ENTERED, EXIT, EXITED, FREE, GET, IN_STEP, INSTANTIATE,
-    INSTANTIATE_EVENTS, RESTORE, Row, SAVE, SET, SETTLED, STARTED_EVENTS, STEP, TERMINATE, UPDATE,
-    done, first_wrong, shape_of, updated,
+    DESERIALIZE, EMPTY, ENTER, ENTER_STEP, ENTERED, EXIT, EXITED, FREE, GET, IN_STEP, INSTANTIATE,
+    INSTANTIATE_EVENTS, RESTORE, Row, SAVE, SERIALIZE, SET, SETTLED, STARTED_EVENTS, STEP,
+    TERMINATE, UPDATE, done, first_wrong, shape_of, updated,
 };
 use fmi_calls::{BadStatus, Call, Content, InstanceState, Kind, Reply};
 use std::test::Fail;
@@ -24,9 +24,9 @@ const SHORTER: Call = Call::DoStep { at: 40, size: 20 };
 const LONG: Call = Call::DoStep { at: 10, size: 91 };
 
 // Others that no phase permits: another flag, a stop before the start, no size, an input that is read, another type, a
-// value out of range, an output that is set, the calls of event mode where there is none, and those of a Clock that is
-// no variable.
-static NEVER: [Call; 14] = [
+// value out of range, an output that is set, the calls of event mode where there is none, those of a Clock that is no
+// variable, and states as bytes where there are none.
+static NEVER: [Call; 16] = [
     Call::Instantiate {
         event_mode: true,
         early_return: true,
@@ -62,6 +62,8 @@ static NEVER: [Call; 14] = [
     Call::SetClock { reference: 4 },
     Call::GetInterval { reference: 4 },
     Call::GetShift { reference: 4 },
+    SERIALIZE,
+    DESERIALIZE,
 ];
 
 static PROBES: [Call; 16] = [
@@ -492,6 +494,137 @@ static EVENT_PATHS: [Row; 15] = [
     ),
 ];
 
+const SERIALIZED: (Call, Option<Reply>) = (SERIALIZE, done!(Content::Serialize { length: 7 }));
+
+const FILLED: (Call, Option<Reply>) = (DESERIALIZE, done!(Content::Deserialize));
+
+// The same of an FMU whose states are moved as bytes, without event mode and with it.
+static BYTE_PROBES: [Call; 15] = [
+    INSTANTIATE,
+    ENTER,
+    STEP,
+    GET,
+    SET,
+    SET_PARAMETER,
+    SAVE,
+    RESTORE,
+    EMPTY,
+    SERIALIZE,
+    DESERIALIZE,
+    TERMINATE,
+    FREE,
+    SECOND,
+    ENTER_EVENT,
+];
+
+// A point past the stop, and a step past the stop that was told.
+static NO_BYTES: [Call; 2] = [
+    Call::Deserialize {
+        length: 7,
+        point: 101,
+        stop: 100,
+    },
+    LONG,
+];
+
+static BYTE_PATHS: [Row; 11] = [
+    (
+        &[STARTED],
+        InstanceState::Instantiated,
+        0,
+        &[ENTER, SET_PARAMETER, DESERIALIZE, FREE],
+    ),
+    // A state that came as bytes is gone back to or freed at once.
+    (
+        &[STARTED, FILLED],
+        InstanceState::Instantiated,
+        0,
+        &[ENTER, SET_PARAMETER, RESTORE, EMPTY],
+    ),
+    (
+        &[STARTED, FILLED, EMPTIED],
+        InstanceState::Instantiated,
+        0,
+        &[ENTER, SET_PARAMETER, DESERIALIZE, FREE],
+    ),
+    (
+        &[
+            STARTED,
+            (DESERIALIZE, refused!(Kind::Deserialize, BadStatus::Discard)),
+        ],
+        InstanceState::Instantiated,
+        0,
+        &[ENTER, SET_PARAMETER, DESERIALIZE, FREE],
+    ),
+    (
+        &[
+            STARTED,
+            FILLED,
+            (RESTORE, refused!(Kind::Restore, BadStatus::Error)),
+        ],
+        InstanceState::Dead,
+        0,
+        &[FREE],
+    ),
+    (
+        &[STARTED, FILLED, RESTORED],
+        InstanceState::Step,
+        10,
+        &[STEP, GET, SET, RESTORE, EMPTY, SERIALIZE],
+    ),
+    (
+        &[STARTED, FILLED, RESTORED, EMPTIED],
+        InstanceState::Step,
+        10,
+        &[STEP, GET, SET, SAVE, TERMINATE, FREE],
+    ),
+    (
+        &[STARTED, FILLED, RESTORED, EMPTIED, STEPPED],
+        InstanceState::Step,
+        40,
+        &[SECOND, GET, SET, SAVE, TERMINATE, FREE],
+    ),
+    (
+        &[STARTED, ENTERED, EXITED, SAVED, STEPPED, SERIALIZED],
+        InstanceState::Step,
+        40,
+        &[GET, SET, RESTORE, EMPTY, SERIALIZE],
+    ),
+    (
+        &[STARTED, ENTERED, EXITED, SAVED, SERIALIZED, EMPTIED],
+        InstanceState::Step,
+        10,
+        &[STEP, GET, SET, SAVE, TERMINATE, FREE],
+    ),
+    (
+        &[
+            STARTED,
+            ENTERED,
+            EXITED,
+            SAVED,
+            (SERIALIZE, refused!(Kind::Serialize, BadStatus::Discard)),
+        ],
+        InstanceState::Step,
+        10,
+        &[STEP, GET, SET, RESTORE, EMPTY, SERIALIZE],
+    ),
+];
+
+static BYTE_EVENT_PATHS: [Row; 2] = [
+    (
+        &[STARTED_EVENTS, FILLED, RESTORED],
+        InstanceState::Step,
+        10,
+        &[STEP, RESTORE, EMPTY, SERIALIZE],
+    ),
+    (
+        &[STARTED_EVENTS, FILLED, RESTORED, EMPTIED],
+        InstanceState::Step,
+        10,
+        &[STEP, SAVE, TERMINATE, FREE, ENTER_EVENT],
+    ),
+];
+
 #[test]
 fn phases_are_those_of_the_state_machine(rt: HostRuntime) -> Result<(), Fail> {
     let alloc = rt.alloc();
@@ -499,6 +632,11 @@ fn phases_are_those_of_the_state_machine(rt: HostRuntime) -> Result<(), Fail> {
     let wrong = first_wrong(alloc, &shape, &PATHS, &PROBES, &NEVER);
     shape.has_event_mode = true;
     let wrong_event = first_wrong(alloc, &shape, &EVENT_PATHS, &EVENT_PROBES, &[INSTANTIATE]);
+    assert_eq!(rt; (wrong, wrong_event), (None, None));
+    shape.can_serialize_state = true;
+    let wrong_event = first_wrong(alloc, &shape, &BYTE_EVENT_PATHS, &BYTE_PROBES, &NO_BYTES);
+    shape.has_event_mode = false;
+    let wrong = first_wrong(alloc, &shape, &BYTE_PATHS, &BYTE_PROBES, &NO_BYTES);
     assert_eq!(rt; (wrong, wrong_event), (None, None));
     Ok(())
 }

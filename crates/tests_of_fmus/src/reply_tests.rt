@@ -1,6 +1,7 @@
 //! What replies are worth: ends of steps, words, kinds of calls, refusals, intervals and shifts.
 use crate::paths::{
-    EMPTY, ENTER, EXIT, FREE, GET, INSTANTIATE, RESTORE, SAVE, SET, STEP, TERMINATE, shape_of,
+    DESERIALIZE, EMPTY, ENTER, EXIT, FREE, GET, INSTANTIATE, RESTORE, SAVE, SERIALIZE, SET, STEP,
+    TERMINATE, shape_of,
 };
 use fmi_calls::{
     BadStatus, Call, Content, Grade, Interval, Kind, Phase, Reply, Status, grade, valid,
@@ -37,7 +38,7 @@ static STATUSES: [(BadStatus, Status); 3] = [
 ];
 
 // A call, what its reply carries, and the kind of both with its number and name.
-static KINDS: [(Call, Content, Kind, u8, &str); 18] = [
+static KINDS: [(Call, Content, Kind, u8, &str); 20] = [
     (
         INSTANTIATE,
         Content::Instantiate { batches: false },
@@ -144,6 +145,20 @@ static KINDS: [(Call, Content, Kind, u8, &str); 18] = [
         Kind::FreeInstance,
         18,
         "FreeInstance",
+    ),
+    (
+        SERIALIZE,
+        Content::Serialize { length: 7 },
+        Kind::Serialize,
+        20,
+        "Serialize",
+    ),
+    (
+        DESERIALIZE,
+        Content::Deserialize,
+        Kind::Deserialize,
+        21,
+        "Deserialize",
     ),
 ];
 

@@ -1,5 +1,5 @@
 //! Starts of peers that fail: those of a list, those of unknown machines, and scripts and rooms that come to their end.
-use crate::driving::{INITIALIZE, INSTANTIATE, counter_shape, shape};
+use crate::driving::{INITIALIZE, INSTANTIATE, counter_shape, is_plain, shape};
 use bench_fmus::{Bench, BuiltIn, Script, Scripts};
 use fmi_calls::{Call, Content, Reply, permitted};
 use fmu_peer::{Exchange, Peer, PeerFault, Spawner, StartFault};
@@ -43,7 +43,7 @@ where
 }
 
 fn ask<L: Peer>(rt: &impl Abort, peer: &mut L, call: Call) -> Result<Reply, PeerFault> {
-    assert!(rt; permitted(peer.shape(), peer.phase(), &call));
+    assert!(rt; is_plain(&call) && permitted(peer.shape(), peer.phase(), &call));
     peer.call(&call)
 }
 

@@ -4,7 +4,8 @@ use std::alloc::{AllocError, Global};
 use system_model::Plan;
 
 // What arguments ask for: the directory, and the resolution, start, step, stop and limit; of a check the resolution alone. Of
-// the run of a generated system the seed, and the numbers of components and workers.
+// the run of a generated system the seed, and the numbers of components and workers; of a run that is to be held the point,
+// too.
 #[derive(Clone, Copy, PartialEq)]
 enum Asked<'a> {
     One(&'a str, [u64; 5]),
@@ -12,12 +13,14 @@ enum Asked<'a> {
     Check(&'a str, u64),
     TraceCheck(&'a str, &'a str),
     Bench(u32, usize, u32),
+    Checkpoint(&'a str, [u64; 5], u64),
+    Resume(&'a str, &'a str),
 }
 
-use Asked::{Bench, Check, One, Run, TraceCheck};
+use Asked::{Bench, Check, Checkpoint, One, Resume, Run, TraceCheck};
 
 // Arguments between bars, and what they ask for.
-static LINES: [(&str, Asked<'static>); 37] = [
+static LINES: [(&str, Asked<'static>); 46] = [
     // All is right.
     (
         "one|d|--resolution|10|--step|3|--stop|7",
@@ -143,10 +146,60 @@ static LINES: [(&str, Asked<'static>); 37] = [
     ("bench|7|256|--workers|8", Bench(7, 256, 8)),
     ("bench|--workers|3|1|2", Bench(1, 2, 3)),
     ("bench|7|--workers=64|256", Bench(7, 256, 64)),
+    (
+        "checkpoint|d|--resolution|10|--step|3|--stop|7|--at|0",
+        Checkpoint("d", [10, 0, 3, 7, 100], 0),
+    ),
+    (
+        "checkpoint|--at=6|d|--resolution|10|--step|3|--stop|7",
+        Checkpoint("d", [10, 0, 3, 7, 100], 6),
+    ),
+    (
+        "checkpoint|d|--start|5|--at|5|--resolution|10|--step|3|--stop|7|--max-iterations|9",
+        Checkpoint("d", [10, 5, 3, 7, 9], 5),
+    ),
+    (
+        "checkpoint|checkpoint|--resolution|1|--step|1|--stop|4611686018427387904|--at|4611686018427387903",
+        Checkpoint(
+            "checkpoint",
+            [1, 0, 1, 4611686018427387904, 100],
+            4611686018427387903,
+        ),
+    ),
+    ("resume|d|k", Resume("d", "k")),
+    ("resume|resume|/tmp/a k", Resume("resume", "/tmp/a k")),
+    (
+        "resume|--workers|64|d|--link=2|k|--host|h",
+        Resume("d", "k"),
+    ),
+    ("resume|d|--host=builtin|a=b", Resume("d", "a=b")),
+    ("resume|./-d|./-k", Resume("./-d", "./-k")),
 ];
 
 // Arguments between bars that are no line.
-static OTHERS: [&str; 160] = [
+static OTHERS: [&str; 181] = [
+    // A point isn't of the run, or is at its stop; and arguments of the two parts of a run that are missing or too many.
+    "checkpoint|d|--resolution|10|--step|3|--stop|7",
+    "checkpoint|d|--resolution|10|--step|3|--stop|7|--at|7",
+    "checkpoint|d|--resolution|10|--step|3|--stop|7|--at|8",
+    "checkpoint|d|--resolution|10|--step|3|--stop|7|--start|5|--at|4",
+    "checkpoint|d|--resolution|10|--step|3|--stop|7|--start|7|--at|7",
+    "checkpoint|d|--resolution|10|--step|3|--stop|7|--at|4611686018427387905",
+    "checkpoint|d|--resolution|10|--step|3|--stop|7|--at|01",
+    "checkpoint|d|--resolution|10|--step|3|--stop|7|--at|-1",
+    "checkpoint|d|--resolution|10|--step|3|--stop|7|--at|1|--at|1",
+    "checkpoint|d|k|--resolution|10|--step|3|--stop|7|--at|1",
+    "checkpoint|d|--step|3|--stop|7|--at|1",
+    "run|d|--resolution|10|--step|3|--stop|7|--at|1",
+    "resume",
+    "resume|d",
+    "resume|d|k|k",
+    "resume|d|k|--resolution|10",
+    "resume|d|k|--at|1",
+    "resume|d|k|--max-iterations|1",
+    "resume|d|k|--workers|65",
+    "resume|d|k|--link|3",
+    "resume|d|",
     // An argument is missing.
     "",
     "one",
@@ -322,7 +375,13 @@ static OTHERS: [&str; 160] = [
 ];
 
 // Arguments between bars, and the host that they ask for.
-static HOSTS: [(&str, &str); 9] = [
+static HOSTS: [(&str, &str); 12] = [
+    ("resume|d|k", "builtin"),
+    ("resume|d|k|--host|h", "h"),
+    (
+        "checkpoint|d|--resolution|10|--step|3|--stop|7|--at|1|--host=h",
+        "h",
+    ),
     ("one|d|--resolution|10|--step|3|--stop|7", "builtin"),
     ("run|d|--resolution|10|--step|3|--stop|7", "builtin"),
     ("one|d|--resolution|10|--step|3|--stop|7|--host|h", "h"),
@@ -365,7 +424,13 @@ static OTHER_HOSTS: [&str; 14] = [
 ];
 
 // Arguments between bars, and the number of workers that they ask for.
-static WORKERS: [(&str, u32); 6] = [
+static WORKERS: [(&str, u32); 9] = [
+    ("resume|d|k", 1),
+    ("resume|d|k|--workers|64", 64),
+    (
+        "checkpoint|d|--resolution|10|--step|3|--stop|7|--at|1|--workers=2",
+        2,
+    ),
     ("one|d|--resolution|10|--step|3|--stop|7", 1),
     ("run|d|--resolution|10|--step|3|--stop|7", 1),
     ("one|d|--resolution|10|--step|3|--stop|7|--workers|1", 1),
@@ -375,7 +440,13 @@ static WORKERS: [(&str, u32); 6] = [
 ];
 
 // Arguments between bars, and the version of the link that they ask for.
-static LINKS: [(&str, u32); 5] = [
+static LINKS: [(&str, u32); 8] = [
+    ("resume|d|k", 1),
+    ("resume|d|k|--link|2", 2),
+    (
+        "checkpoint|d|--resolution|10|--step|3|--stop|7|--at|1|--link=2",
+        2,
+    ),
     ("one|d|--resolution|10|--step|3|--stop|7", 1),
     ("one|d|--resolution|10|--step|3|--stop|7|--link|1", 1),
     ("run|d|--resolution|10|--step|3|--stop|7|--link=2", 2),
@@ -441,6 +512,12 @@ fn read(alloc: Global, words: &[String]) -> Result<Asked<'_>, WordsFault> {
         },
         Request::TraceCheck(options) => TraceCheck(options.directory, options.file),
         Request::Bench(options) => Bench(options.seed, options.components, options.workers),
+        Request::Checkpoint(options) => Checkpoint(
+            options.run.directory,
+            counts_of(options.run.plan),
+            options.at,
+        ),
+        Request::Resume(options) => Resume(options.directory, options.file),
     };
     Ok(asked)
 }
@@ -450,6 +527,8 @@ fn host_of<'a>(request: Request<'a>) -> Option<&'a str> {
         Request::System(CommandLine::One(options) | CommandLine::Run(options)) => {
             Some(options.host)
         }
+        Request::Checkpoint(options) => Some(options.run.host),
+        Request::Resume(options) => Some(options.host),
         Request::System(CommandLine::Check(_)) | Request::TraceCheck(_) | Request::Bench(_) => None,
     }
 }
@@ -459,6 +538,8 @@ fn workers_of(request: Request<'_>) -> Option<u32> {
         Request::System(CommandLine::One(options) | CommandLine::Run(options)) => {
             Some(options.plan.workers)
         }
+        Request::Checkpoint(options) => Some(options.run.plan.workers),
+        Request::Resume(options) => Some(options.workers),
         Request::System(CommandLine::Check(_)) | Request::TraceCheck(_) | Request::Bench(_) => None,
     }
 }
@@ -503,6 +584,8 @@ fn link_of(request: Request<'_>) -> Option<u32> {
         Request::System(CommandLine::One(options) | CommandLine::Run(options)) => {
             Some(options.plan.link)
         }
+        Request::Checkpoint(options) => Some(options.run.plan.link),
+        Request::Resume(options) => Some(options.link),
         Request::System(CommandLine::Check(_)) | Request::TraceCheck(_) | Request::Bench(_) => None,
     }
 }

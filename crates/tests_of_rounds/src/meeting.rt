@@ -55,6 +55,8 @@ impl Peer for Meeting {
 
     ghost ignores_slot = { λ m. tt };
 
+    ghost unpacks = { λ m. tt };
+
     ghost lawful = { λ m. tt };
 
     fn shape(&self) -> &Shape {
@@ -70,5 +72,13 @@ impl Peer for Meeting {
             self.meet();
         }
         self.script.call(call)
+    }
+
+    fn serialize(&mut self, into: &mut Vec<u8>) -> Result<Reply, PeerFault> {
+        self.script.serialize(into)
+    }
+
+    fn deserialize(&mut self, call: &Call, bytes: &[u8]) -> Result<Reply, PeerFault> {
+        self.script.deserialize(call, bytes)
     }
 }

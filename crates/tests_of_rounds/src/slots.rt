@@ -4,7 +4,7 @@ ghost use Rattle.fmi_calls.specs.Permission.{Permitted};
 ghost use Rattle.fmi_calls.specs.declared.phase.InstanceState.TheVariants as P;
 ghost use Rattle.parallel_step.specs.Round.{CanBeSent, CanWork};
 
-use fmi_calls::{Call, permitted};
+use fmi_calls::{Call, InstanceState, permitted};
 use fmu_peer::{Fmu, Held, Initializing, Instantiated, Job, Peer, Running, Slot, Stepping};
 use parallel_step::{first_bad, round};
 use sim_base::SourceId;
@@ -110,7 +110,9 @@ fn can_be_sent<L: Peer>(slot: &Slot<L>, call: &Call) -> bool
 {
     match &slot.held {
         Held::Stepping(fmu) => {
-            is_permitted(&fmu.peer, call) && slot.saved.is_some() == fmu.peer.phase().slot.is_full
+            is_permitted(&fmu.peer, call)
+                && matches!(fmu.peer.phase().state, InstanceState::Step)
+                && slot.saved.is_some() == fmu.peer.phase().slot.is_full
         }
         _ => false,
     }

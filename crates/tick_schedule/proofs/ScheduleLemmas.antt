@@ -14,7 +14,7 @@ use Rattle.tick_schedule.specs.declared.clock.ClockState.{ClockState}
 use Rattle.tick_schedule.specs.declared.clock.ClockState.TheVariants.{Unasked, Periodic, Countdown}
 use Rattle.tick_schedule.specs.Cost.{IsLogarithmic, TakesTurns}
 use Rattle.tick_schedule.specs.Points.{HasCount, IsKept, IsNear, IsSoundState, entries, event_state, past, point_of}
-use Rattle.tick_schedule.specs.Timetable.{EventAt, HasNext, IsSoundClock, IsToTick, TicksAt, Timetable, after_tick, first_state, resumed_in, resumed_state, ticks_up_to}
+use Rattle.tick_schedule.specs.Timetable.{EventAt, HasNext, IsSoundClock, IsToTick, TicksAt, Timetable, after_tick, first_state, resumed_in, resumed_state, ticks_up_to, timing_in}
 use Rattle.tick_schedule.proofs.PointLemmas.{can_count, is_near_after, is_sound_after, point_below_tick, sound_first, ticks_at_point}
 
 -- such places alone
@@ -394,3 +394,9 @@ no_tick_told start stop clocks events points clock p kept within is = at (nat_le
         let past : stop < p = leb-false p stop e in
         let before : point ≤ stop = ticks.0 in
         omega (arith, least, past, before, is)
+
+-- the interval and the shift that are told of a Clock are within bounds
+pub timing_bounds : (state : ClockState) → IsSoundState state → IfSome (timing_in state) (λ (timing : ℕ × ℕ). (0 < timing.0) × (timing.0 ≤ 2 ^ 126) × (timing.1 ≤ 2 ^ 126))
+timing_bounds Unasked sound = tt
+timing_bounds (Periodic interval shift ticks) sound = sound
+timing_bounds (Countdown armed) sound = tt

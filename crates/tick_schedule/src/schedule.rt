@@ -129,8 +129,10 @@ impl Schedule {
     /// The interval and the shift that it keeps of a periodic Clock.
     pub fn timing(&self, clock: usize) -> Option<(u128, u128)>
         requires { clock < length self.now.clocks }
-        ensures { (state : ClockState) → slice_get self.now.clocks clock ≡ Some state →
+        ensures timing { (state : ClockState) → slice_get self.now.clocks clock ≡ Some state →
             result ≡ timing_in state }
+        ensures bounds { IfSome result (λ timing. (0 < timing.0) × (timing.0 ≤ 2 ^ 126) ×
+            (timing.1 ≤ 2 ^ 126)) }
     {
         self.clocks[clock].timing()
     }

@@ -21,6 +21,10 @@ pub record SumsUp (part rest whole : ℕ) : Type 0 where
   pub whole_is : part + rest ≡ whole
   pub fits : IsCount part
 
+-- a part of a sum and the rest make the whole
+pub record PartOf (part rest whole : ℕ) : Type 0 where
+  pub whole_is : part + rest ≡ whole
+
 -- ---- fields
 
 pub length-decimal : (n : ℕ) → n < 2 ^ 64 → length (decimal n) ≤ 20
@@ -67,7 +71,7 @@ length-value_line k value small fits =
     grind (arith, common_steps)
 
 -- a line stands before the others
-length-lines : (line : List ℕ) (lines : List (List ℕ)) → length (lines_text (line ∷ lines)) ≡ length (ended line) + length (lines_text lines)
+pub length-lines : (line : List ℕ) (lines : List (List ℕ)) → length (lines_text (line ∷ lines)) ≡ length (ended line) + length (lines_text lines)
 length-lines line lines = ap (λ (text : List ℕ). length text) (sym (append_assoc line (10 ∷ []) (lines_text lines))) ∙ length-append (ended line) (lines_text lines)
 
 -- where a line and the others have room, they have both

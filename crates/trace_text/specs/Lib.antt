@@ -1,2 +1,3 @@
+pub mod Holding
 pub mod Lines
 pub mod Room

@@ -70,7 +70,7 @@ pub(crate) fn component_name(components: &[Component], id: CompId) -> &str
 }
 
 // The name of a type in FMI 3.0.
-fn type_name(kind: PortType) -> &'static str
+pub(crate) fn type_name(kind: PortType) -> &'static str
     ensures { result.now ≡ type_name kind }
 {
     match kind {

@@ -4,10 +4,12 @@
 mod append;
 mod ending;
 mod header;
+mod holding;
 mod instant;
 mod room;
 
 pub use ending::put_end;
 pub use header::put_header;
+pub use holding::passing_component;
 pub use instant::put_instant;
 pub use room::room_for;

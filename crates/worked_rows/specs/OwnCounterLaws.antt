@@ -7,10 +7,10 @@ use Rattle.fmi_calls.specs.declared.call.Call.TheVariants as C
 use Rattle.fmi_calls.specs.declared.call.Reply.{Reply}
 use Rattle.fmi_calls.specs.declared.phase.Phase.{Phase}
 use Rattle.fmu_peer.specs.declared.peer.PeerFault.{PeerFault}
-use Rattle.fmu_peer.specs.Machine.{IgnoresSlot, IsInPhase, IsLawful, IsMachineOf, Machine, MachineState, after, changes_mode, is_discard}
+use Rattle.fmu_peer.specs.Machine.{IgnoresSlot, IsInPhase, IsLawful, IsMachineOf, Machine, MachineState, UnpacksWell, after, changes_mode, is_discard}
 use Rattle.fmu_peer.specs.View.{AnswersAs, TellsItsPhase}
 use Rattle.bench_fmus.specs.BuiltIn.{machine_of}
-use Rattle.bench_fmus.specs.Laws.{answers_alike, is_lawful, is_machine}
+use Rattle.bench_fmus.specs.Laws.{answers_alike, is_lawful, is_machine, unpacks_well}
 use Rattle.bench_fmus.specs.Models.{behaviour_of}
 use Rattle.worked_rows.specs.declared.own_counter.OwnCounter.{OwnCounter}
 use Rattle.worked_rows.specs.OwnCounter.{own_answer, own_look, own_machine, own_view}
@@ -38,6 +38,8 @@ no_mode numbers C.Restore changes = refl
 no_mode numbers C.Free changes = refl
 no_mode numbers C.Terminate changes = refl
 no_mode numbers C.FreeInstance changes = refl
+no_mode numbers C.Serialize changes = refl
+no_mode numbers (C.Deserialize length point stop) changes = refl
 
 -- a call that leaves the state
 pub unmoved : (m : Machine) (s : MachineState) (call : Call) (reply : Reply) →
@@ -60,6 +62,8 @@ unmoved m s C.Restore reply is = absurd (cc)
 unmoved m s C.Free reply is = absurd (cc)
 unmoved m s C.Terminate reply is = absurd (cc)
 unmoved m s C.FreeInstance reply is = absurd (cc)
+unmoved m s C.Serialize reply is = absurd (cc)
+unmoved m s (C.Deserialize length point stop) reply is = absurd (cc)
 
 -- its states are those of the other machine
 after_same : (m : Machine) (s : MachineState) (call : Call) →
@@ -82,6 +86,8 @@ after_same m s C.Restore = refl
 after_same m s C.Free = refl
 after_same m s C.Terminate = refl
 after_same m s C.FreeInstance = refl
+after_same m s C.Serialize = refl
+after_same m s (C.Deserialize length point stop) = refl
 
 -- ---- the laws, of any machine
 
@@ -108,6 +114,9 @@ machine_alike m alike = record {
       (alike.looks call s slot other);
   changes = alike.changes;
 }
+
+machine_unpacks : (m : Machine) → UnpacksWell m → UnpacksWell (own_machine m)
+machine_unpacks m well = record { outside = well.outside; fills = well.fills }
 
 machine_lawful : (shape : Shape) (m : Machine) → IsLawful shape m → IsLawful shape (own_machine m)
 machine_lawful shape m lawful = λ call output s xs ys looked found mode agree.
@@ -148,6 +157,9 @@ own_is p = machine_is p.inner.book.shape (base p) (is_machine p.inner.model p.in
 
 pub own_alike : (p : OwnCounter) → IgnoresSlot (own_machine (base p))
 own_alike p = machine_alike (base p) (answers_alike p.inner.model p.inner.book.shape)
+
+pub own_unpacks : (p : OwnCounter) → UnpacksWell (own_machine (base p))
+own_unpacks p = machine_unpacks (base p) (unpacks_well p.inner.model p.inner.book.shape)
 
 pub own_lawful : (p : OwnCounter) → IsLawful p.inner.book.shape (own_machine (base p))
 own_lawful p =

@@ -103,6 +103,8 @@ answer counts n C.Restore = Done false A.Restore
 answer counts n C.Free = Done false A.Free
 answer counts n C.Terminate = Done false A.Terminate
 answer counts n C.FreeInstance = Done false A.FreeInstance
+answer counts n C.Serialize = Refused K.Serialize Error
+answer counts n (C.Deserialize length point stop) = Refused K.Deserialize Error
 
 abbrev pub ticker : Counts → Machine
 ticker counts = record {
@@ -116,6 +118,8 @@ ticker counts = record {
   initializing = λ numbers. is_in_initialization (numbers_in numbers);
   look = λ s call. answer counts (numbers_in s.numbers) call;
   change = λ s call. listed (numbers_after counts (numbers_in s.numbers) s.values call);
+  packing = record { pack = λ kept. []; unpack = λ bytes. None };
+  look_at = λ s call bytes. Refused K.Deserialize Error;
 }
 
 -- ---- what a peer tells

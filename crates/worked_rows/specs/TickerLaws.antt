@@ -8,7 +8,7 @@ use Rattle.fmi_calls.specs.declared.call.Call.TheVariants as C
 use Rattle.fmi_calls.specs.declared.call.Reply.{Reply}
 use Rattle.fmu_peer.specs.declared.peer.PeerFault.{PeerFault}
 use Rattle.fmu_peer.specs.declared.talk_room.TalkRoom.{TalkRoom}
-use Rattle.fmu_peer.specs.Machine.{IgnoresSlot, IsLawful, IsMachineOf, MachineState, changes_mode, is_discard}
+use Rattle.fmu_peer.specs.Machine.{IgnoresSlot, IsLawful, IsMachineOf, MachineState, UnpacksWell, changes_mode, is_discard}
 use Rattle.fmi_calls.specs.Permission.{is_input_clock}
 use Rattle.worked_rows.specs.declared.counted.Counts.{Counts}
 use Rattle.worked_rows.specs.Ticker.{answer, clocks_of, first_values, is_in_initialization, numbers_after, numbers_in, references_of, ticker}
@@ -34,6 +34,8 @@ keeps_mark counts s C.Restore other = refl
 keeps_mark counts s C.Free other = refl
 keeps_mark counts s C.Terminate other = refl
 keeps_mark counts s C.FreeInstance other = refl
+keeps_mark counts s C.Serialize other = refl
+keeps_mark counts s (C.Deserialize length point stop) other = refl
 
 pub never_discards : (counts : Counts) (s : MachineState) (call : Call) → changes_mode call ≡ true →
     is_discard (answer counts (numbers_in s.numbers) call) ≡ false
@@ -55,10 +57,19 @@ never_discards counts s C.Restore changes = absurd (cc)
 never_discards counts s C.Free changes = absurd (cc)
 never_discards counts s C.Terminate changes = absurd (cc)
 never_discards counts s C.FreeInstance changes = absurd (cc)
+never_discards counts s C.Serialize changes = absurd (cc)
+never_discards counts s (C.Deserialize length point stop) changes = absurd (cc)
 
 pub ticker_alike : (counts : Counts) → IgnoresSlot (ticker counts)
 ticker_alike counts =
     record { looks = λ call s slot other. refl; changes = λ call s slot other. refl }
+
+-- no bytes are those of a state
+pub ticker_unpacks : (counts : Counts) → UnpacksWell (ticker counts)
+ticker_unpacks counts = record {
+  outside = λ bytes kept is. absurd (cc);
+  fills = λ s call bytes is_warning is. absurd (cc);
+}
 
 -- no reply reads a value
 pub ticker_lawful : (counts : Counts) (shape : Shape) → IsLawful shape (ticker counts)

@@ -3,7 +3,8 @@
 ghost use Rattle.std.specs.Prelude.{◌≡◌, ◌≤◌, ◌+◌, false};
 ghost use Rattle.fmi_calls.specs.Permission.{Permitted};
 ghost use Rattle.fmu_peer.specs.Machine.{after, written};
-ghost use Rattle.fmi_calls.specs.declared.call.Reply.TheVariants.{Done};
+ghost use Rattle.fmi_calls.specs.declared.call.BadStatus.TheVariants.{Error};
+ghost use Rattle.fmi_calls.specs.declared.call.Reply.TheVariants.{Done, Refused};
 ghost use Rattle.worked_rows.specs.Ticker.{answer, asks_again, entered, one_more, references_of, shown, state_in, ticker, told, updated, values_in};
 
 use clock_fraction::Fraction;
@@ -96,10 +97,7 @@ fn reply_to_get(counted: &Counted, reference: u32) -> Reply
             },
         }
     } else {
-        Reply::Refused {
-            kind: Kind::Get,
-            status: BadStatus::Error,
-        }
+        refusal(Kind::Get)
     }
 }
 
@@ -117,6 +115,16 @@ fn done_reply(content: Content) -> Reply
     Reply::Done {
         is_warning: false,
         content,
+    }
+}
+
+/// What it can't do.
+pub(crate) fn refusal(kind: Kind) -> Reply
+    ensures { result ≡ Refused kind Error }
+{
+    Reply::Refused {
+        kind,
+        status: BadStatus::Error,
     }
 }
 
@@ -164,6 +172,8 @@ pub(crate) fn answer(
         Call::Save => done_reply(Content::Save),
         Call::Restore => done_reply(Content::Restore),
         Call::Free => done_reply(Content::Free),
+        Call::Serialize => refusal(Kind::Serialize),
+        Call::Deserialize { .. } => refusal(Kind::Deserialize),
         Call::Terminate => done_reply(Content::Terminate),
         Call::FreeInstance => done_reply(Content::FreeInstance),
     }

@@ -68,7 +68,7 @@ fn own_answer(numbers: &Numbers, call: &Call) -> Option<Reply>
 
 impl Peer for OwnCounter {
     ghost use Rattle.fmu_peer.specs.View.{Asked};
-    ghost use Rattle.worked_rows.specs.OwnCounterLaws.{own_alike, own_in_phase, own_is, own_lawful};
+    ghost use Rattle.worked_rows.specs.OwnCounterLaws.{own_alike, own_in_phase, own_is, own_lawful, own_unpacks};
 
     ghost view = { own_view };
 
@@ -77,6 +77,8 @@ impl Peer for OwnCounter {
     ghost in_phase = { own_in_phase };
 
     ghost ignores_slot = { own_alike };
+
+    ghost unpacks = { own_unpacks };
 
     ghost lawful = { own_lawful };
 
@@ -93,5 +95,13 @@ impl Peer for OwnCounter {
             Some(reply) => self.inner.book.keep(call, Ok(reply)),
             None => self.inner.call(call),
         }
+    }
+
+    fn serialize(&mut self, into: &mut Vec<u8>) -> Result<Reply, PeerFault> {
+        self.inner.serialize(into)
+    }
+
+    fn deserialize(&mut self, call: &Call, bytes: &[u8]) -> Result<Reply, PeerFault> {
+        self.inner.deserialize(call, bytes)
     }
 }

@@ -3,8 +3,8 @@ ghost use Rattle.std.specs.Prelude.{◌≡◌, None};
 ghost use Rattle.fmu_peer.specs.Machine.{IsInPhase, IsMachineOf};
 ghost use Rattle.worked_rows.specs.Ticker.{state_in, ticker};
 
-use crate::counted::{Counted, Counts, answer, go_on};
-use fmi_calls::{Call, Phase, Reply};
+use crate::counted::{Counted, Counts, answer, go_on, refusal};
+use fmi_calls::{Call, Kind, Phase, Reply};
 use fmu_peer::{Peer, PeerFault, TalkBook};
 use std::alloc::{AllocError, Global};
 use value_types::Shape;
@@ -50,7 +50,7 @@ impl Ticker {
 impl Peer for Ticker {
     ghost use Rattle.fmu_peer.specs.View.{Asked};
     ghost use Rattle.worked_rows.specs.TickerView.{ticker_view};
-    ghost use Rattle.worked_rows.specs.TickerLaws.{ticker_alike, ticker_lawful};
+    ghost use Rattle.worked_rows.specs.TickerLaws.{ticker_alike, ticker_lawful, ticker_unpacks};
 
     ghost view = { ticker_view };
 
@@ -59,6 +59,8 @@ impl Peer for Ticker {
     ghost in_phase = { λ p. p.in_phase };
 
     ghost ignores_slot = { λ p. ticker_alike p.counts };
+
+    ghost unpacks = { λ p. ticker_unpacks p.counts };
 
     ghost lawful = { λ p. ticker_lawful p.counts p.book.shape };
 
@@ -80,5 +82,17 @@ impl Peer for Ticker {
         );
         go_on(self.counts, &mut self.counted, &mut self.saved, call);
         self.book.keep(call, Ok(reply))
+    }
+
+    // It can't tell its state in bytes.
+    fn serialize(&mut self, _into: &mut Vec<u8>) -> Result<Reply, PeerFault> {
+        self.book
+            .keep(&Call::Serialize, Ok(refusal(Kind::Serialize)))
+    }
+
+    // Nor can it take one from them.
+    fn deserialize(&mut self, call: &Call, _bytes: &[u8]) -> Result<Reply, PeerFault> {
+        self.saved = None;
+        self.book.keep(call, Ok(refusal(Kind::Deserialize)))
     }
 }

@@ -9,10 +9,11 @@ use Rattle.value_types.specs.declared.shape.Knowns.TheVariants.{Listed}
 use Rattle.value_types.specs.declared.shape.Shape.{Shape}
 use Rattle.fmi_calls.specs.declared.call.Content.TheVariants as A
 use Rattle.fmi_calls.specs.declared.call.Reply.TheVariants.{Done}
-use Rattle.fmu_peer.specs.Machine.{IgnoresSlot, IsLawful, IsMachineOf, Machine}
+use Rattle.fmu_peer.specs.Machine.{IgnoresSlot, IsLawful, IsMachineOf, Machine, UnpacksWell}
 use Rattle.bench_fmus.specs.BuiltIn.{machine_of}
 use Rattle.bench_fmus.specs.Counter.{counter}
-use Rattle.bench_fmus.specs.Laws.{machine_is as counter_is}
+use Rattle.bench_fmus.specs.declared.model.Model.TheVariants.{Counter}
+use Rattle.bench_fmus.specs.Laws.{machine_is as counter_is, unpacks_well as well}
 
 abbrev pub u : Variable
 u = record { name = codes "u"; aliases = []; reference = 1; kind = Some Int32; causality = V.Input; clocks = []; start = None; can_be_set_again = true }
@@ -54,6 +55,12 @@ machine_is = record {
 
 pub answers_alike : IgnoresSlot machine
 answers_alike = record { looks = λ call s slot other. refl; changes = λ call s slot other. refl }
+
+pub unpacks_well : UnpacksWell machine
+unpacks_well = record {
+  outside = (well Counter shape).outside;
+  fills = (well Counter shape).fills;
+}
 
 pub is_lawful : IsLawful shape machine
 is_lawful = λ call output s xs ys looked found mode agree. refl

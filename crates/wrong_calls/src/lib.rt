@@ -11,4 +11,7 @@ pub use calls::{go_on, is_permitted, worth_of};
 pub use frames::{put_frame, take_answer};
 pub use laws::machine_laws;
 pub use links::call_over_wire;
-pub use machines::{call_machine, call_script, retire_machine, start_machine};
+pub use machines::{
+    call_machine, call_script, deserialize_machine, retire_machine, serialize_machine,
+    start_machine,
+};

@@ -22,4 +22,4 @@ returns-clause-ready g c =
 
 pub returns-clause-goes : goal.returns-clause-goes
 returns-clause-goes g c count =
-    by_stage c.args.experiment.now Made (λ x. Configured) (λ x. refl) _ _ count c.requires.shapes_are (λ ss. binding c.args.experiment.now.bound) nothing refl (λ x log done is. Binds _ log) c.set_parameters.result c.set_parameters.ensures.sets
+    by_stage c.args.experiment.now Made (λ x. Configured) (λ x. refl) (λ x extent. tt) _ _ count c.requires.shapes_are (λ ss. binding c.args.experiment.now.bound) nothing refl (λ x log done is. Binds _ log) c.set_parameters.result c.set_parameters.ensures.sets

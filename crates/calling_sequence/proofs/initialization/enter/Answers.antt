@@ -15,4 +15,4 @@ returns-clause-ready g c =
 pub returns-clause-goes : goal.returns-clause-goes
 returns-clause-goes g c count =
     let plan = c.args.experiment.now.plan in
-    by_stage c.args.experiment.now Configured (λ x. Entered) (λ x. refl) _ _ count c.requires.shapes_are (λ ss. to_each (λ shape. C.EnterInitialization plan.start plan.stop) ss) nothing refl (λ x log done is. Enters _ log) c.each.result c.each.ensures.stage
+    by_stage c.args.experiment.now Configured (λ x. Entered) (λ x. refl) (λ x extent. tt) _ _ count c.requires.shapes_are (λ ss. to_each (λ shape. C.EnterInitialization plan.start plan.stop) ss) nothing refl (λ x log done is. Enters _ log) c.each.result c.each.ensures.stage

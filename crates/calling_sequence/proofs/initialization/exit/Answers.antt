@@ -37,5 +37,5 @@ returns-clause-goes g c =
     let none = with_items_is c.args.buffers.now.values c.clear.new.values (c.clear.auto.values ∙ c.deref_mut.ensures.len) ∙ no_values_are e.system (length c.deref_mut.result.now) c.clear.new.values c.clear.ensures len in
     let first : List (Option ℤ) → List (Option ℕ) → Spot = λ vs es. record { t = e.plan.start; n = 0; values = vs; timers = timers_in c.args.buffers.now.schedule; events = es } in
     let same = ap (λ (vs : List (Option ℤ)). first vs c.args.buffers.now.schedule.events) none ∙ ap (λ (es : List (Option ℕ)). first (no_values e.system) es) c.requires.none in
-    by_stage e (timed c.args.buffers.now) _ (λ x. refl) _ _ _ c.requires.ready.shapes_are (λ ss. to_each (λ shape. C.ExitInitialization) ss) nothing refl
+    by_stage e (timed c.args.buffers.now) _ (λ x. refl) (λ x extent. tt) _ _ _ c.requires.ready.shapes_are (λ ss. to_each (λ shape. C.ExitInitialization) ss) nothing refl
     (λ x log done is. Exits _ _ log _ _ same (begins e.system e.plan _ e.plan.start 0 true _ (ap length none ∙ length-map e.system.ports _) t.starts t.stands refl)) c.each.result c.each.ensures.stage

@@ -25,4 +25,4 @@ returns-clause-goes g c =
     let rules = initially e.system in
     let order = numbers e.system.initial_order in
     let found = with_items_is c.args.buffers.now.values c.initialize.new.values (c.initialize.auto.values ∙ c.deref_mut.ensures.len) in
-    by_walk e Entered _ refl _ _ _ rules (no_values e.system) order _ refl (λ log. Finds _ log) c.initialize.result (walks_as e.system rules order _ _ c.initialize.result _ _ _ _ refl (sym found) c.initialize.ensures.walks)
+    by_walk e Entered _ refl (λ extent. tt) _ _ _ rules (no_values e.system) order _ refl (λ log. Finds _ log) c.initialize.result (walks_as e.system rules order _ _ c.initialize.result _ _ _ _ refl (sym found) c.initialize.ensures.walks)

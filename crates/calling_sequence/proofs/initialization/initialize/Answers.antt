@@ -16,7 +16,7 @@ returns-in-Some-clause-crosses g c v olds before h =
     let e = c.args.experiment.now in
     let values = c.find_values.new.buffers.values.items in
     ends e olds before (Found values) _ _ _ (c.in-Ok.ensures.goes v olds before h) (E.Range c.in-Some.lost e.plan.start)
-    (LostAtFirst values c.in-Some.lost (subst (λ (vs : List (Option ℤ)). IsFirstLost (is_bad_initially e.system vs) e.system.ports vs c.in-Some.lost) c.deref.ensures.value c.in-Some.ensures))
+    (LostAtFirst values c.in-Some.lost (subst (λ (vs : List (Option ℤ)). IsFirstLost (is_bad_initially e.system vs) e.system.ports vs c.in-Some.lost) c.deref.ensures.value c.in-Some.ensures)) tt
 
 pub leave-requires-clause-kept : goal.leave-requires-clause-kept
 leave-requires-clause-kept g c κs lives =

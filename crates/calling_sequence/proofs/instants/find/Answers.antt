@@ -61,6 +61,6 @@ returns-clause-goes g c =
     let rules = in_instant (is_due_at b.schedule c.args.t) (c.args.n == 0) in
     let order = numbers e.system.instant_order in
     let found = with_items_is b.values c.instant.new.values (c.instant.auto.values ∙ c.deref_mut.ensures.len) in
-    by_walk e (before_instant c.args.t c.args.n b) _ refl _ _ b.instants rules b.values.items order _ refl
+    by_walk e (before_instant c.args.t c.args.n b) _ refl (λ extent. tt) _ _ b.instants rules b.values.items order _ refl
     (λ log. Reads (spot c.args.t c.args.n b) _ _ log (ap length found ∙ c.instant.auto.values ∙ ap length c.deref_mut.ensures.value ∙ c.requires.timed.places)) c.instant.result
     (walks_as e.system rules order _ _ c.instant.result _ _ _ _ c.deref_mut.ensures.value (sym found) c.instant.ensures.walks)

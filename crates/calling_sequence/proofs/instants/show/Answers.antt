@@ -15,7 +15,7 @@ use Rattle.event_iteration.specs.Clocks.{timers_in}
 use Rattle.event_iteration.specs.Intervals.{is_some_armed}
 use Rattle.event_iteration.specs.Updates.{updated_by}
 use Rattle.event_iteration.specs.declared.updates.Updated.{Updated}
-use Rattle.calling_sequence.specs.Ends.{RunsSlots}
+use Rattle.calling_sequence.specs.Ends.{RunsIn}
 use Rattle.calling_sequence.specs.Course.{Seen}
 use Rattle.calling_sequence.specs.Goes.{spot}
 use Rattle.calling_sequence.specs.Here.{Here}
@@ -24,13 +24,13 @@ use Rattle.calling_sequence.specs.Puts.{CutsPiece}
 use Rattle.calling_sequence.specs.declared.run_end.RunEnd.TheVariants as E
 use Rattle.calling_sequence.proofs.Phases.{update_leads, update_stays}
 use Rattle.calling_sequence.proofs.ScheduleSteps.{neither, stands_with}
-use Rattle.calling_sequence.proofs.Stages.{badly_updated, by_cut, by_put, still, still_those}
-use Rattle.calling_sequence.proofs.Stands.{updated_settled, wide_all}
+use Rattle.calling_sequence.proofs.Stages.{badly_updated, by_cut, by_none, by_put, still, still_those}
+use Rattle.calling_sequence.proofs.Stands.{told_modes, updated_settled, wide_all}
 use Rattle.calling_sequence.proofs.instants.show.Goals as goal
 
 pub returns-in-Err-clause-puts : goal.returns-in-Err-clause-puts
-returns-in-Err-clause-puts g c =
-    badly_updated c.args.experiment.now (spot c.args.t c.args.n c.args.buffers.now) _ _ c.requires.ready.shapes_are c.in-Err.bad c.in-Err.ensures.updates.stage _ _
+returns-in-Err-clause-puts g c olds past so h =
+    badly_updated c.args.experiment.now (spot c.args.t c.args.n c.args.buffers.now) _ _ c.requires.ready.shapes_are c.in-Err.bad c.in-Err.ensures.updates.stage _ _ olds past h
 
 pub put_values-requires-clause-wide : goal.put_values-requires-clause-wide
 put_values-requires-clause-wide g c =
@@ -59,7 +59,7 @@ returns-in-Ok-put_values-clause-settled g c last =
     let p = c.args.experiment.now.plan in
     let t = c.args.t in
     let s = c.in-Ok.ensures.updates.stage in
-    let own = (neither c.in-Ok.updated.again c.args.is_armed (sym c.with_armed.ensures.again ∙ last)).0 in
+    let own = (neither c.in-Ok.updated.again c.args.is_armed (sym c.with_armed-in-Ok-put_values.ensures.again ∙ last)).0 in
     still g.L.Peer.view c.args.experiment.now (IsTaking t) c.args.slots.now _ c.requires.ready (IsSettled t) (Ok c.in-Ok.updated) s.log s.told c.in-Ok.ensures.live
     (updated_settled (λ x. instance_in g.L.Peer.view x) c.args.slots.now c.update.new.slots t p.stop p.step c.in-Ok.updated s own c.requires.ready.stand)
 
@@ -84,29 +84,85 @@ returns-in-Ok-put_values-clause-timed g c =
 
 pub returns-in-Ok-put_values-clause-unarmed : goal.returns-in-Ok-put_values-clause-unarmed
 returns-in-Ok-put_values-clause-unarmed g c last =
-    let none = (neither c.in-Ok.updated.again c.args.is_armed (sym c.with_armed.ensures.again ∙ last)).1 in
+    let none = (neither c.in-Ok.updated.again c.args.is_armed (sym c.with_armed-in-Ok-put_values.ensures.again ∙ last)).1 in
     ap (λ (x : Timetable). is_some_armed c.args.t (timers_in x)) c.in-Ok.ensures.clocks ∙ sym c.requires.armed ∙ none
 
 pub returns-in-Ok-put_values-clause-puts : goal.returns-in-Ok-put_values-clause-puts
-returns-in-Ok-put_values-clause-puts g c olds before h =
+returns-in-Ok-put_values-clause-puts g c olds past so h =
     let e = c.args.experiment.now in
     let b = c.args.buffers.now in
-    let again = c.with_armed.ensures.again ∙ ap (λ (x : Bool). c.in-Ok.updated.again || x) c.requires.armed in
+    let again = c.with_armed-in-Ok-put_values.ensures.again ∙ ap (λ (x : Bool). c.in-Ok.updated.again || x) c.requires.armed in
     let put = subst (λ (vs : List (Option ℤ)). g.O.Sink.view c.put_values.new.out ≡ with_piece (g.O.Sink.view c.args.out.now) (instant_text c.args.t c.args.n vs)) c.deref.ensures.value c.in-Ok-put_values.ensures.put in
     let s = spot c.args.t c.args.n b in
     let events = c.update.new.schedule.events in
     let told : List Timer → ℕ → Type 0 = λ timers k.
-    Here e olds before (Seen (record s { timers = timers; events = events }) c.with_armed.result.again c.with_armed.result.asked) (instances g.L.Peer.view c.update.new.slots) (g.O.Sink.view c.put_values.new.out) k in
+    Here e olds past (Seen (record s { timers = timers; events = events }) c.with_armed-in-Ok-put_values.result.again c.with_armed-in-Ok-put_values.result.asked) (instances g.L.Peer.view c.update.new.slots) (g.O.Sink.view c.put_values.new.out) k in
     let timers : timers_in b.schedule ≡ timers_in c.update.new.schedule = sym (ap timers_in c.in-Ok.ensures.clocks) in
     subst (λ (k : ℕ). told (timers_in c.update.new.schedule) k) (sym c.in-Ok-put_values.ensures.counted)
     (subst (λ (ts : List Timer). told ts (b.instants + 1)) timers
-    (by_put e s events c.in-Ok.updated c.with_armed.result again c.with_armed.ensures.asked _ _ c.requires.ready.shapes_are c.in-Ok.ensures.updates olds before _ _ h _ put))
+    (by_put e s events c.in-Ok.updated c.with_armed-in-Ok-put_values.result again c.with_armed-in-Ok-put_values.ensures.asked _ _ c.requires.ready.shapes_are c.in-Ok.ensures.updates olds past _ _ h (so ∙ c.if-not-puts.false) _ put))
 
 pub returns-in-Err-put_values-clause-puts : goal.returns-in-Err-put_values-clause-puts
-returns-in-Err-put_values-clause-puts g c olds before h =
+returns-in-Err-put_values-clause-puts g c olds past so h =
     let e = c.args.experiment.now in
     let v : Updated = record { again = c.in-Ok.updated.again || c.args.is_armed; asked = c.in-Ok.updated.asked } in
     let again = ap (λ (x : Bool). c.in-Ok.updated.again || x) c.requires.armed in
     let put = subst (λ (vs : List (Option ℤ)). CutsPiece (g.O.Sink.view c.args.out.now) (instant_text c.args.t c.args.n vs) (g.O.Sink.view c.put_values.new.out)) c.deref.ensures.value c.in-Err-put_values.ensures.cut in
-    subst (λ (k : ℕ). RunsSlots e.system e.bound e.plan olds (instances g.L.Peer.view c.update.new.slots) before (g.O.Sink.view c.put_values.new.out) k E.WriteFault) (sym c.in-Err-put_values.ensures.uncounted)
-    (by_cut e (spot c.args.t c.args.n c.args.buffers.now) c.update.new.schedule.events c.in-Ok.updated v again refl _ _ c.requires.ready.shapes_are c.in-Ok.ensures.updates olds before _ _ h _ put)
+    subst (λ (k : ℕ). RunsIn e.system e.bound e.plan past.extent olds (instances g.L.Peer.view c.update.new.slots) past.sink (g.O.Sink.view c.put_values.new.out) k E.WriteFault) (sym c.in-Err-put_values.ensures.uncounted)
+    (by_cut e (spot c.args.t c.args.n c.args.buffers.now) c.update.new.schedule.events c.in-Ok.updated v again refl _ _ c.requires.ready.shapes_are c.in-Ok.ensures.updates olds past _ _ h (so ∙ c.if-not-puts.false) _ put)
+
+-- where instants aren't put
+
+pub returns-then-not-puts-clause-ready : goal.returns-then-not-puts-clause-ready
+returns-then-not-puts-clause-ready g c =
+    let p = c.args.experiment.now.plan in
+    let t = c.args.t in
+    still_those g.L.Peer.view c.args.experiment.now (IsTaking t) c.args.slots.now _ c.requires.ready (IsAt t) has_events (λ shape. C.Update) (λ v w x h asked l is. update_leads t p.stop p.step v w x h l is) (update_stays t p.stop p.step) updated_by (Ok c.in-Ok.updated) c.in-Ok.ensures.updates.stage c.in-Ok.ensures.live
+
+pub returns-then-not-puts-clause-settled : goal.returns-then-not-puts-clause-settled
+returns-then-not-puts-clause-settled g c last =
+    let p = c.args.experiment.now.plan in
+    let t = c.args.t in
+    let s = c.in-Ok.ensures.updates.stage in
+    let own = (neither c.in-Ok.updated.again c.args.is_armed (sym c.with_armed.ensures.again ∙ last)).0 in
+    still g.L.Peer.view c.args.experiment.now (IsTaking t) c.args.slots.now _ c.requires.ready (IsSettled t) (Ok c.in-Ok.updated) s.log s.told c.in-Ok.ensures.live
+    (updated_settled (λ x. instance_in g.L.Peer.view x) c.args.slots.now c.update.new.slots t p.stop p.step c.in-Ok.updated s own c.requires.ready.stand)
+
+pub returns-then-not-puts-clause-timed : goal.returns-then-not-puts-clause-timed
+returns-then-not-puts-clause-timed g c =
+    let t = c.requires.timed in
+    let few = t.few in
+    let below = c.requires.below in
+    let clocks = c.in-Ok.ensures.clocks in
+    record {
+      starts = ap (λ (x : Timetable). x.start) clocks ∙ t.starts;
+      stops = ap (λ (x : Timetable). x.stop) clocks ∙ t.stops;
+      stands = stands_with c.args.experiment.now.system c.args.t false c.args.buffers.now.schedule c.update.new.schedule clocks c.in-Ok.ensures.components t.stands;
+      places = t.places;
+      fitting = t.fitting;
+      holds = t.holds;
+      limited = omega (arith, below);
+      few = omega (arith, few);
+    }
+
+pub returns-then-not-puts-clause-unarmed : goal.returns-then-not-puts-clause-unarmed
+returns-then-not-puts-clause-unarmed g c last =
+    let none = (neither c.in-Ok.updated.again c.args.is_armed (sym c.with_armed.ensures.again ∙ last)).1 in
+    ap (λ (x : Timetable). is_some_armed c.args.t (timers_in x)) c.in-Ok.ensures.clocks ∙ sym c.requires.armed ∙ none
+
+pub returns-then-not-puts-clause-puts : goal.returns-then-not-puts-clause-puts
+returns-then-not-puts-clause-puts g c olds past so h =
+    let e = c.args.experiment.now in
+    let b = c.args.buffers.now in
+    let again = c.with_armed.ensures.again ∙ ap (λ (x : Bool). c.in-Ok.updated.again || x) c.requires.armed in
+    let s = spot c.args.t c.args.n b in
+    let events = c.update.new.schedule.events in
+    let timers : timers_in b.schedule ≡ timers_in c.update.new.schedule = sym (ap timers_in c.in-Ok.ensures.clocks) in
+    subst (λ (ts : List Timer). Here e olds past (Seen (record s { timers = ts; events = events }) c.with_armed.result.again c.with_armed.result.asked) (instances g.L.Peer.view c.update.new.slots) (g.O.Sink.view c.args.out.now) b.instants) timers
+    (by_none e s events c.in-Ok.updated c.with_armed.result again c.with_armed.ensures.asked _ _ c.requires.ready.shapes_are c.in-Ok.ensures.updates olds past _ _ h (so ∙ c.if-not-puts.true))
+
+pub returns-in-Ok-put_values-clause-modes : goal.returns-in-Ok-put_values-clause-modes
+returns-in-Ok-put_values-clause-modes g c = told_modes c.args.t c.args.experiment.now.system (instances g.L.Peer.view c.args.slots.now) c.requires.ready.shapes_are c.in-Ok.ensures.updates.stage.log c.update.new.schedule.events c.in-Ok.ensures.updates.events_are
+
+pub returns-then-not-puts-clause-modes : goal.returns-then-not-puts-clause-modes
+returns-then-not-puts-clause-modes g c = told_modes c.args.t c.args.experiment.now.system (instances g.L.Peer.view c.args.slots.now) c.requires.ready.shapes_are c.in-Ok.ensures.updates.stage.log c.update.new.schedule.events c.in-Ok.ensures.updates.events_are

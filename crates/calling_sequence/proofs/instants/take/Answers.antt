@@ -18,11 +18,11 @@ pub lost_in_instant-requires-clause-fitting : goal.lost_in_instant-requires-clau
 lost_in_instant-requires-clause-fitting g c = subst (AreFitting c.args.experiment.now.system) (sym c.deref.ensures.value) c.in-Ok.ensures.timed.fitting
 
 pub returns-in-Some-clause-puts : goal.returns-in-Some-clause-puts
-returns-in-Some-clause-puts g c olds before h =
+returns-in-Some-clause-puts g c olds past so h =
     let e = c.args.experiment.now in
     let s = spot c.args.t c.args.n c.find.new.buffers in
-    ends e olds before (Read s) _ _ _ (c.in-Ok.ensures.goes _ olds before h) (E.Range c.in-Some.lost c.args.t)
-    (LostThere s c.in-Some.lost (subst (λ (vs : List (Option ℤ)). IsFirstLost (is_bad vs) e.system.ports vs c.in-Some.lost) c.deref.ensures.value c.in-Some.ensures))
+    ends e olds past (Read s) _ _ _ (c.in-Ok.ensures.goes _ olds past h) (E.Range c.in-Some.lost c.args.t)
+    (LostThere s c.in-Some.lost (subst (λ (vs : List (Option ℤ)). IsFirstLost (is_bad vs) e.system.ports vs c.in-Some.lost) c.deref.ensures.value c.in-Some.ensures)) tt
 
 pub ask-requires-clause-kept : goal.ask-requires-clause-kept
 ask-requires-clause-kept g c κs lives =
@@ -30,8 +30,11 @@ ask-requires-clause-kept g c κs lives =
     subst (λ (vs : List (Option ℤ)). list_any (is_bad vs) e.system.ports ≡ false) c.deref.ensures.value c.in_default.ensures
 
 pub returns-in-Err-ask-clause-puts : goal.returns-in-Err-ask-clause-puts
-returns-in-Err-ask-clause-puts g c olds before h = c.in-Err-ask.ensures.goes _ olds before (c.in-Ok.ensures.goes _ olds before h)
+returns-in-Err-ask-clause-puts g c olds past so h = c.in-Err-ask.ensures.goes _ olds past (c.in-Ok.ensures.goes _ olds past h)
 
 pub returns-clause-puts : goal.returns-clause-puts
 returns-clause-puts g c =
-    then_puts c.args.experiment.now _ _ _ _ _ _ _ _ _ _ _ (λ olds before h. c.in-Ok-ask.ensures.goes _ olds before (c.in-Ok.ensures.goes _ olds before h)) c.show.result c.show.ensures.puts
+    then_puts c.args.experiment.now _ _ _ _ _ _ _ _ _ _ _ _ (λ olds before h. c.in-Ok-ask.ensures.goes _ olds before (c.in-Ok.ensures.goes _ olds before h)) c.show.result c.show.ensures.puts
+
+pub returns-in-Err-clause-puts : goal.returns-in-Err-clause-puts
+returns-in-Err-clause-puts g c olds past so h = c.in-Err.ensures.goes _ olds past h

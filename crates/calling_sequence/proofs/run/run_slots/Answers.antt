@@ -1,11 +1,11 @@
-use Rattle.std.proofs.Common.{[], ap, length, subst, sym, ◌∙◌}
+use Rattle.std.proofs.Common.{[], ap, length, refl, subst, sym, ◌∙◌}
 use Rattle.std.proofs.lemmas.List.{with_items_is}
 use Rattle.trace_text.specs.Room.{HoldsEach}
 use Rattle.slot_calls.proofs.CallerLemmas.{told_none}
 use Rattle.slot_calls.specs.Slots.{instances}
-use Rattle.calling_sequence.specs.Course.{AtFirst, Made}
+use Rattle.calling_sequence.specs.Course.{AtFirst, Made, Whole}
 use Rattle.calling_sequence.specs.Ends.{Header, header_of}
-use Rattle.calling_sequence.specs.Here.{Here, HoldsEnds}
+use Rattle.calling_sequence.specs.Here.{Here, HoldsEnds, Past}
 use Rattle.calling_sequence.proofs.Ways.{concluded}
 use Rattle.calling_sequence.proofs.run.run_slots.Goals as goal
 
@@ -20,8 +20,8 @@ returns-in-Err g c =
       counted_is = c.requires.fresh.none;
     }
 
-pub follow-outcome-requires-after_bounds : goal.follow-outcome-requires-after_bounds
-follow-outcome-requires-after_bounds g c κs lives =
+pub follow-broken-requires-after_bounds : goal.follow-broken-requires-after_bounds
+follow-broken-requires-after_bounds g c κs lives =
     let f = c.requires.fresh in
     let text = with_items_is c.args.buffers.now.text c.put_head.new.text (c.put_head.auto.text ∙ c.deref_mut.ensures.len) in
     let same = ap length text ∙ c.put_head.auto.text ∙ ap length c.deref_mut.ensures.value in
@@ -30,12 +30,13 @@ follow-outcome-requires-after_bounds g c κs lives =
 pub conclude-requires : goal.conclude-requires
 conclude-requires g c =
     let text = with_items_is c.args.buffers.now.text c.put_head.new.text (c.put_head.auto.text ∙ c.deref_mut.ensures.len) in
-    let same = ap length c.deref_mut-2.ensures.value ∙ c.follow-outcome.ensures.text ∙ ap length text ∙ c.put_head.auto.text ∙ ap length c.deref_mut.ensures.value in
+    let same = ap length c.deref_mut-2.ensures.value ∙ c.follow-broken.ensures.text ∙ ap length text ∙ c.put_head.auto.text ∙ ap length c.deref_mut.ensures.value in
     subst HoldsEnds (sym same) c.requires.fresh.holds.end
 
 pub returns : goal.returns
 returns g c =
     let e = c.args.experiment.now in
-    let here : Here e (instances g.L.Peer.view c.args.slots.now) (g.O.Sink.view c.args.out.now) Made (instances g.L.Peer.view c.args.slots.now) (g.O.Sink.view c.put_head.new.out) c.args.buffers.now.instants =
+    let past : Past = record { sink = g.O.Sink.view c.args.out.now; extent = Whole } in
+    let here : Here e (instances g.L.Peer.view c.args.slots.now) past Made (instances g.L.Peer.view c.args.slots.now) (g.O.Sink.view c.put_head.new.out) c.args.buffers.now.instants =
     record { log = []; is = []; told = told_none (instances g.L.Peer.view c.args.slots.now); course = AtFirst; put = c.in-Ok.ensures.ok; counted = c.requires.fresh.none } in
-    concluded e _ _ _ _ _ _ Made _ _ _ here c.follow-outcome.result c.follow-outcome.ensures.arrives c.conclude.result c.conclude.ensures
+    concluded e _ past _ _ _ _ c.follow-broken.result (c.follow-broken.ensures.breaks _ past (record { puts_them = refl; leaves = λ t below. tt }) here) c.conclude.result c.conclude.ensures

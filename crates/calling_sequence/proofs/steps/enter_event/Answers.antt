@@ -15,4 +15,4 @@ returns-clause-ready g c =
 
 pub returns-clause-goes : goal.returns-clause-goes
 returns-clause-goes g c s ticks count begins =
-    by_stage c.args.experiment.now (Stepped s false) (λ x. Before (record s { n = 0 }) ticks) (λ x. refl) _ _ count c.requires.shapes_are (λ ss. to_those has_events (λ shape. C.EnterEvent) ss) nothing refl (λ x log done is. Arrives s _ log ticks begins) c.each.result c.each.ensures.stage
+    by_stage c.args.experiment.now (Stepped s false) (λ x. Before (record s { n = 0 }) ticks) (λ x. refl) (λ x extent. tt) _ _ count c.requires.shapes_are (λ ss. to_those has_events (λ shape. C.EnterEvent) ss) nothing refl (λ x log done is. Arrives s _ log ticks begins) c.each.result c.each.ensures.stage

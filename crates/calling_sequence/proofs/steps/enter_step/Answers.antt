@@ -1,6 +1,8 @@
-use Rattle.std.proofs.Common.{refl}
+use Rattle.std.proofs.Common.{List, refl, subst}
 use Rattle.fmi_calls.specs.declared.call.Call.TheVariants as C
-use Rattle.slot_calls.specs.Stage.{has_events, nothing, to_those}
+use Rattle.value_types.specs.declared.shape.Shape.{Shape}
+use Rattle.slot_calls.specs.Slots.{instances}
+use Rattle.slot_calls.specs.Stage.{Stage, has_events, nothing, to_those}
 use Rattle.calling_sequence.specs.Course.{Leaves, Leaving, Left}
 use Rattle.calling_sequence.specs.Place.{IsSettled, IsStepping}
 use Rattle.calling_sequence.proofs.Phases.{enter_step_leads, enter_step_stays}
@@ -15,4 +17,7 @@ returns-clause-ready g c =
 
 pub returns-clause-goes : goal.returns-clause-goes
 returns-clause-goes g c w count =
-    by_stage c.args.experiment.now (Leaving w) (λ x. Left w) (λ x. refl) _ _ count c.requires.shapes_are (λ ss. to_those has_events (λ shape. C.EnterStep) ss) nothing refl (λ x log done is. Leaves w _ log) c.each.result c.each.ensures.stage
+    by_stage c.args.experiment.now (Leaving w) (λ x. Left w) (λ x. refl) (λ x extent. tt) _ _ count c.requires.shapes_are (λ ss. to_those has_events (λ shape. C.EnterStep) ss) nothing refl (λ x log done is. Leaves w _ log) c.each.result c.each.ensures.stage
+
+pub returns-clause-stage : goal.returns-clause-stage
+returns-clause-stage g c = subst (λ (ss : List Shape). Stage (to_those has_events (λ shape. C.EnterStep) ss) nothing (instances g.L.Peer.view c.args.slots.now) (instances g.L.Peer.view c.each.new.slots) c.each.result) c.requires.shapes_are c.each.ensures.stage

@@ -24,5 +24,5 @@ returns-clause-goes g c s to count =
     let e = c.args.experiment.now in
     let values = c.args.buffers.now.values.items in
     let w : Way = record { s = record s { values = values }; to = to } in
-    by_walk e (Left w) (Departing w) refl _ _ count (before_step values) values (port_order e.system) values refl (λ log. Sets w _ log) c.set_inputs.result
+    by_walk e (Left w) (Departing w) refl (λ extent. tt) _ _ count (before_step values) values (port_order e.system) values refl (λ log. Sets w _ log) c.set_inputs.result
     (sets_as e.system (port_order e.system) _ _ c.set_inputs.result _ _ c.deref.ensures.value c.set_inputs.ensures.walks)

@@ -3,12 +3,24 @@ use Rattle.std.proofs.lemmas.Bool.{false≢true}
 use Rattle.std.proofs.lemmas.List.{length-set}
 use Rattle.fmi_calls.specs.Kinds.{kind_of}
 use Rattle.fmu_peer.specs.Many.{AnsweredFirst}
-use Rattle.host_serving.proofs.AnsweringLemmas.{all_answered, answered_up_to, as_many, call_in, can_put, can_put_all, forbids, is_item, item_is, kind_in, loses_fault, loses_kind, one_more}
+use Rattle.host_serving.proofs.AnsweringLemmas.{all_answered, answered_up_to, as_many, call_in, can_put, can_put_all, forbids, is_item, item_is, kind_in, loses_fault, loses_kind, one_more, plain_call}
 use Rattle.host_serving.proofs.ServingLemmas.{calls_in, said_no, said_yes}
 use Rattle.host_serving.proofs.serving.answer_items.Goals as goal
 
 pub item-call-requires : goal.item-call-requires
 item-call-requires g c = is_item c.args.room.now (length c.args.places.now) c.loop-i.i c.told-room c.requires (omega (arith, c.loop-i-test.true))
+
+pub call-requires-clause-plain : goal.call-requires-clause-plain
+call-requires-clause-plain g c =
+    let room = c.args.room.now in
+    let bytes = take (24 * (length c.args.places.now + 1)) room in
+    let call = c.item-call.result in
+    let batch = calls_in (length c.args.places.now) bytes c.requires in
+    let calls = batch.0 in
+    let is = batch.1 in
+    let count = as_many (length c.args.places.now) bytes calls c.requires is in
+    let at : call ≡ call_in calls c.loop-i.i = item_is room (length c.args.places.now) c.loop-i.i calls is count (omega (arith, c.loop-i-test.true)) call c.item-call.ensures in
+    plain_call is.batch.one call is.batch.reads_or_sets (ap kind_of at ∙ kind_in calls bytes c.loop-i.i is (omega (arith, count, c.loop-i-test.true)))
 
 pub returns-then-not-permitted-clause-answered : goal.returns-then-not-permitted-clause-answered
 returns-then-not-permitted-clause-answered g c = λ calls is.

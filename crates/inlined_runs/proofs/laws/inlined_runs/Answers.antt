@@ -26,8 +26,8 @@ pub returns-clause-runs : goal.returns-clause-runs
 returns-clause-runs c =
     let laws : Laws = record {
       one = c.one_trace.ensures;
-      trace = c.orders_are_free.ensures.trace;
-      behave = c.orders_are_free.ensures.behaved;
+      trace = c.orders_and_workers_are_free.ensures.trace;
+      behave = c.orders_and_workers_are_free.ensures.behaved;
       fixed = c.one_fixed_end.ensures;
       lost = c.one_lost_value.ensures;
     } in

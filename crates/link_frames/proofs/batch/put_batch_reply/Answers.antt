@@ -8,8 +8,11 @@ use Rattle.link_frames.specs.Batch.{AreFrames, batch_head, kind_of_first_reply}
 use Rattle.link_frames.specs.Head.{spelling}
 use Rattle.link_frames.specs.Reply.{IsReplyFrame}
 use Rattle.exact_parts.proofs.CallerLemmas.{drop_later}
-use Rattle.link_frames.proofs.PutLemmas.{one_more_of, replies_put}
+use Rattle.link_frames.proofs.PutLemmas.{each_told, one_more_of, replies_put}
 use Rattle.link_frames.proofs.batch.put_batch_reply.Goals as goal
+
+pub frame_of_reply-requires : goal.frame_of_reply-requires
+frame_of_reply-requires c = each_told c.args.replies.now c.loop-i.i (Done false (A.Instantiate false)) c.requires.has_frame c.loop-i-test.true
 
 pub loop-i-preserved : goal.loop-i-preserved
 loop-i-preserved c =

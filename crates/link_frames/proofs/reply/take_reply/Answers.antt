@@ -1,4 +1,4 @@
-use Rattle.std.proofs.Common.{[], sym, subst}
+use Rattle.std.proofs.Common.{[], sym, subst, take}
 use Rattle.fmi_calls.specs.declared.call.Reply.{Reply}
 use Rattle.link_frames.specs.declared.layout.Form.TheVariants.{OfReply}
 use Rattle.exact_parts.specs.declared.taken.Taken.TheVariants.{Got, NeedMore, Bad}
@@ -6,8 +6,11 @@ use Rattle.link_frames.specs.Numbers.{Reads}
 use Rattle.link_frames.specs.Reply.{IsReplyFrame, reply_at}
 use Rattle.exact_parts.specs.Taking.{Gets}
 use Rattle.exact_parts.proofs.CallerLemmas.{made_breaks, made_front, made_got, only_one}
-use Rattle.link_frames.proofs.ReplyLemmas.{reply_same, reply_single}
+use Rattle.link_frames.proofs.ReplyLemmas.{qualifier_small, reply_same, reply_single}
 use Rattle.link_frames.proofs.reply.take_reply.Goals as goal
+
+pub reply_at-requires : goal.reply_at-requires
+reply_at-requires c = qualifier_small c.in-Got.value (take c.in-Got.length c.args.bytes.now) c.in-Got.ensures.spelled
 
 pub returns-in-Got-clause-taken : goal.returns-in-Got-clause-taken
 returns-in-Got-clause-taken c =

@@ -15,7 +15,7 @@ returns-in-Ok g c =
     let after = c.free-answer.new.self.peer in
     let peer_is : peer_in c.args.slot.now.held ≡ peer = ap peer_in c.in-Stepping.is in
     let a : (reply : Reply) × Answered (view peer) C.Free reply (view after) = (c.in-Ok.field-0, subst (λ r. IfOk r (λ reply. Answered (view peer) C.Free reply (view after))) c.in-Ok.is c.free-answer.ensures.ok) in
-    let stepping : (view peer).phase.state ≡ P.Step = ap (λ l. (view l).phase.state) (sym peer_is) ∙ c.requires.permitted.0 in
+    let stepping : (view peer).phase.state ≡ P.Step = ap (λ l. (view l).phase.state) (sym peer_is) ∙ c.requires.in_step in
     did_good view c.args.slot.now _ C.Free c.requires.permitted refl refl c.free-answer.result peer peer_is (ap (λ b. c.args.slot.now.is_fatal || b) c.is_fatal.ensures)
     c.in-Ok.field-0 c.in-Ok.is a.0 false a.1 (ends_free (view peer).fixed.shape a.0 a.1.good) (ap is_some c.take.ensures.after) (stays_stepping (view peer) (view after) C.Free a.0 a.1 refl stepping)
 

@@ -3,6 +3,7 @@ use Rattle.std.specs.Prelude.{IfErr, IfOk, ◌||◌}
 use Rattle.fmi_calls.specs.declared.call.Call.TheVariants as C
 use Rattle.fmi_calls.specs.declared.call.Reply.{Reply}
 use Rattle.fmi_calls.specs.declared.phase.InstanceState.TheVariants as P
+use Rattle.fmi_calls.specs.Next.{restored_state}
 use Rattle.fmu_peer.specs.Answer.{Answered, Failed}
 use Rattle.fmu_peer.specs.CloseAll.{peer_in}
 use Rattle.parallel_step.proofs.Doing.{did_bad, did_good, ends_restore, stays_stepping}
@@ -15,9 +16,9 @@ returns-in-Ok g c =
     let after = c.restore-answer.new.self.peer in
     let peer_is : peer_in c.args.slot.now.held ≡ peer = ap peer_in c.in-Stepping-Some.is-0 in
     let a : (reply : Reply) × Answered (view peer) C.Restore reply (view after) = (c.in-Ok.field-0, subst (λ r. IfOk r (λ reply. Answered (view peer) C.Restore reply (view after))) c.in-Ok.is c.restore-answer.ensures.ok) in
-    let stepping : (view peer).phase.state ≡ P.Step = ap (λ l. (view l).phase.state) (sym peer_is) ∙ c.requires.permitted.0 in
+    let stepping : (view peer).phase.state ≡ P.Step = ap (λ l. (view l).phase.state) (sym peer_is) ∙ c.requires.in_step in
     did_good view c.args.slot.now _ C.Restore c.requires.permitted refl refl c.restore-answer.result peer peer_is (ap (λ b. c.args.slot.now.is_fatal || b) c.is_fatal.ensures)
-    c.in-Ok.field-0 c.in-Ok.is a.0 false a.1 (ends_restore (view peer).fixed.shape a.0 a.1.good) (refl) (stays_stepping (view peer) (view after) C.Restore a.0 a.1 refl stepping)
+    c.in-Ok.field-0 c.in-Ok.is a.0 false a.1 (ends_restore (view peer).fixed.shape a.0 a.1.good) (refl) (stays_stepping (view peer) (view after) C.Restore a.0 a.1 (ap restored_state stepping ∙ sym stepping) stepping)
 
 pub returns-in-Err : goal.returns-in-Err
 returns-in-Err g c =

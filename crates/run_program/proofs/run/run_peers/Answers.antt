@@ -5,7 +5,10 @@ use Rattle.step_master.specs.Lived.{Lived, Unmade}
 use Rattle.step_master.specs.Master.{FailsToPrepare}
 use Rattle.step_master.specs.declared.prepare_end.PrepareFault.{PrepareFault}
 use Rattle.calling_sequence.specs.declared.run_end.RunEnd.TheVariants as E
+use Rattle.std.specs.Prelude.{Option}
+use Rattle.step_master.specs.Holding.{RunsFrom}
 use Rattle.step_master.specs.Standing.{standing}
+use Rattle.system_checkpoint.specs.declared.snapshot.Snapshot.{Snapshot}
 use Rattle.command_line.specs.declared.words.Options.{Options}
 use Rattle.system_model.specs.declared.system.Component.{Component}
 use Rattle.system_model.specs.declared.bound.Bound.{Bound}
@@ -33,7 +36,9 @@ retire_each-requires-after_bounds g c κs within =
     let news = map view c.close-peers.result.items in
     let peers = new_peers c.args.options.host.now c.args.folders.now c.args.system olds c.requires.started (length-map c.args.peers.items view ∙ c.requires.each) in
     let account = account_of c.args.system c.args.bound c.args.options.plan olds news (g.O.Sink.view c.args.out.now) (g.O.Sink.view c.run-end.new.out) (standing view c.run-end.new.self) c.run-end.result in
-    let lived : Lived account = c.lives_of_peers.ensures.run account (standing view c.in-Ok.master) (standing view c.run-end.new.self) c.requires.runnable.sound c.requires.bound c.requires.counts peers c.in-Ok.ensures.ok c.run-end.ensures c.close-peers.ensures refl in
+    let lived : Lived account = c.lives_of_peers.ensures.run account (standing view c.in-Ok.master) (standing view c.run-end.new.self) c.requires.runnable.sound c.requires.bound c.requires.counts peers c.in-Ok.ensures.ok
+    (subst (λ (held : Option Snapshot). RunsFrom held (standing view c.in-Ok.master) (standing view c.run-end.new.self) (g.O.Sink.view c.args.out.now) (g.O.Sink.view c.run-end.new.out) c.run-end.result) c.in-Ok.ensures.ok.whole c.run-end.ensures)
+    c.close-peers.ensures refl in
     let same : length c.close-peers.result.items ≡ length c.args.peers.items = sym (length-map c.close-peers.result.items view) ∙ lived_news account lived ∙ sym c.requires.each in
     let room = c.requires.fewer in
     omega (arith, same, room)
@@ -45,7 +50,9 @@ call_counts-counts-requires-after_bounds g c κs within =
     let news = map view c.close-peers.result.items in
     let peers = new_peers c.args.options.host.now c.args.folders.now c.args.system olds c.requires.started (length-map c.args.peers.items view ∙ c.requires.each) in
     let account = account_of c.args.system c.args.bound c.args.options.plan olds news (g.O.Sink.view c.args.out.now) (g.O.Sink.view c.run-end.new.out) (standing view c.run-end.new.self) c.run-end.result in
-    let lived : Lived account = c.lives_of_peers.ensures.run account (standing view c.in-Ok.master) (standing view c.run-end.new.self) c.requires.runnable.sound c.requires.bound c.requires.counts peers c.in-Ok.ensures.ok c.run-end.ensures c.close-peers.ensures refl in
+    let lived : Lived account = c.lives_of_peers.ensures.run account (standing view c.in-Ok.master) (standing view c.run-end.new.self) c.requires.runnable.sound c.requires.bound c.requires.counts peers c.in-Ok.ensures.ok
+    (subst (λ (held : Option Snapshot). RunsFrom held (standing view c.in-Ok.master) (standing view c.run-end.new.self) (g.O.Sink.view c.args.out.now) (g.O.Sink.view c.run-end.new.out) c.run-end.result) c.in-Ok.ensures.ok.whole c.run-end.ensures)
+    c.close-peers.ensures refl in
     let same : length c.deref.result.now ≡ length c.args.system.components = ap length c.deref.ensures.value ∙ sym (length-map c.close-peers.result.items view) ∙ lived_news account lived in
     let few : length c.args.system.components ≤ 256 = c.requires.runnable.sound.components.few in
     omega (arith, same, few)
@@ -57,7 +64,9 @@ report_end-requires g c =
     let news = map view c.close-peers.result.items in
     let peers = new_peers c.args.options.host.now c.args.folders.now c.args.system olds c.requires.started (length-map c.args.peers.items view ∙ c.requires.each) in
     let account = account_of c.args.system c.args.bound c.args.options.plan olds news (g.O.Sink.view c.args.out.now) (g.O.Sink.view c.run-end.new.out) (standing view c.run-end.new.self) c.run-end.result in
-    let lived : Lived account = c.lives_of_peers.ensures.run account (standing view c.in-Ok.master) (standing view c.run-end.new.self) c.requires.runnable.sound c.requires.bound c.requires.counts peers c.in-Ok.ensures.ok c.run-end.ensures c.close-peers.ensures refl in
+    let lived : Lived account = c.lives_of_peers.ensures.run account (standing view c.in-Ok.master) (standing view c.run-end.new.self) c.requires.runnable.sound c.requires.bound c.requires.counts peers c.in-Ok.ensures.ok
+    (subst (λ (held : Option Snapshot). RunsFrom held (standing view c.in-Ok.master) (standing view c.run-end.new.self) (g.O.Sink.view c.args.out.now) (g.O.Sink.view c.run-end.new.out) c.run-end.result) c.in-Ok.ensures.ok.whole c.run-end.ensures)
+    c.close-peers.ensures refl in
     subst (λ (n : Names). NamesOne n c.run-end.result) (sym c.requires.names) (lived_names account c.requires.runnable.sound lived)
 
 pub retire_each-requires-in-Err-after_bounds : goal.retire_each-requires-in-Err-after_bounds
@@ -89,7 +98,9 @@ returns-in-Ok g c before known made told =
     let news = map view c.close-peers.result.items in
     let peers = new_peers c.args.options.host.now c.args.folders.now c.args.system olds c.requires.started (length-map c.args.peers.items view ∙ c.requires.each) in
     let account = account_of c.args.system c.args.bound c.args.options.plan olds news (g.O.Sink.view c.args.out.now) (g.O.Sink.view c.run-end.new.out) (standing view c.run-end.new.self) c.run-end.result in
-    let lived : Lived account = c.lives_of_peers.ensures.run account (standing view c.in-Ok.master) (standing view c.run-end.new.self) c.requires.runnable.sound c.requires.bound c.requires.counts peers c.in-Ok.ensures.ok c.run-end.ensures c.close-peers.ensures refl in
+    let lived : Lived account = c.lives_of_peers.ensures.run account (standing view c.in-Ok.master) (standing view c.run-end.new.self) c.requires.runnable.sound c.requires.bound c.requires.counts peers c.in-Ok.ensures.ok
+    (subst (λ (held : Option Snapshot). RunsFrom held (standing view c.in-Ok.master) (standing view c.run-end.new.self) (g.O.Sink.view c.args.out.now) (g.O.Sink.view c.run-end.new.out) c.run-end.result) c.in-Ok.ensures.ok.whole c.run-end.ensures)
+    c.close-peers.ensures refl in
     let task = task_with c.args.options c.args.bound c.args.folders.now in
     let old = scene before (g.O.Sink.view c.args.out.now) in
     let new = scene (g.S.Spawner.view c.retire_each.new.spawner) (g.O.Sink.view c.run-end.new.out) in

@@ -3,7 +3,7 @@ use Rattle.exact_parts.specs.declared.taken.Taken.TheVariants.{Got}
 use Rattle.exact_parts.specs.Each.{Each}
 use Rattle.exact_parts.specs.Taking.{Takes}
 use Rattle.system_checkpoint.specs.Whole.{ArmingOf}
-use Rattle.system_checkpoint.proofs.ListLemmas.{each_bad, each_done, each_more, each_on, walk_begins, arming_of_single, arming_of_some}
+use Rattle.system_checkpoint.proofs.ListLemmas.{each_bad, each_done, each_more, each_on, arming_of_single, arming_of_some}
 use Rattle.system_checkpoint.proofs.lists.take_armings.Goals as goal
 
 pub returns-in-NeedMore : goal.returns-in-NeedMore

@@ -4,7 +4,7 @@ use Rattle.exact_parts.specs.declared.taken.Taken.TheVariants.{Got}
 use Rattle.exact_parts.specs.Each.{Each}
 use Rattle.system_checkpoint.specs.Parts.{State}
 use Rattle.system_checkpoint.specs.Whole.{StateOf}
-use Rattle.system_checkpoint.proofs.ListLemmas.{each_bad, each_done, each_more, each_on, walk_begins, state_of_single, state_of_some}
+use Rattle.system_checkpoint.proofs.ListLemmas.{each_bad, each_done, each_more, each_on, state_of_single, state_of_some}
 use Rattle.system_checkpoint.proofs.lists.take_states.Goals as goal
 
 pub returns-in-NeedMore : goal.returns-in-NeedMore

@@ -3,7 +3,7 @@ use Rattle.exact_parts.specs.declared.taken.Taken.TheVariants.{Got}
 use Rattle.exact_parts.specs.Each.{Each}
 use Rattle.exact_parts.specs.Taking.{Takes}
 use Rattle.system_checkpoint.specs.Whole.{WordOf}
-use Rattle.system_checkpoint.proofs.ListLemmas.{each_bad, each_done, each_more, each_on, walk_begins, word_of_single, word_of_some}
+use Rattle.system_checkpoint.proofs.ListLemmas.{each_bad, each_done, each_more, each_on, word_of_single, word_of_some}
 use Rattle.system_checkpoint.proofs.lists.take_words.Goals as goal
 
 pub returns-in-NeedMore : goal.returns-in-NeedMore

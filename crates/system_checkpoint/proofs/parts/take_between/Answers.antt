@@ -1,5 +1,5 @@
 use Rattle.std.proofs.Common.{subst}
-use Rattle.exact_parts.specs.Field.{Field, IsSane}
+use Rattle.exact_parts.specs.Field.{Field}
 use Rattle.exact_parts.specs.Taking.{Takes}
 use Rattle.system_checkpoint.proofs.parts.take_between.Goals as goal
 

@@ -1,4 +1,3 @@
-use Rattle.std.proofs.Common.{arith}
 use Rattle.system_checkpoint.proofs.PartLemmas.{text_bad, text_front}
 use Rattle.system_checkpoint.proofs.parts.take_text.Goals as goal
 

@@ -1,7 +1,10 @@
-use Rattle.std.proofs.Common.{◌≡◌, ◌++◌, take}
+use Rattle.std.proofs.Common.{◌≡◌, ◌≤◌, ◌++◌, take, vec_capacity}
 use Rattle.std.specs.List.{flat_map}
 use Rattle.system_checkpoint.specs.Spelling.{option_bytes}
 use Rattle.system_checkpoint.proofs.putting.put_options.Given as goal
 
 abbrev pub invariant-loop-value : goal.invariant-loop-value
-invariant-loop-value l = l.out.items ≡ l.initial.out.items ++ flat_map option_bytes (take l.value-index l.values)
+invariant-loop-value l = record {
+  text : l.out.items ≡ l.initial.out.items ++ flat_map option_bytes (take l.value-index l.values);
+  room : vec_capacity l.initial.out ≤ vec_capacity l.out;
+}

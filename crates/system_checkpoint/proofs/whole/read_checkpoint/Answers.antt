@@ -1,4 +1,4 @@
-use Rattle.std.proofs.Common.{length, sym, subst}
+use Rattle.std.proofs.Common.{sym, subst}
 use Rattle.system_checkpoint.specs.Whole.{Answers}
 use Rattle.system_checkpoint.proofs.WholeLemmas.{answer_of}
 use Rattle.system_checkpoint.proofs.whole.read_checkpoint.Goals as goal

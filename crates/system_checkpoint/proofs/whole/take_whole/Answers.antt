@@ -2,7 +2,7 @@ use Rattle.std.proofs.Common.{◌-◌, drop, length, sym, subst, take}
 use Rattle.exact_parts.specs.Taking.{Takes}
 use Rattle.exact_parts.proofs.CallerLemmas.{led_bad, led_more}
 use Rattle.system_checkpoint.specs.First.{IsFirst}
-use Rattle.system_checkpoint.specs.Whole.{HeaderOf, begun}
+use Rattle.system_checkpoint.specs.Whole.{HeaderOf}
 use Rattle.system_checkpoint.proofs.PartLemmas.{then_takes}
 use Rattle.system_checkpoint.proofs.ListLemmas.{IsBefore}
 use Rattle.system_checkpoint.proofs.FirstLemmas.{first_before, first_single}

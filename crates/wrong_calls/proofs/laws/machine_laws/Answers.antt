@@ -1,5 +1,5 @@
-use Rattle.wrong_calls.specs.Steady.{answers_alike, is_lawful, machine_is}
+use Rattle.wrong_calls.specs.Steady.{answers_alike, is_lawful, machine_is, unpacks_well}
 use Rattle.wrong_calls.proofs.laws.machine_laws.Goals as goal
 
 pub returns : goal.returns
-returns c = record { machine = machine_is; ignores_slot = answers_alike; lawful = is_lawful }
+returns c = record { machine = machine_is; ignores_slot = answers_alike; unpacks = unpacks_well; lawful = is_lawful }

@@ -134,3 +134,34 @@ fmi3Status fmi3FreeFMUState(fmi3Instance instance, fmi3FMUState *FMUState)
     *FMUState = NULL;
     return fmi3OK;
 }
+
+/* A state as bytes is the struct's, which are read back by the same build of this library. */
+fmi3Status fmi3SerializedFMUStateSize(fmi3Instance instance, fmi3FMUState FMUState, size_t *size)
+{
+    (void)instance, (void)FMUState;
+    *size = sizeof(struct counter);
+    return fmi3OK;
+}
+
+fmi3Status fmi3SerializeFMUState(fmi3Instance instance, fmi3FMUState FMUState, fmi3Byte serializedState[], size_t size)
+{
+    (void)instance;
+    if (size < sizeof(struct counter))
+        return fmi3Error;
+    memcpy(serializedState, FMUState, sizeof(struct counter));
+    return fmi3OK;
+}
+
+fmi3Status fmi3DeserializeFMUState(fmi3Instance instance, const fmi3Byte serializedState[], size_t size,
+                                   fmi3FMUState *FMUState)
+{
+    (void)instance;
+    if (size != sizeof(struct counter))
+        return fmi3Error;
+    if (*FMUState == NULL)
+        *FMUState = malloc(sizeof(struct counter));
+    if (*FMUState == NULL)
+        return fmi3Error;
+    memcpy(*FMUState, serializedState, sizeof(struct counter));
+    return fmi3OK;
+}

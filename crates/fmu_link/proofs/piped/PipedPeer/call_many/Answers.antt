@@ -3,6 +3,7 @@ use Rattle.fmi_calls.specs.declared.call.Call.TheVariants as C
 use Rattle.fmu_peer.specs.Many.{Talks, exchanges}
 use Rattle.fmu_peer.specs.Talk.{AllGood}
 use Rattle.fmu_peer.proofs.ManyLemmas.{all_more, answered_all, answered_first, bad_grade, faults_behind, good_grade, may_more, permitted_now, places_more, talks_more}
+use Rattle.fmu_peer.proofs.CallerLemmas.{plain_at}
 use Rattle.fmu_link.specs.Batches.{GoAsAgreed, GoSingly}
 use Rattle.fmu_link.specs.Piped.{line_view, piped_view}
 use Rattle.fmu_link.proofs.SingleCalls.{singly_breaks, singly_more}
@@ -23,8 +24,11 @@ returns-in-Err-clause-agreed g c =
     subst (λ (b : Bool). GoAsAgreed b c.args.calls.now (line c.args.self.now) (line c.call.new.self) c.loop-i.replies (Err c.in-Err.fault)) (sym c.if-self.false)
     (singly_breaks (line c.args.self.now) (line c.loop-i.self) (line c.call.new.self) c.args.calls.now c.loop-i.replies c.loop-i.i (C.Instantiate false false false) c.loop-i.self.instance.name c.loop-i.self.instance.shape.token inv.places c.loop-i-test.true inv.went c.in-Err.fault c.in-Err.ensures.exchanged)
 
-pub call-requires : goal.call-requires
-call-requires g c =
+pub call-requires-clause-plain : goal.call-requires-clause-plain
+call-requires-clause-plain g c = plain_at c.args.calls.now c.loop-i.i (C.Instantiate false false false) c.requires.sort c.loop-i-test.true
+
+pub call-requires-clause-permitted : goal.call-requires-clause-permitted
+call-requires-clause-permitted g c =
     let view = piped_view g.W.Wire.view in
     let inv = c.loop-i.invariant in
     permitted_now (view c.args.self.now) (view c.loop-i.self) c.args.calls.now c.loop-i.i (C.Instantiate false false false) c.loop-i-test.true inv.fixed inv.may

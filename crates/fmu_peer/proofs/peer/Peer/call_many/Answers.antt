@@ -3,6 +3,7 @@ use Rattle.fmi_calls.specs.declared.call.Call.TheVariants as C
 use Rattle.fmu_peer.specs.Many.{Talks, exchanges}
 use Rattle.fmu_peer.specs.Talk.{AllGood}
 use Rattle.fmu_peer.proofs.ManyLemmas.{all_more, answered_all, answered_first, bad_grade, faults_behind, good_grade, may_more, permitted_now, places_more, talks_more}
+use Rattle.fmu_peer.proofs.KeptStates.{plain_at}
 use Rattle.fmu_peer.proofs.peer.Peer.call_many.Goals as goal
 
 pub returns-in-Err-clause-asked : goal.returns-in-Err-clause-asked
@@ -13,11 +14,15 @@ returns-in-Err-clause-asked g c =
     faults_behind (view c.args.self.now) (view c.loop-i.self) (view c.call.new.self) c.args.calls.now c.args.replies.now c.loop-i.replies c.loop-i.i d c.in-Err.fault inv.places c.loop-i-test.true inv.behind inv.talks inv.good
     (permitted_now (view c.args.self.now) (view c.loop-i.self) c.args.calls.now c.loop-i.i d c.loop-i-test.true inv.fixed inv.may) c.in-Err.ensures
 
-pub call-requires : goal.call-requires
-call-requires g c =
+pub call-requires-clause-permitted : goal.call-requires-clause-permitted
+call-requires-clause-permitted g c =
     let view = g.Self.Peer.view in
     let inv = c.loop-i.invariant in
     permitted_now (view c.args.self.now) (view c.loop-i.self) c.args.calls.now c.loop-i.i (C.Instantiate false false false) c.loop-i-test.true inv.fixed inv.may
+
+pub call-requires-clause-plain : goal.call-requires-clause-plain
+call-requires-clause-plain g c =
+    plain_at c.args.calls.now c.loop-i.i (C.Instantiate false false false) c.requires.sort c.loop-i-test.true
 
 pub returns-in-Refused : goal.returns-in-Refused
 returns-in-Refused g c =

@@ -1,83 +1,28 @@
-use Rattle.std.proofs.Common.{◌≤◌, ◌^◌, List, refl, sym, ap, ◌∙◌, subst, map, length}
-use Rattle.std.proofs.lemmas.List.{length-map}
-use Rattle.system_model.specs.declared.system.Component.{Component}
-use Rattle.fmu_peer.specs.CloseAll.{Instance, instance_in}
-use Rattle.fmu_peer.specs.Mode.{instantiate_of}
-use Rattle.value_types.specs.declared.shape.Shape.{Shape}
-use Rattle.slot_calls.specs.Log.{Told}
-use Rattle.step_master.specs.Seats.{seated}
-use Rattle.slot_calls.specs.Slots.{instances}
-use Rattle.slot_calls.specs.Stage.{IsAnswered, StopsAt, shapes, to_each}
-use Rattle.slot_calls.proofs.CallerLemmas.{shapes_same}
-use Rattle.step_master.proofs.SeatLemmas.{components_few, peers_fresh, seated_shapes, slots_fresh, slots_length, tell_theirs}
+use Rattle.std.proofs.Common.{refl}
 use Rattle.step_master.proofs.master.Master.prepare.Goals as goal
 
-pub new-requires-2-clause-fresh : goal.new-requires-2-clause-fresh
-new-requires-2-clause-fresh g c κs within = peers_fresh c.args.system (map g.L.Peer.view c.args.peers.items) c.requires.peers g.L.Peer.view c.args.peers.items refl
+pub seat-requires-clause-may : goal.seat-requires-clause-may
+seat-requires-clause-may g c κs within = record { sound = c.requires.sound; binds = c.requires.bound; plan = c.requires.plan; counts = c.requires.counts }
 
-pub make-requires-clause-few : goal.make-requires-clause-few
-make-requires-clause-few g c κs within =
-    let same = c.in-Ok-new.ensures.ok ∙ ap (λ cs. seated cs (map g.L.Peer.view c.args.peers.items)) c.as_slice.ensures in
-    subst (λ n. n ≤ 2 ^ 32) (sym (slots_length c.args.system (map g.L.Peer.view c.args.peers.items) c.requires.peers (λ s. instance_in g.L.Peer.view s) c.in-Ok-new.seats.slots.items same)) (components_few c.args.system c.requires.sound)
+pub returns-clause-ready : goal.returns-clause-ready
+returns-clause-ready g c = record {
+  unrun = refl;
+  begins = record { ready = c.in_ok-seats.ensures.ready; fresh = c.in-Ok.ensures };
+  roomy = λ whole can. c.in-Ok-keeping_for.ensures can;
+}
 
-pub make-requires-clause-fresh : goal.make-requires-clause-fresh
-make-requires-clause-fresh g c κs within =
-    let same = c.in-Ok-new.ensures.ok ∙ ap (λ cs. seated cs (map g.L.Peer.view c.args.peers.items)) c.as_slice.ensures in
-    slots_fresh c.args.system (map g.L.Peer.view c.args.peers.items) c.requires.peers (λ s. instance_in g.L.Peer.view s) c.in-Ok-new.seats.slots.items same
-
-pub returns-in-Ok-make-clause-ready : goal.returns-in-Ok-make-clause-ready
-returns-in-Ok-make-clause-ready g c =
-    let view = g.L.Peer.view in
-    let same = c.in-Ok-new.ensures.ok ∙ ap (λ cs. seated cs (map view c.args.peers.items)) c.as_slice.ensures in
-    let stage = c.in-Ok-make.ensures.stage in
-    let news = c.make.new.self.slots.items in
-    let fits = shapes_same stage.log _ (instances view news) stage.told ∙ ap shapes same ∙ seated_shapes c.args.system (map view c.args.peers.items) c.requires.peers in
+pub returns-clause-ok : goal.returns-clause-ok
+returns-clause-ok g c =
+    let m = c.in_ok-seats.ensures.makes in
     record {
-      unrun = refl;
-      begins = record {
-        ready = record {
-          may = record { sound = c.requires.sound; binds = c.requires.bound; plan = c.requires.plan; counts = c.requires.counts };
-          few = subst (λ n. n ≤ 2 ^ 32) (sym (sym (length-map news (λ s. instance_in view s)) ∙ sym (length-map (instances view news) (λ (i : Instance). i.view.fixed.shape))
-              ∙ ap length fits ∙ length-map c.args.system.components (λ (x : Component). x.shape))) (components_few c.args.system c.requires.sound);
-          shapes_are = fits;
-          live = c.in-Ok-make.ensures.live;
-          stand = c.in-Ok-make.ensures.made;
-        };
-        fresh = c.in-Ok.ensures;
-      };
-    }
-
-pub returns-in-Ok-make-clause-ok : goal.returns-in-Ok-make-clause-ok
-returns-in-Ok-make-clause-ok g c =
-    let laws = g.met.L.Peer g.world.𝓛 g.world.𝓜 g.world.𝓡 ((λ s x. x), (λ x. x), (λ x. x), λ x. x) in
-    let view = g.L.Peer.view in
-    let views = map view c.args.peers.items in
-    let same = c.in-Ok-new.ensures.ok ∙ ap (λ cs. seated cs views) c.as_slice.ensures in
-    let stage = c.in-Ok-make.ensures.stage in
-    let fits = ap shapes same ∙ seated_shapes c.args.system views c.requires.peers in
-    record {
-      log = stage.log;
-      told = subst (λ (is : List Instance). Told stage.log is (instances view c.make.new.self.slots.items)) same stage.told;
-      answered = subst (λ (ss : List Shape). IsAnswered ss (to_each (instantiate_of c.args.plan.link) ss) stage.log) fits stage.says.0;
+      log = m.log;
+      told = m.told;
+      answered = m.answered;
       system_is = refl;
       bound_is = refl;
       plan_is = refl;
+      whole = refl;
       unrun = refl;
       none = c.in-Ok.ensures.none;
-      machines = tell_theirs view c.args.peers.items laws.machine laws.lawful laws.ignores_slot c.args.system c.requires.peers;
-    }
-
-pub returns-in-Err-make-clause-err : goal.returns-in-Err-make-clause-err
-returns-in-Err-make-clause-err g c =
-    let view = g.L.Peer.view in
-    let views = map view c.args.peers.items in
-    let same = c.in-Ok-new.ensures.ok ∙ ap (λ cs. seated cs views) c.as_slice.ensures in
-    let stage = c.in-Err-make.ensures.stage in
-    let fits = ap shapes same ∙ seated_shapes c.args.system views c.requires.peers in
-    record {
-      log = stage.log;
-      mids = instances view c.make.new.self.slots.items;
-      told = subst (λ (is : List Instance). Told stage.log is (instances view c.make.new.self.slots.items)) same stage.told;
-      stops = subst (λ (ss : List Shape). StopsAt ss (to_each (instantiate_of c.args.plan.link) ss) c.in-Err-make.bad stage.log) fits stage.says;
-      closes = c.close.ensures;
+      machines = m.machines;
     }

@@ -18,7 +18,7 @@ invariant_of-self-clause-in_phase c =
     let s = state_in old.book.shape.variables old.state in
     rw c.keep.ensures.shape
     (base_in_phase m _ s (in_phase_kept old.book.shape (own_machine m) old.book.phase _ s s c.args.call.now c.in-Some.reply (fills_next old.book.talk) Failed c.keep.result
-    (machine_is old.book.shape m (is_machine old.model old.book.shape)) c.requires (machine_in_phase m old.book.phase s old.in_phase)
+    (machine_is old.book.shape m (is_machine old.model old.book.shape)) c.requires.permitted (machine_in_phase m old.book.phase s old.in_phase)
     (own_looks m s c.args.call.now c.in-Some.reply (sym c.in-Some.ensures)) (sym (unmoved (own_machine m) s c.args.call.now c.in-Some.reply (sym c.in-Some.ensures)))
     c.keep.ensures.kept c.keep.ensures.phase))
 

@@ -11,6 +11,6 @@ invariant_of-self-2 c =
     record {
       is = rw c.keep.ensures.shape old.is;
       in_phase = in_phase_kept old.book.shape (ticker old.counts) old.book.phase _ (state_in old.counts old.counted old.saved) _ c.args.call.now c.answer-reply.result
-          (fills_next old.book.talk) Failed c.keep.result old.is c.requires old.in_phase c.answer-reply.ensures c.go_on.ensures c.keep.ensures.kept c.keep.ensures.phase;
+          (fills_next old.book.talk) Failed c.keep.result old.is c.requires.permitted old.in_phase c.answer-reply.ensures c.go_on.ensures c.keep.ensures.kept c.keep.ensures.phase;
       untold = untold_kept old.book.talk c.keep.new.self.talk c.args.call.now c.keep.result old.untold c.keep.ensures.talk;
     }

@@ -1,0 +1,12 @@
+use Rattle.std.proofs.Common.{arith, refl}
+use Rattle.std.specs.Prelude.{None, slice_index_or}
+use Rattle.system_checkpoint.specs.Spelling.{times_bytes}
+use Rattle.system_checkpoint.proofs.PutLemmas.{next_room}
+use Rattle.system_checkpoint.proofs.putting.put_all_times.Goals as goal
+
+pub put_times-requires : goal.put_times-requires
+put_times-requires c =
+    let inv = c.loop-value.invariant in
+    let value = slice_index_or c.args.values.now c.loop-value.value-index None in
+    let fits = next_room times_bytes c.args.values.now c.loop-value.value-index value None c.args.out.now.items c.loop-value.out.items _ _ _ refl c.loop-value-test.true inv.text c.args.out.now.ok.0 c.loop-value.out.ok.0 c.requires.room in
+    record { room = omega (arith, fits, inv.room) }
