@@ -426,7 +426,7 @@ def drive_odd(program, directory, resolution):
 
 
 def drive_states(program, directory, resolution):
-    """A state that is saved behind a step goes on in another instance; other bytes are refused, and cut ones end the host."""
+    """A state that is saved after a step goes on in another instance; other bytes are refused, and cut ones end the host."""
     int32 = TYPES.index("Int32") + 1
     token = Description(directory).token
 

@@ -4,6 +4,7 @@ Processor time and memory are those that the system counts for the child. The me
 16 MiB it may be that of Python, from which the child comes.
 """
 import os
+import statistics
 import sys
 import time
 
@@ -38,9 +39,9 @@ def run(words, out=os.devnull, folder=None, status=0):
     return Took(used.ru_utime + used.ru_stime, time.monotonic() - begin, used.ru_maxrss * 1024, found)
 
 
-def rounds(*runs):
-    """Three rounds of several runs, beside each other, so that other work on the machine shows in all of them."""
-    found = [[one() for one in runs] for _ in range(ROUNDS)]
+def rounds(*runs, count=ROUNDS):
+    """Some rounds of several runs, beside each other, so that other work on the machine shows in all of them."""
+    found = [[one() for one in runs] for _ in range(count)]
     return list(zip(*found))
 
 
@@ -54,6 +55,11 @@ def ratios(above, below):
     """The quotients of each round."""
     found = [a / b for a, b in zip(above, below)]
     return f"{min(found):.2f} to {max(found):.2f} times"
+
+
+def middle(above, below):
+    """The one in the middle of these quotients."""
+    return f"{statistics.median(a / b for a, b in zip(above, below)):.2f} times"
 
 
 def memory(runs):

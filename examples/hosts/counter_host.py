@@ -208,7 +208,7 @@ def read_frame(stream):
 
 
 def reply(kind, status=Status.OK, flags=0, qualifier=0, first=0, second=0):
-    """The frame of a reply. From the status Discard on everything behind the status has to be 0."""
+    """The frame of a reply. From the status Discard on everything after the status has to be 0."""
     return FRAME.pack(kind, status, flags, 0, qualifier, first, second)
 
 

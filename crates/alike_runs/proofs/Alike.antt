@@ -32,7 +32,7 @@ use Rattle.event_iteration.specs.Lost.{IsFirstLost}
 use Rattle.event_iteration.specs.declared.lost.LostValue.{LostValue}
 use Rattle.machine_courses.specs.Kept.{PutsState, TakesState}
 use Rattle.run_rest.specs.Parted.{entering_step}
-use Rattle.machine_courses.specs.Fronts.{AtTheStart, InInstant, LacksStepAt, LosesAt}
+use Rattle.machine_courses.specs.Prefixes.{AtTheStart, InInstant, LacksStepAt, LosesAt}
 use Rattle.alike_runs.specs.Alike.{AreAlike, BehaveAlike, HeldAlike, PutsAlike, ReadBackAlike, TakesAlike, TraceAlike}
 
 mapped : {X Y : Type 0} (f g : X → Y) → ((x : X) → f x ≡ g x) → (xs : List X) → map f xs ≡ map g xs

@@ -74,14 +74,14 @@ fits_more f xs k x before within next =
     omega arith
 
 -- one part is put, and others after it
-pub put_behind : {A : Type 0} (old mid new x y : List A) → mid ≡ old ++ x → new ≡ mid ++ y → new ≡ old ++ (x ++ y)
-put_behind old mid new x y e f = f ∙ ap (λ t. t ++ y) e ∙ append_assoc old x y
+pub put_after : {A : Type 0} (old mid new x y : List A) → mid ≡ old ++ x → new ≡ mid ++ y → new ≡ old ++ (x ++ y)
+put_after old mid new x y e f = f ∙ ap (λ t. t ++ y) e ∙ append_assoc old x y
 
 -- one value more is put
-pub put_more : {X : Type 0} (f : X → List ℕ) (xs : List X) (i : ℕ) (x : X) (old front mid new one : List ℕ) → take (i + 1) xs ≡ take i xs ++ x ∷ [] → mid ≡ old ++ (front ++ flat_map f (take i xs)) → one ≡ f x → new ≡ mid ++ one →
-    new ≡ old ++ (front ++ flat_map f (take (i + 1) xs))
-put_more f xs i x old front mid new one next so_far is put =
+pub put_more : {X : Type 0} (f : X → List ℕ) (xs : List X) (i : ℕ) (x : X) (old prefix mid new one : List ℕ) → take (i + 1) xs ≡ take i xs ++ x ∷ [] → mid ≡ old ++ (prefix ++ flat_map f (take i xs)) → one ≡ f x → new ≡ mid ++ one →
+    new ≡ old ++ (prefix ++ flat_map f (take (i + 1) xs))
+put_more f xs i x old prefix mid new one next so_far is put =
     put ∙ ap₂ (λ (a b : List ℕ). a ++ b) so_far is
-    ∙ append_assoc old (front ++ flat_map f (take i xs)) (f x)
-    ∙ ap (λ (a : List ℕ). old ++ a) (flat_map_more f front (take i xs) x)
-    ∙ ap (λ ys. old ++ (front ++ flat_map f ys)) (sym next)
+    ∙ append_assoc old (prefix ++ flat_map f (take i xs)) (f x)
+    ∙ ap (λ (a : List ℕ). old ++ a) (flat_map_more f prefix (take i xs) x)
+    ∙ ap (λ ys. old ++ (prefix ++ flat_map f ys)) (sym next)

@@ -64,7 +64,7 @@ module _ (n : Numbers) (rest : List ℕ) where
   long : 32 ≤ length (numbers_bytes n ++ rest)
   long =
       let sum = length-append (numbers_bytes n) rest in
-      let front : length (numbers_bytes n) ≡ 32 = refl in
+      let prefix : length (numbers_bytes n) ≡ 32 = refl in
       omega arith
 
 again : (kind : PortType) (z : ℤ) → Fits kind z → from_be_bytes w64 (number_bytes z) ≡ word_of z
@@ -109,7 +109,7 @@ value_back : (kind : PortType) (reference : ℕ) (value : ℤ) (rest : List ℕ)
 value_back kind reference value rest =
     let bytes = value_bytes (Some kind) reference value ++ rest in
     let sum = length-append (value_bytes (Some kind) reference value) rest in
-    let front : length (value_bytes (Some kind) reference value) ≡ 12 = refl in
+    let prefix : length (value_bytes (Some kind) reference value) ≡ 12 = refl in
     let word : word_at bytes 4 ≡ from_be_bytes w64 (number_bytes (wrapped kind value)) = refl in
     ap (λ (b : Bool). if b then None else (if starts_with nat_eq bytes (to_be_bytes w32 reference) then word_value kind (word_at bytes 4) else None)) (long_enough (length bytes) (omega arith))
     ∙ ap (λ (b : Bool). if b then word_value kind (word_at bytes 4) else None) (begins reference (number_bytes (wrapped kind value) ++ rest))

@@ -7,7 +7,7 @@ use Rattle.fmu_peer.specs.declared.talk_room.TalkRoom.{TalkRoom}
 use Rattle.fmu_peer.specs.Book.{fills_next}
 use Rattle.fmu_peer.specs.View.{Serializes}
 use Rattle.bench_fmus.specs.declared.script.Script.{Script}
-use Rattle.bench_fmus.specs.Answers.{Answer, answer_at, bytes_behind_answer, calls_in, followed, outlasts}
+use Rattle.bench_fmus.specs.Answers.{Answer, answer_at, bytes_after_answer, calls_in, followed, outlasts}
 use Rattle.bench_fmus.specs.ScriptView.{script_view}
 
 -- past the end a script fails
@@ -47,11 +47,11 @@ kept_followed talk answers given answer result more given_is answer_is result_is
     ∙ ap followed (kept_answer talk answers given (if fills_next talk then Err Failed else given) more given_is refl)
 
 -- it is followed by as many bytes as it tells of
-pub script_serializes : (s : Script) (answer result : Answer) (bytes : List ℕ) (fills : Bool) → bytes_behind_answer answer ≤ 2 ^ 20 → length bytes ≡ bytes_behind_answer answer →
+pub script_serializes : (s : Script) (answer result : Answer) (bytes : List ℕ) (fills : Bool) → bytes_after_answer answer ≤ 2 ^ 20 → length bytes ≡ bytes_after_answer answer →
     result ≡ (if fills then Err Failed else answer) → Serializes (script_view s) result bytes
 script_serializes s answer result bytes true few count is = subst (λ (r : Answer). Serializes (script_view s) r bytes) (sym is) tt
 script_serializes s answer result bytes false few count is = subst (λ (r : Answer). Serializes (script_view s) r bytes) (sym is) (by answer few count)
   where
-    by : (a : Answer) → bytes_behind_answer a ≤ 2 ^ 20 → length bytes ≡ bytes_behind_answer a → Serializes (script_view s) a bytes
+    by : (a : Answer) → bytes_after_answer a ≤ 2 ^ 20 → length bytes ≡ bytes_after_answer a → Serializes (script_view s) a bytes
     by (Ok reply) few count = record { count = count; few = omega arith; packed = tt }
     by (Err fault) few count = tt

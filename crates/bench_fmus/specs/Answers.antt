@@ -3,7 +3,7 @@ use Rattle.std.specs.Prelude.{ℕ, ◌^◌, Bool, false, nat_le, nat_lt, List, l
 use Rattle.fmi_calls.specs.declared.call.Reply.{Reply}
 use Rattle.fmu_peer.specs.declared.peer.PeerFault.{PeerFault}
 use Rattle.fmu_peer.specs.declared.peer.PeerFault.TheVariants.{Failed}
-use Rattle.fmu_peer.specs.Machine.{bytes_behind}
+use Rattle.fmu_peer.specs.Machine.{bytes_after_reply}
 use Rattle.fmu_peer.specs.declared.talk_room.TalkRoom.{TalkRoom}
 
 -- a reply, or a fault in its place
@@ -15,13 +15,13 @@ abbrev pub answer_at : List Answer → ℕ → Answer
 answer_at answers place = unwrap_or (slice_get answers place) (Err Failed)
 
 -- how many bytes follow an answer to Serialize
-abbrev pub bytes_behind_answer : Answer → ℕ
-bytes_behind_answer (Ok reply) = bytes_behind reply
-bytes_behind_answer (Err fault) = 0
+abbrev pub bytes_after_answer : Answer → ℕ
+bytes_after_answer (Ok reply) = bytes_after_reply reply
+bytes_after_answer (Err fault) = 0
 
 -- an answer to Serialize: one that tells of more than 2^20 bytes is `Failed`
 abbrev pub followed : Answer → Answer
-followed answer = if nat_le (bytes_behind_answer answer) (2 ^ 20) then answer else Err Failed
+followed answer = if nat_le (bytes_after_answer answer) (2 ^ 20) then answer else Err Failed
 
 -- how many calls there were
 abbrev pub calls_in : Option TalkRoom → ℕ

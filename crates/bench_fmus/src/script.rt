@@ -1,6 +1,6 @@
 ghost use Rattle.std.specs.Prelude.{◌≡◌, ◌≤◌, ◌^◌, IsTrue, [], false, length, option_map, vec_capacity};
 ghost use Rattle.fmi_calls.specs.Permission.{Permitted};
-ghost use Rattle.bench_fmus.specs.Answers.{answer_at, bytes_behind_answer, calls_in, followed, outlasts};
+ghost use Rattle.bench_fmus.specs.Answers.{answer_at, bytes_after_answer, calls_in, followed, outlasts};
 
 use crate::Origin;
 use fmi_calls::{Call, Content, Phase, Reply};
@@ -53,8 +53,8 @@ fn calls_in(talk: &Option<TalkRoom>) -> usize
 }
 
 // How many bytes follow an answer to Serialize.
-fn bytes_behind(answer: &Result<Reply, PeerFault>) -> usize
-    ensures { result ≡ bytes_behind_answer answer.now }
+fn bytes_after(answer: &Result<Reply, PeerFault>) -> usize
+    ensures { result ≡ bytes_after_answer answer.now }
 {
     match answer {
         Ok(
@@ -70,9 +70,9 @@ fn bytes_behind(answer: &Result<Reply, PeerFault>) -> usize
 // An answer that tells of more than 2^20 bytes is none.
 fn followed(answer: Result<Reply, PeerFault>) -> Result<Reply, PeerFault>
     ensures is { result ≡ followed answer }
-    ensures few { bytes_behind_answer result ≤ 2 ^ 20 }
+    ensures few { bytes_after_answer result ≤ 2 ^ 20 }
 {
-    if bytes_behind(&answer) <= MOST_BYTES {
+    if bytes_after(&answer) <= MOST_BYTES {
         answer
     } else {
         Err(PeerFault::Failed)
@@ -129,7 +129,7 @@ impl Peer for Script {
     {
         let given = answer_at(self.answers.as_slice(), calls_in(&self.book.talk));
         let answer = followed(given);
-        into.resize(bytes_behind(&answer), 0).unwrap();
+        into.resize(bytes_after(&answer), 0).unwrap();
         self.book.keep(&Call::Serialize, answer)
     }
 

@@ -46,7 +46,8 @@ use Rattle.run_rest.specs.Lasting.{LastsAlong}
 use Rattle.run_rest.specs.Laws.{LastingReadsBack}
 use Rattle.built_in_laws.specs.BuiltInBytes.{BuiltInsReadBack}
 use Rattle.built_in_laws.proofs.Keeping.{At, IsFound, Nowhere, is_found}
-use Rattle.built_in_laws.proofs.Ranges.{AreRanged, IsInTime, all_kept, all_kept_length, both, fits_of, fitting, is_kept, is_out, join, kept_all_written, kept_at, kept_written, ranged, ranges, ranges_after, ranges_of, zero_fits}
+use Rattle.value_types.proofs.CallerLemmas.{fits_of, fitting}
+use Rattle.built_in_laws.proofs.Ranges.{AreRanged, IsInTime, all_kept, all_kept_length, both, is_kept, is_out, join, kept_all_written, kept_at, kept_written, ranged, ranges, ranges_after, ranges_of, zero_fits}
 
 -- ---- the variables of a sound shape
 

@@ -10,6 +10,7 @@ use Rattle.value_types.specs.declared.shape.Shape.{Shape}
 use Rattle.value_types.specs.declared.values.PortType.{PortType}
 use Rattle.value_types.specs.declared.values.PortType.TheVariants.{Int8, UInt8, Int16, UInt16, Int32, UInt32, Int64, UInt64, Boolean, Enumeration, Clock}
 use Rattle.value_types.specs.Values.{Fits, is_fitting}
+use Rattle.value_types.proofs.CallerLemmas.{fits_of, fitting}
 use Rattle.fmi_calls.specs.declared.call.Call.{Call}
 use Rattle.fmi_calls.specs.declared.call.Call.TheVariants as C
 use Rattle.fmu_peer.specs.Machine.{all_written, written}
@@ -31,12 +32,6 @@ both false b e = absurd (true_false (sym e))
 pub join : (a b : Bool) → a ≡ true → b ≡ true → (a && b) ≡ true
 join true b x y = y
 join false b x y = absurd (cc)
-
-pub fitting : (kind : PortType) (x : ℤ) → Fits kind x → is_fitting kind x ≡ true
-fitting kind x fits = grind (arith, ints)
-
-pub fits_of : (kind : PortType) (x : ℤ) → is_fitting kind x ≡ true → Fits kind x
-fits_of kind x is = grind (arith, ints)
 
 pub zero_fits : (kind : PortType) → Fits kind (pos 0)
 zero_fits Int8 = (omega (arith, ints), omega (arith, ints))

@@ -43,10 +43,10 @@ or_false false = refl
 
 at_bound : (shape : Shape) (at size : ℕ) → 0 < size → is_step_end shape at size false (at + size) ≡ true
 at_bound shape at size moves =
-    let behind : nat_lt at (at + size) ≡ true = grind (arith, nat_tests) in
+    let after : nat_lt at (at + size) ≡ true = grind (arith, nat_tests) in
     let bound : nat_le (at + size) (at + size) ≡ true = grind (arith, nat_tests) in
     let last : nat_lt (at + size) (at + size) ≡ false = grind (arith, nat_tests) in
-    simp (behind, bound, last) (or_true shape.might_return_early)
+    simp (after, bound, last) (or_true shape.might_return_early)
 
 -- a step ends early inside it, and where that is allowed
 abbrev IsEarlyEnd : Shape → ℕ → ℕ → ℕ → Type 0
@@ -54,10 +54,10 @@ IsEarlyEnd shape at size end = (shape.might_return_early ≡ true) × (at < end)
 
 early : (shape : Shape) (at size end : ℕ) → IsEarlyEnd shape at size end → is_step_end shape at size true end ≡ true
 early shape at size end is =
-    let behind : nat_lt at end ≡ true = grind (arith, nat_tests) in
+    let after : nat_lt at end ≡ true = grind (arith, nat_tests) in
     let bound : nat_le end (at + size) ≡ true = grind (arith, nat_tests) in
     let before : nat_lt end (at + size) ≡ true = grind (arith, nat_tests) in
-    simp (behind, bound, before) (or_false shape.might_return_early ∙ is.0)
+    simp (after, bound, before) (or_false shape.might_return_early ∙ is.0)
 
 pub step_right : (shape : Shape) (at size : ℕ) (terminate : Bool) (end : Option ℕ) → 0 < size → IfSome end (IsEarlyEnd shape at size) →
     is_valid shape (C.DoStep at size) (step_content shape.has_event_mode terminate (at + size) end) ≡ true

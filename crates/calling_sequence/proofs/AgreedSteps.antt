@@ -33,7 +33,7 @@ use Rattle.calling_sequence.specs.declared.run_end.RunEnd.TheVariants as E
 use Rattle.calling_sequence.specs.Calls.{first_unfit, saving}
 use Rattle.calling_sequence.specs.Course.{Agreed as AgreedAt, Agreeing, CourseIn, Departing, Extent, Frees, IsWithin, LeadsTo, MayLeave, On, Place, Saved, Saves, Short, Spot, Stopping, Way, part_at, shown}
 use Rattle.calling_sequence.specs.Ends.{AtShort, Badly, FinishesIn, Well, end_of_step}
-use Rattle.calling_sequence.specs.Goes.{StepsFrom, stepped_to}
+use Rattle.calling_sequence.specs.StageOutcomes.{StepsFrom, stepped_to}
 use Rattle.calling_sequence.specs.Parts.{AllAgree, Does}
 use Rattle.calling_sequence.specs.Place.{IsDeparting, IsStepping}
 use Rattle.calling_sequence.specs.Ready.{Ready}
@@ -47,36 +47,36 @@ use Rattle.calling_sequence.proofs.Staying.{AreOfStep, IsOfStep, agreement_of_st
 -- ---- where it leads the run
 
 -- a part after which no instant stands
-part_on : (e : Experiment) (extent : Extent) (p q : Place) (values : List (Option ℤ)) (front more : List Sent) (is : List Instant) → Does e.system (part_at e.system e.bound e.plan p) values more → LeadsTo e.system e.plan p values more q → IsWithin extent q → shown q ≡ [] → CourseIn e.system e.bound e.plan extent p front is → CourseIn e.system e.bound e.plan extent q (front ++ more) is
-part_on e extent p q values front more is does leads within quiet course =
-    subst (λ (l : List Instant). CourseIn e.system e.bound e.plan extent q (front ++ more) l) (ap (λ (l : List Instant). is ++ l) quiet ∙ append-nil is) (On p q values front more is course does leads within)
+part_on : (e : Experiment) (extent : Extent) (p q : Place) (values : List (Option ℤ)) (prefix more : List Sent) (is : List Instant) → Does e.system (part_at e.system e.bound e.plan p) values more → LeadsTo e.system e.plan p values more q → IsWithin extent q → shown q ≡ [] → CourseIn e.system e.bound e.plan extent p prefix is → CourseIn e.system e.bound e.plan extent q (prefix ++ more) is
+part_on e extent p q values prefix more is does leads within quiet course =
+    subst (λ (l : List Instant). CourseIn e.system e.bound e.plan extent q (prefix ++ more) l) (ap (λ (l : List Instant). is ++ l) quiet ∙ append-nil is) (On p q values prefix more is course does leads within)
 
 module _ (e : Experiment) (extent : Extent) (s : Spot) (may : MayLeave extent s.t) (bound : ℕ) where
   abbrev w : Way
   w = record { s = s; to = bound }
 
   abbrev Comes : Place → List Sent → Type 0
-  Comes q more = (front : List Sent) (is : List Instant) → CourseIn e.system e.bound e.plan extent (Departing w) front is → CourseIn e.system e.bound e.plan extent q (front ++ more) is
+  Comes q more = (prefix : List Sent) (is : List Instant) → CourseIn e.system e.bound e.plan extent (Departing w) prefix is → CourseIn e.system e.bound e.plan extent q (prefix ++ more) is
 
   abbrev Steps : List Sent → Result Agreed StepEnd → Type 0
   Steps log r = StepsBy s.t e.plan.step bound (shapes_of e.system) log r
 
   -- the states were saved
   saved_on : (saves : List Sent) → IsAnswered (shapes_of e.system) (saving e.system) saves → Comes (Saved w) saves
-  saved_on saves a front is course = part_on e extent (Departing w) (Saved w) [] front saves is a (Saves w [] saves) tt refl course
+  saved_on saves a prefix is course = part_on e extent (Departing w) (Saved w) [] prefix saves is a (Saves w [] saves) tt refl course
 
   -- they were, and all came to one point
   agreed_on : (saves agreed : List Sent) (m : ℕ) → IsAnswered (shapes_of e.system) (saving e.system) saves → AllAgree e.system s.t e.plan.step bound agreed (Meets m) →
       Comes (AgreedAt w m (some_ask_from 0 (shapes_of e.system) agreed)) (saves ++ agreed)
-  agreed_on saves agreed m a agrees front is course =
+  agreed_on saves agreed m a agrees prefix is course =
       let q = AgreedAt w m (some_ask_from 0 (shapes_of e.system) agreed) in
-      subst (λ (l : List Sent). CourseIn e.system e.bound e.plan extent q l is) (append_assoc front saves agreed)
-      (part_on e extent (Saved w) q [] (front ++ saves) agreed is (Meets m, tt, agrees) (Agreeing w [] agreed m (some_ask_from 0 (shapes_of e.system) agreed) agrees refl) tt refl (saved_on saves a front is course))
+      subst (λ (l : List Sent). CourseIn e.system e.bound e.plan extent q l is) (append_assoc prefix saves agreed)
+      (part_on e extent (Saved w) q [] (prefix ++ saves) agreed is (Meets m, tt, agrees) (Agreeing w [] agreed m (some_ask_from 0 (shapes_of e.system) agreed) agrees refl) tt refl (saved_on saves a prefix is course))
 
   short_on : (saves agreed : List Sent) (i end : ℕ) → IsAnswered (shapes_of e.system) (saving e.system) saves → AllAgree e.system s.t e.plan.step bound agreed (Unfit i end) → Comes (Short w i end) (saves ++ agreed)
-  short_on saves agreed i end a agrees front is course =
-      subst (λ (l : List Sent). CourseIn e.system e.bound e.plan extent (Short w i end) l is) (append_assoc front saves agreed)
-      (part_on e extent (Saved w) (Short w i end) [] (front ++ saves) agreed is (Unfit i end, tt, agrees) (Stopping w [] agreed i end agrees) tt refl (saved_on saves a front is course))
+  short_on saves agreed i end a agrees prefix is course =
+      subst (λ (l : List Sent). CourseIn e.system e.bound e.plan extent (Short w i end) l is) (append_assoc prefix saves agreed)
+      (part_on e extent (Saved w) (Short w i end) [] (prefix ++ saves) agreed is (Unfit i end, tt, agrees) (Stopping w [] agreed i end agrees) tt refl (saved_on saves a prefix is course))
 
   -- a step that is made
   pub lands : (agreed : Agreed) (log : List Sent) → Steps log (Ok agreed) → Comes (stepped_to s agreed) log
@@ -85,18 +85,18 @@ module _ (e : Experiment) (extent : Extent) (s : Spot) (may : MayLeave extent s.
   lands agreed log (StopsShort i end saves is) = absurd (cc)
   lands agreed log (StepsBadly bad saves is) = absurd (cc)
   lands agreed log (FreesBadly bad m frees saves fails is) = absurd (cc)
-  lands agreed log (Done m frees saves freed is) = λ front is_shown course.
+  lands agreed log (Done m frees saves freed is) = λ prefix is_shown course.
       let asked = some_ask_from 0 (shapes_of e.system) saves.agreed in
       let same : record { point = m; asked = asked } ≡ agreed = cc in
-      let whole : front ++ log ≡ (front ++ (saves.saves ++ saves.agreed)) ++ frees =
-      ap (λ (l : List Sent). front ++ l) (saves.log_is ∙ sym (append_assoc saves.saves saves.agreed frees)) ∙ sym (append_assoc front (saves.saves ++ saves.agreed) frees) in
-      subst (λ (a : Agreed). CourseIn e.system e.bound e.plan extent (stepped_to s a) (front ++ log) is_shown) same
+      let whole : prefix ++ log ≡ (prefix ++ (saves.saves ++ saves.agreed)) ++ frees =
+      ap (λ (l : List Sent). prefix ++ l) (saves.log_is ∙ sym (append_assoc saves.saves saves.agreed frees)) ∙ sym (append_assoc prefix (saves.saves ++ saves.agreed) frees) in
+      subst (λ (a : Agreed). CourseIn e.system e.bound e.plan extent (stepped_to s a) (prefix ++ log) is_shown) same
       (subst (λ (l : List Sent). CourseIn e.system e.bound e.plan extent (stepped_to s (record { point = m; asked = asked })) l is_shown) (sym whole)
-      (part_on e extent (AgreedAt w m asked) (stepped_to s (record { point = m; asked = asked })) [] (front ++ (saves.saves ++ saves.agreed)) frees is_shown freed (Frees w m asked [] frees) tt refl
-      (agreed_on saves.saves saves.agreed m saves.saved saves.agrees front is_shown course)))
+      (part_on e extent (AgreedAt w m asked) (stepped_to s (record { point = m; asked = asked })) [] (prefix ++ (saves.saves ++ saves.agreed)) frees is_shown freed (Frees w m asked [] frees) tt refl
+      (agreed_on saves.saves saves.agreed m saves.saved saves.agrees prefix is_shown course)))
 
   abbrev Ends : StepEnd → List Sent → Type 0
-  Ends end log = (front : List Sent) (is : List Instant) → CourseIn e.system e.bound e.plan extent (Departing w) front is → FinishesIn e.system e.bound e.plan extent (end_of_step end) s.t (front ++ log) is
+  Ends end log = (prefix : List Sent) (is : List Instant) → CourseIn e.system e.bound e.plan extent (Departing w) prefix is → FinishesIn e.system e.bound e.plan extent (end_of_step end) s.t (prefix ++ log) is
 
   ends_as : (end other : StepEnd) (log : List Sent) → (let r : Result Agreed StepEnd = Err end in r ≡ Err other) → Ends other log → Ends end log
   ends_as end other log is h = let same : other ≡ end = cc in subst (λ (x : StepEnd). Ends x log) same h
@@ -104,20 +104,20 @@ module _ (e : Experiment) (extent : Extent) (s : Spot) (may : MayLeave extent s.
   -- and one that isn't
   pub stops : first_unfit e.system e.plan (bound - s.t) ≡ None → (end : StepEnd) (log : List Sent) → Steps log (Err end) → Ends end log
   stops fit end log (Unfitted i unfit none is) = let fits = unfit_is e.system e.plan s.t (bound - s.t) ∙ fit in absurd (cc)
-  stops fit end log (SavesBadly bad fits fails is) = ends_as end (Bad bad) log is (λ front shown_is course. Badly (Departing w) bad front log shown_is course fails)
-  stops fit end log (StopsShort i to saves is) = ends_as end (FixedStep (record { 0 = i }) s.t to) log is (λ front shown_is course.
-      subst (λ (l : List Sent). FinishesIn e.system e.bound e.plan extent (E.FixedStep (record { 0 = i }) s.t to) s.t (front ++ l) shown_is) (sym (saves.log_is ∙ ap (λ (l : List Sent). saves.saves ++ l) (append-nil saves.agreed)))
-      (Well (Short w i to) (E.FixedStep (record { 0 = i }) s.t to) (front ++ (saves.saves ++ saves.agreed)) shown_is (short_on saves.saves saves.agreed i to saves.saved saves.agrees front shown_is course) (AtShort w (record { 0 = i }) to) may))
-  stops fit end log (StepsBadly bad saves is) = ends_as end (Bad bad) log is (λ front shown_is course.
+  stops fit end log (SavesBadly bad fits fails is) = ends_as end (Bad bad) log is (λ prefix shown_is course. Badly (Departing w) bad prefix log shown_is course fails)
+  stops fit end log (StopsShort i to saves is) = ends_as end (FixedStep (record { 0 = i }) s.t to) log is (λ prefix shown_is course.
+      subst (λ (l : List Sent). FinishesIn e.system e.bound e.plan extent (E.FixedStep (record { 0 = i }) s.t to) s.t (prefix ++ l) shown_is) (sym (saves.log_is ∙ ap (λ (l : List Sent). saves.saves ++ l) (append-nil saves.agreed)))
+      (Well (Short w i to) (E.FixedStep (record { 0 = i }) s.t to) (prefix ++ (saves.saves ++ saves.agreed)) shown_is (short_on saves.saves saves.agreed i to saves.saved saves.agrees prefix shown_is course) (AtShort w (record { 0 = i }) to) may))
+  stops fit end log (StepsBadly bad saves is) = ends_as end (Bad bad) log is (λ prefix shown_is course.
       subst (λ (l : List Sent). FinishesIn e.system e.bound e.plan extent (E.Bad bad) s.t l shown_is)
-      (append_assoc front saves.saves saves.agreed ∙ sym (ap (λ (l : List Sent). front ++ l) (saves.log_is ∙ ap (λ (l : List Sent). saves.saves ++ l) (append-nil saves.agreed))))
-      (Badly (Saved w) bad (front ++ saves.saves) saves.agreed shown_is (saved_on saves.saves saves.saved front shown_is course) saves.agrees))
-  stops fit end log (FreesBadly bad m frees saves fails is) = ends_as end (Bad bad) log is (λ front shown_is course.
+      (append_assoc prefix saves.saves saves.agreed ∙ sym (ap (λ (l : List Sent). prefix ++ l) (saves.log_is ∙ ap (λ (l : List Sent). saves.saves ++ l) (append-nil saves.agreed))))
+      (Badly (Saved w) bad (prefix ++ saves.saves) saves.agreed shown_is (saved_on saves.saves saves.saved prefix shown_is course) saves.agrees))
+  stops fit end log (FreesBadly bad m frees saves fails is) = ends_as end (Bad bad) log is (λ prefix shown_is course.
       let asked = some_ask_from 0 (shapes_of e.system) saves.agreed in
-      let whole : front ++ log ≡ (front ++ (saves.saves ++ saves.agreed)) ++ frees =
-      ap (λ (l : List Sent). front ++ l) (saves.log_is ∙ sym (append_assoc saves.saves saves.agreed frees)) ∙ sym (append_assoc front (saves.saves ++ saves.agreed) frees) in
+      let whole : prefix ++ log ≡ (prefix ++ (saves.saves ++ saves.agreed)) ++ frees =
+      ap (λ (l : List Sent). prefix ++ l) (saves.log_is ∙ sym (append_assoc saves.saves saves.agreed frees)) ∙ sym (append_assoc prefix (saves.saves ++ saves.agreed) frees) in
       subst (λ (l : List Sent). FinishesIn e.system e.bound e.plan extent (E.Bad bad) s.t l shown_is) (sym whole)
-      (Badly (AgreedAt w m asked) bad (front ++ (saves.saves ++ saves.agreed)) frees shown_is (agreed_on saves.saves saves.agreed m saves.saved saves.agrees front shown_is course) fails))
+      (Badly (AgreedAt w m asked) bad (prefix ++ (saves.saves ++ saves.agreed)) frees shown_is (agreed_on saves.saves saves.agreed m saves.saved saves.agrees prefix shown_is course) fails))
   stops fit end log (Done m frees saves freed is) = absurd (cc)
 
 -- ---- what it needs of the slots, and where it leaves them

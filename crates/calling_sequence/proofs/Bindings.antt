@@ -26,9 +26,9 @@ use Rattle.system_model.specs.Bounds.{AreParameterValues, BindsParameters, IsPar
 use Rattle.run_model.specs.Initial.{set_call}
 use Rattle.slot_calls.specs.declared.bad_answer.BadAnswer.{BadAnswer}
 use Rattle.slot_calls.specs.Carried.{reply_in}
-use Rattle.slot_calls.specs.Log.{Asking, One, Sent, Told}
+use Rattle.slot_calls.specs.Log.{ComponentCall, One, Sent, Told}
 use Rattle.slot_calls.specs.Stage.{IsAnswered, Stage, StopsAt, nothing, shapes, shapes_of}
-use Rattle.slot_calls.proofs.CallerLemmas.{one_log, shape_of, stage_cut, stage_cut_later, stage_on, stops_front, Led, led, shape_there, turn_answered, turn_stops, turn_told}
+use Rattle.slot_calls.proofs.CallerLemmas.{one_log, shape_of, stage_cut, stage_cut_later, stage_on, stops_prefix, Led, led, shape_there, turn_answered, turn_stops, turn_told}
 use Rattle.event_iteration.proofs.ByLog.{value_type}
 use Rattle.calling_sequence.specs.Calls.{binding_from, sets_of}
 use Rattle.calling_sequence.specs.Place.{IsMade}
@@ -64,7 +64,7 @@ set_stays v w e h l set =
 
 -- ---- the Sets of one component
 
-abbrev asking_by : ℕ → BoundValue → Asking
+abbrev asking_by : ℕ → BoundValue → ComponentCall
 asking_by place b = record { component = place; call = set_call b }
 
 module _ (place : ℕ) (values : List BoundValue) (i : ℕ) (b : BoundValue) (within : i < length values) (is : b ≡ get_or values i b) where
@@ -76,7 +76,7 @@ module _ (place : ℕ) (values : List BoundValue) (i : ℕ) (b : BoundValue) (wi
   pub sets_split : sets_of place values ≡ (sets_of place (take i values) ++ asking_by place b ∷ []) ++ sets_of place (drop (i + 1) values)
   sets_split =
       ap (sets_of place) (sym (take-append-drop (i + 1) values)) ∙ map-append (asking_by place) (take (i + 1) values) (drop (i + 1) values)
-      ∙ ap (λ (cs : List Asking). cs ++ sets_of place (drop (i + 1) values)) sets_more
+      ∙ ap (λ (cs : List ComponentCall). cs ++ sets_of place (drop (i + 1) values)) sets_more
 
 -- one of them more, with the instance in a slot
 module _ {A : Type 0} (f : A → Instance) (olds news : List A) (log : List Sent) (told : Told log (map f olds) (map f news)) (place : ℕ) (d y : A) (inside : place < length news)
@@ -101,7 +101,7 @@ module _ {A : Type 0} (f : A → Instance) (olds news : List A) (log : List Sent
   module _ (answered : IsAnswered (shapes (map f olds)) (sets_of place (take i values)) log) where
     pub set_answered : (v : Option Reply) (o : One call reply_in there (f y) (Ok v)) → IsAnswered (shapes (map f olds)) (sets_of place (take (i + 1) values)) (log ++ one_log place o.exchange)
     set_answered v o =
-        subst (λ (cs : List Asking). IsAnswered (shapes (map f olds)) cs (log ++ one_log place o.exchange))
+        subst (λ (cs : List ComponentCall). IsAnswered (shapes (map f olds)) cs (log ++ one_log place o.exchange))
         (ap (λ (x : Call). sets_of place (take i values) ++ record { component = place; call = x } ∷ []) call_is ∙ sym (sets_more place values i b within is))
         (turn_answered f (map f olds) news log told place d y inside call reply_in (sets_of place (take i values)) answered v o)
 
@@ -109,9 +109,9 @@ module _ {A : Type 0} (f : A → Instance) (olds news : List A) (log : List Sent
     set_badly bad at o = record {
       log = log ++ one_log place o.exchange;
       told = set_told (Err bad.why) o;
-      says = subst (λ (cs : List Asking). StopsAt (shapes (map f olds)) cs bad (log ++ one_log place o.exchange))
+      says = subst (λ (cs : List ComponentCall). StopsAt (shapes (map f olds)) cs bad (log ++ one_log place o.exchange))
           (ap (λ (x : Call). (sets_of place (take i values) ++ record { component = place; call = x } ∷ []) ++ sets_of place (drop (i + 1) values)) call_is ∙ sym (sets_split place values i b within is))
-          (stops_front (shapes (map f olds)) _ (sets_of place (drop (i + 1) values)) bad (log ++ one_log place o.exchange)
+          (stops_prefix (shapes (map f olds)) _ (sets_of place (drop (i + 1) values)) bad (log ++ one_log place o.exchange)
           (turn_stops f (map f olds) news log told place d y inside call reply_in (sets_of place (take i values)) answered bad at o));
     }
 
@@ -125,7 +125,7 @@ pub binding_append : (k : ℕ) (xs ys : List (List BoundValue)) → binding_from
 binding_append k [] ys = ap (λ (n : ℕ). binding_from n ys) (omega arith)
 binding_append k (values ∷ xs) ys =
     let place : k + 1 + length xs ≡ k + length (values ∷ xs) = omega arith in
-    ap (λ (cs : List Asking). sets_of k values ++ cs) (binding_append (k + 1) xs ys ∙ ap (λ (n : ℕ). binding_from (k + 1) xs ++ binding_from n ys) place)
+    ap (λ (cs : List ComponentCall). sets_of k values ++ cs) (binding_append (k + 1) xs ys ∙ ap (λ (n : ℕ). binding_from (k + 1) xs ++ binding_from n ys) place)
     ∙ sym (append_assoc (sets_of k values) (binding_from (k + 1) xs) (binding_from (k + length (values ∷ xs)) ys))
 
 module _ (lists : List (List BoundValue)) (i : ℕ) (values : List BoundValue) (within : i < length lists) (is : values ≡ get_or lists i values) where
@@ -136,25 +136,25 @@ module _ (lists : List (List BoundValue)) (i : ℕ) (values : List BoundValue) (
   binding_more =
       ap (binding_from 0) (take_more lists i values within) ∙ binding_append 0 (take i lists) (get_or lists i values ∷ [])
       ∙ ap (λ (vs : List BoundValue). binding_from 0 (take i lists) ++ binding_from (0 + length (take i lists)) (vs ∷ [])) (sym is)
-      ∙ ap (λ (cs : List Asking). binding_from 0 (take i lists) ++ cs) (append-nil (sets_of (0 + length (take i lists)) values))
+      ∙ ap (λ (cs : List ComponentCall). binding_from 0 (take i lists) ++ cs) (append-nil (sets_of (0 + length (take i lists)) values))
       ∙ ap (λ (n : ℕ). binding_from 0 (take i lists) ++ sets_of n values) (let t = taken in omega (arith, t))
 
   pub binding_split : binding_from 0 lists ≡ (binding_from 0 (take i lists) ++ sets_of i values) ++ binding_from (0 + length (take (i + 1) lists)) (drop (i + 1) lists)
   binding_split =
       ap (binding_from 0) (sym (take-append-drop (i + 1) lists)) ∙ binding_append 0 (take (i + 1) lists) (drop (i + 1) lists)
-      ∙ ap (λ (cs : List Asking). cs ++ binding_from (0 + length (take (i + 1) lists)) (drop (i + 1) lists)) binding_more
+      ∙ ap (λ (cs : List ComponentCall). cs ++ binding_from (0 + length (take (i + 1) lists)) (drop (i + 1) lists)) binding_more
 
   module _ (olds mids news : List Instance) (s : Stage (binding_from 0 (take i lists)) nothing olds mids (Ok tt)) where
     -- one component more
     pub binding_on : Stage (sets_of i values) nothing mids news (Ok tt) → Stage (binding_from 0 (take (i + 1) lists)) nothing olds news (Ok tt)
     binding_on t =
-        subst (λ (cs : List Asking). Stage cs nothing olds news (Ok tt)) (sym binding_more)
+        subst (λ (cs : List ComponentCall). Stage cs nothing olds news (Ok tt)) (sym binding_more)
         (stage_on (binding_from 0 (take i lists)) (sets_of i values) nothing nothing nothing olds mids news tt tt tt s t refl)
 
     -- or a bad answer
     pub binding_cut : (bad : BadAnswer) (r : Result (Unit {0}) BadAnswer) → r ≡ Err bad → Stage (sets_of i values) nothing mids news (Err bad) → Stage (binding_from 0 lists) nothing olds news r
     binding_cut bad r is_bad t =
-        subst (λ (cs : List Asking). Stage cs nothing olds news r) (sym binding_split)
+        subst (λ (cs : List ComponentCall). Stage cs nothing olds news r) (sym binding_split)
         (stage_cut (binding_from 0 (take i lists) ++ sets_of i values) _ nothing nothing olds mids news bad r is_bad
         (stage_cut_later (binding_from 0 (take i lists)) (sets_of i values) nothing nothing olds mids news bad (Err bad) refl tt s nothing t))
 

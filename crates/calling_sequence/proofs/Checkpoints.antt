@@ -11,12 +11,12 @@ use Rattle.system_checkpoint.specs.Spelling.{AreTimes, first_bytes, sized, spell
 use Rattle.event_iteration.specs.Clocks.{timers_in}
 use Rattle.slot_calls.specs.declared.bad_answer.BadAnswer.{BadAnswer}
 use Rattle.slot_calls.specs.Stage.{IsAnswered, Stage, StopsAt, nothing, shapes, shapes_of}
-use Rattle.slot_calls.proofs.CallerLemmas.{shape_of, shapes_same, stops_front, stops_on, told_on}
+use Rattle.slot_calls.proofs.CallerLemmas.{shape_of, shapes_same, stops_on, stops_prefix, told_on}
 use Rattle.calling_sequence.specs.declared.buffers.Buffers.{Buffers}
 use Rattle.calling_sequence.specs.declared.experiment.Experiment.{Experiment}
 use Rattle.calling_sequence.specs.Calls.{entering_step, keeping, keeping_from}
 use Rattle.calling_sequence.specs.Ends.{header_of}
-use Rattle.calling_sequence.specs.Goes.{spot}
+use Rattle.calling_sequence.specs.StageOutcomes.{spot}
 use Rattle.calling_sequence.specs.Holding.{KeepsBadly, KeepsBytes, KeepsWell, by_port, kept_at, rest_bytes, times_of}
 use Rattle.calling_sequence.specs.Ready.{IsDone, MayBeRun}
 use Rattle.calling_sequence.proofs.Held.{can_be_held}
@@ -25,14 +25,14 @@ use Rattle.calling_sequence.proofs.Held.{can_be_held}
 
 -- the parts one after the other are the spelling
 bytes_of : (e : Experiment) (t : ℕ) (b : Buffers) (states : List (List ℕ)) → b.schedule.stop ≡ e.plan.stop → (first mid last : List ℕ) → first ≡ first_bytes e.plan t ++ sized (header_of e.system e.plan) → mid ≡ first ++ flat_map sized states →
-    last ≡ mid ++ rest_bytes e.system b.schedule.stop b.values.items (timers_in b.schedule) b.schedule.events → last ≡ spelling (header_of e.system e.plan) (kept_at e (spot t 0 b) states)
+    last ≡ mid ++ rest_bytes e.system b.schedule.stop b.values (timers_in b.schedule) b.schedule.events → last ≡ spelling (header_of e.system e.plan) (kept_at e (spot t 0 b) states)
 bytes_of e t b states stop first mid last one two three =
-    let rest : ℕ → List ℕ = λ end. rest_bytes e.system end b.values.items (timers_in b.schedule) b.schedule.events in
-    let front = first_bytes e.plan t in
+    let rest : ℕ → List ℕ = λ end. rest_bytes e.system end b.values (timers_in b.schedule) b.schedule.events in
+    let prefix = first_bytes e.plan t in
     let header = sized (header_of e.system e.plan) in
     let all = flat_map sized states in
     three ∙ ap (λ (end : ℕ). mid ++ rest end) stop ∙ ap (λ (l : List ℕ). l ++ rest e.plan.stop) (two ∙ ap (λ (l : List ℕ). l ++ all) one)
-    ∙ append_assoc (front ++ header) all (rest e.plan.stop) ∙ append_assoc front header (all ++ rest e.plan.stop)
+    ∙ append_assoc (prefix ++ header) all (rest e.plan.stop) ∙ append_assoc prefix header (all ++ rest e.plan.stop)
 
 -- ---- the stages
 
@@ -52,7 +52,7 @@ module _ (e : Experiment) (olds mids news : List Instance) (fits : shapes olds �
 
   pub keeps_well : (t n : ℕ) (b : Buffers) → MayBeRun e → (1 ≤ e.plan.resolution) × (e.plan.resolution ≤ 2 ^ 62) → e.plan.start ≤ t → t < e.plan.stop → IsDone e t n b → All (λ (times : Option ClockTimes). IfSome times AreTimes) (by_port times_of e.system.ports (timers_in b.schedule)) →
       Stage (keeping_from 0 (shapes mids)) nothing mids news (Ok tt) → (first mid last : List ℕ) → first ≡ first_bytes e.plan t ++ sized (header_of e.system e.plan) → KeepsBytes mids first mid →
-      last ≡ mid ++ rest_bytes e.system b.schedule.stop b.values.items (timers_in b.schedule) b.schedule.events → KeepsWell e (spot t 0 b) olds news last
+      last ≡ mid ++ rest_bytes e.system b.schedule.stop b.values (timers_in b.schedule) b.schedule.events → KeepsWell e (spot t 0 b) olds news last
   keeps_well t n b may resolution begun early done bounds k first mid last one kept three = record {
     entered = entered.log;
     kept = k.log;
@@ -73,5 +73,5 @@ pub stepped_badly : (e : Experiment) (olds news : List Instance) → shapes olds
 stepped_badly e olds news fits bad s = record {
   log = s.log;
   told = s.told;
-  stops = stops_front (shapes_of e.system) (entering_step e.system) (keeping e.system) bad s.log (subst (λ (ss : List Shape). StopsAt ss (entering_step e.system) bad s.log) fits s.says);
+  stops = stops_prefix (shapes_of e.system) (entering_step e.system) (keeping e.system) bad s.log (subst (λ (ss : List Shape). StopsAt ss (entering_step e.system) bad s.log) fits s.says);
 }

@@ -13,12 +13,12 @@ use Rattle.calling_sequence.specs.declared.ending.Break.TheVariants as B
 use Rattle.calling_sequence.specs.declared.experiment.Experiment.{Experiment}
 use Rattle.calling_sequence.specs.declared.run_end.RunEnd.{RunEnd}
 use Rattle.calling_sequence.specs.declared.run_end.RunEnd.TheVariants as E
-use Rattle.calling_sequence.specs.Course.{AtFirst, FromHeld, Made, Restored, Seen, Spot, UpToHeld}
+use Rattle.calling_sequence.specs.Course.{AtFirst, FromHeld, InstantDone, Made, Restored, Spot, UpToHeld}
 use Rattle.calling_sequence.specs.Ends.{AwaitsIn, EndLine, PutFailsIn, Shown, header_of, kind_of_end}
-use Rattle.calling_sequence.specs.Goes.{BreaksOff, spot}
-use Rattle.calling_sequence.specs.Here.{Concludes, Here, Past}
+use Rattle.calling_sequence.specs.StageOutcomes.{BreaksOff, spot}
+use Rattle.calling_sequence.specs.Here.{Here, Past, PutsEndAfter}
 use Rattle.calling_sequence.specs.Holding.{BadlyHeld, ComesToHold, Early, HoldsSlots, HoldsWith, KeepsBadly, KeepsWell, PutsPiece, WellHeld, kept_at}
-use Rattle.calling_sequence.specs.Puts.{CutsPiece, with_pieces}
+use Rattle.calling_sequence.specs.Puts.{PutsPrefixOf, with_pieces}
 
 -- where a run begins that is held, and where one goes on
 pub at_start : (e : Experiment) (at : ℕ) (olds : List Instance) (sink : SinkView) (count : ℕ) → count ≡ 0 → Here e olds (record { sink = sink; extent = UpToHeld at }) Made olds sink count
@@ -37,7 +37,7 @@ module _ (e : Experiment) (at : ℕ) (olds : List Instance) (sink : SinkView) wh
   cut_early _ _ _ _ (Shown _ p log is i puts shows course) = absurd (let wrong : false ≡ true = puts in cc)
   cut_early _ _ _ _ (EndLine _ end point log is finishes) = (end, Early end point log is finishes, refl)
 
-  pub ends_early : (news : List Instance) (present after : SinkView) (counted : ℕ) (broken : Break) → BreaksOff e olds past news present counted broken → (end : RunEnd) → Concludes broken end present after → HoldsSlots e at olds news sink after end
+  pub ends_early : (news : List Instance) (present after : SinkView) (counted : ℕ) (broken : Break) → BreaksOff e olds past news present counted broken → (end : RunEnd) → PutsEndAfter broken end present after → HoldsSlots e at olds news sink after end
   ends_early news present after counted (B.Ends ending) f end puts = record {
     log = f.log;
     told = f.told;
@@ -55,12 +55,12 @@ module _ (e : Experiment) (at : ℕ) (olds : List Instance) (sink : SinkView) wh
         outcome = cut.0;
         piece = fails.piece;
         holds = cut.1;
-        puts = inr (same, subst (λ (v : SinkView). CutsPiece sink fails.piece v) (sym none) (subst (λ (ps : List (List ℕ)). CutsPiece (with_pieces sink ps) fails.piece present) cut.2 fails.cuts));
+        puts = inr (same, subst (λ (v : SinkView). PutsPrefixOf sink fails.piece v) (sym none) (subst (λ (ps : List (List ℕ)). PutsPrefixOf (with_pieces sink ps) fails.piece present) cut.2 fails.cuts));
       }
 
   -- ---- where it is held
 
-  module _ (t n : ℕ) (b : Buffers) (mids : List Instance) (present : SinkView) (count : ℕ) (h : Here e olds past (Seen (spot t n b) false false) mids present count) (reached : at ≤ t) (early : t < e.plan.stop) where
+  module _ (t n : ℕ) (b : Buffers) (mids : List Instance) (present : SinkView) (count : ℕ) (h : Here e olds past (InstantDone (spot t n b) false false) mids present count) (reached : at ≤ t) (early : t < e.plan.stop) where
     comes : ComesToHold e at (spot t n b) h.log h.is
     comes = record { course = h.course; reached = reached; early = early }
 
@@ -74,7 +74,7 @@ module _ (e : Experiment) (at : ℕ) (olds : List Instance) (sink : SinkView) wh
       puts = subst (λ (l : List ℕ). PutsPiece (E.Held t) l sink after end) k.bytes_are (subst (λ (v : SinkView). PutsPiece (E.Held t) bytes v after end) h.put puts);
     }
 
-    pub held_badly : (bad : BadAnswer) (news : List Instance) → KeepsBadly e bad mids news → (end : RunEnd) (after : SinkView) → Concludes (B.Ends (record { end = E.Bad bad; point = t })) end present after → HoldsSlots e at olds news sink after end
+    pub held_badly : (bad : BadAnswer) (news : List Instance) → KeepsBadly e bad mids news → (end : RunEnd) (after : SinkView) → PutsEndAfter (B.Ends (record { end = E.Bad bad; point = t })) end present after → HoldsSlots e at olds news sink after end
     held_badly bad news k end after puts = record {
       log = h.log ++ k.log;
       told = told_on olds mids news h.log k.log h.told k.told;

@@ -29,7 +29,7 @@ use Rattle.event_iteration.specs.Clocks.{IsPlaceOf, timer_in, timers_in}
 use Rattle.event_iteration.specs.Updates.{AreLater}
 use Rattle.calling_sequence.specs.declared.buffers.Buffers.{Buffers}
 use Rattle.calling_sequence.specs.declared.experiment.Experiment.{Experiment}
-use Rattle.calling_sequence.specs.Goes.{spot}
+use Rattle.calling_sequence.specs.StageOutcomes.{spot}
 use Rattle.calling_sequence.specs.Holding.{AreOfRoles, FitPorts, arming_of, armed_up_to, by_port, kept_at, times_of}
 use Rattle.calling_sequence.specs.Ready.{HaveModes, IsDone, MayBeRun}
 use Rattle.calling_sequence.proofs.ScheduleSteps.{none_up_to}
@@ -37,27 +37,27 @@ use Rattle.calling_sequence.proofs.ScheduleSteps.{none_up_to}
 -- ---- words
 
 word_in : (kind : PortType) (value : ℤ) → Fits kind value → InSpans (words kind) (word_of value)
-word_in Int8 (pos n) h = inl (record { from = omega arith; upto = omega (arith, ints, h.1) })
-word_in Int8 (negsuc n) h = inr (record { from = omega (arith, ints, h.0); upto = omega arith })
-word_in UInt8 (pos n) h = inl (record { from = omega arith; upto = omega (arith, ints, h.1) })
+word_in Int8 (pos n) h = inl (record { from = omega arith; up_to = omega (arith, ints, h.1) })
+word_in Int8 (negsuc n) h = inr (record { from = omega (arith, ints, h.0); up_to = omega arith })
+word_in UInt8 (pos n) h = inl (record { from = omega arith; up_to = omega (arith, ints, h.1) })
 word_in UInt8 (negsuc n) h = absurd (omega (arith, ints, h.0))
-word_in Int16 (pos n) h = inl (record { from = omega arith; upto = omega (arith, ints, h.1) })
-word_in Int16 (negsuc n) h = inr (record { from = omega (arith, ints, h.0); upto = omega arith })
-word_in UInt16 (pos n) h = inl (record { from = omega arith; upto = omega (arith, ints, h.1) })
+word_in Int16 (pos n) h = inl (record { from = omega arith; up_to = omega (arith, ints, h.1) })
+word_in Int16 (negsuc n) h = inr (record { from = omega (arith, ints, h.0); up_to = omega arith })
+word_in UInt16 (pos n) h = inl (record { from = omega arith; up_to = omega (arith, ints, h.1) })
 word_in UInt16 (negsuc n) h = absurd (omega (arith, ints, h.0))
-word_in Int32 (pos n) h = inl (record { from = omega arith; upto = omega (arith, ints, h.1) })
-word_in Int32 (negsuc n) h = inr (record { from = omega (arith, ints, h.0); upto = omega arith })
-word_in UInt32 (pos n) h = inl (record { from = omega arith; upto = omega (arith, ints, h.1) })
+word_in Int32 (pos n) h = inl (record { from = omega arith; up_to = omega (arith, ints, h.1) })
+word_in Int32 (negsuc n) h = inr (record { from = omega (arith, ints, h.0); up_to = omega arith })
+word_in UInt32 (pos n) h = inl (record { from = omega arith; up_to = omega (arith, ints, h.1) })
 word_in UInt32 (negsuc n) h = absurd (omega (arith, ints, h.0))
-word_in Int64 (pos n) h = inl (record { from = omega arith; upto = omega (arith, ints, h.1) })
-word_in Int64 (negsuc n) h = inl (record { from = omega arith; upto = omega arith })
-word_in UInt64 (pos n) h = inl (record { from = omega arith; upto = omega (arith, ints, h.1) })
+word_in Int64 (pos n) h = inl (record { from = omega arith; up_to = omega (arith, ints, h.1) })
+word_in Int64 (negsuc n) h = inl (record { from = omega arith; up_to = omega arith })
+word_in UInt64 (pos n) h = inl (record { from = omega arith; up_to = omega (arith, ints, h.1) })
 word_in UInt64 (negsuc n) h = absurd (omega (arith, ints, h.0))
-word_in Boolean (pos n) h = inl (record { from = omega arith; upto = omega (arith, ints, h.1) })
+word_in Boolean (pos n) h = inl (record { from = omega arith; up_to = omega (arith, ints, h.1) })
 word_in Boolean (negsuc n) h = absurd (omega (arith, ints, h.0))
-word_in Enumeration (pos n) h = inl (record { from = omega arith; upto = omega (arith, ints, h.1) })
-word_in Enumeration (negsuc n) h = inl (record { from = omega arith; upto = omega arith })
-word_in Clock (pos n) h = inl (record { from = omega arith; upto = omega (arith, ints, h.1) })
+word_in Enumeration (pos n) h = inl (record { from = omega arith; up_to = omega (arith, ints, h.1) })
+word_in Enumeration (negsuc n) h = inl (record { from = omega arith; up_to = omega arith })
+word_in Clock (pos n) h = inl (record { from = omega arith; up_to = omega (arith, ints, h.1) })
 word_in Clock (negsuc n) h = absurd (omega (arith, ints, h.0))
 
 word_held : (port : Port) (value : Option ℤ) → IfSome value (Fits port.kind) → IsWord port (option_map word_of value)
@@ -119,9 +119,9 @@ module _ (held : Snapshot) where
   armed_kept None later = tt
   armed_kept (Some point) later = by (nat_le point held.plan.stop) refl where
     by : (b : Bool) → nat_le point held.plan.stop ≡ b → IsArming held (if b then A.At point else A.Unarmed)
-    by true is = let within = upto point held.plan.stop is in (later point refl within, within) where
-      upto : (a c : ℕ) → nat_le a c ≡ true → a ≤ c
-      upto a c q = grind (arith, nat_tests)
+    by true is = let within = up_to point held.plan.stop is in (later point refl within, within) where
+      up_to : (a c : ℕ) → nat_le a c ≡ true → a ≤ c
+      up_to a c q = grind (arith, nat_tests)
     by false is = tt
 
   arming_kept : (role : Role) (state : ClockState) → IsPlaceOf role state → ComesLater state → HasArming held (may_be_armed role) (arming_of held.plan.stop role (timer_in state))
@@ -154,9 +154,9 @@ module _ (held : Snapshot) where
     has false is = absurd (let wrong = mode is in cc)
 
     by : (b : Bool) → nat_le time held.plan.stop ≡ b → HasEvent held c (if b then Some time else None)
-    by true is = let within = upto time held.plan.stop is in ((later, within), has c.shape.has_event_mode refl) where
-      upto : (a d : ℕ) → nat_le a d ≡ true → a ≤ d
-      upto a d q = grind (arith, nat_tests)
+    by true is = let within = up_to time held.plan.stop is in ((later, within), has c.shape.has_event_mode refl) where
+      up_to : (a d : ℕ) → nat_le a d ≡ true → a ≤ d
+      up_to a d q = grind (arith, nat_tests)
     by false is = tt
 
   events_held : (cs : List Component) (events : List (Option ℕ)) → HaveModes (map (λ (c : Component). c.shape) cs) events → AreLater held.point events → AllBy (HasEvent held) cs (map (time_up_to held.plan.stop) events)
@@ -191,7 +191,7 @@ module _ (e : Experiment) (t n : ℕ) (b : Buffers) (may : MayBeRun e) (resoluti
           link = refl;
         };
         states = states_held e.system.components states len few bytes;
-        words = words_held e.system.ports b.values.items done.timed.places done.timed.fitting;
+        words = words_held e.system.ports b.values done.timed.places done.timed.fitting;
         times = times_held e.system.ports b.schedule.clocks stands.len stands.places bounds;
         armings = armings_held held e.system.ports b.schedule.clocks stands.len stands.places
             (λ i state is point armed within.

@@ -11,7 +11,7 @@ use Rattle.fmu_peer.specs.CloseAll.{Instance}
 use Rattle.fmu_peer.specs.Talk.{AllGood, IsGood, calls_in}
 use Rattle.slot_calls.specs.declared.bad_answer.BadAnswer.{BadAnswer}
 use Rattle.slot_calls.specs.Keeping.{AnswersEach, keeping_calls, restoring_calls}
-use Rattle.slot_calls.specs.Log.{Asking, Sent, StopsBehind, askings}
+use Rattle.slot_calls.specs.Log.{ComponentCall, Sent, StopsAfter, component_calls}
 use Rattle.slot_calls.specs.Stage.{IsGoodOf, Stage, nothing, shapes}
 use Rattle.slot_calls.proofs.CallerLemmas.{SameFrom, map_at, shape_of, stage_cut, stage_cut_later, stage_on}
 use Rattle.event_iteration.specs.Waits.{sents}
@@ -19,11 +19,11 @@ use Rattle.event_iteration.proofs.Hypothetical.{told_several}
 use Rattle.calling_sequence.specs.Calls.{keeping_from, restoring_from}
 
 -- these calls to one component
-abbrev pub calls_to : ℕ → List Call → List Asking
+abbrev pub calls_to : ℕ → List Call → List ComponentCall
 calls_to i calls = map (λ (call : Call). record { component = i; call = call }) calls
 
 -- and lists of them, to the components from the i-th on
-abbrev pub in_turn_from : ℕ → List (List Call) → List Asking
+abbrev pub in_turn_from : ℕ → List (List Call) → List ComponentCall
 in_turn_from i [] = []
 in_turn_from i (calls ∷ lists) = calls_to i calls ++ in_turn_from (i + 1) lists
 
@@ -35,11 +35,11 @@ restoring_of point stop sizes = map (λ (size : ℕ). restoring_calls size point
 
 pub keeping_lists : (i : ℕ) (ss : List Shape) → in_turn_from i (keeping_of ss) ≡ keeping_from i ss
 keeping_lists i [] = refl
-keeping_lists i (s ∷ ss) = ap (λ (cs : List Asking). calls_to i keeping_calls ++ cs) (keeping_lists (i + 1) ss)
+keeping_lists i (s ∷ ss) = ap (λ (cs : List ComponentCall). calls_to i keeping_calls ++ cs) (keeping_lists (i + 1) ss)
 
 pub restoring_lists : (i point stop : ℕ) (sizes : List ℕ) → in_turn_from i (restoring_of point stop sizes) ≡ restoring_from i point stop sizes
 restoring_lists i point stop [] = refl
-restoring_lists i point stop (size ∷ sizes) = ap (λ (cs : List Asking). calls_to i (restoring_calls size point stop) ++ cs) (restoring_lists (i + 1) point stop sizes)
+restoring_lists i point stop (size ∷ sizes) = ap (λ (cs : List ComponentCall). calls_to i (restoring_calls size point stop) ++ cs) (restoring_lists (i + 1) point stop sizes)
 
 -- the calls to the instance at a place
 pub keeping_at : {A : Type 0} (f : A → Instance) (slots : List A) (k : ℕ) → k < length slots → (k < length (keeping_of (shapes (map f slots)))) × (keeping_calls ≡ get_or (keeping_of (shapes (map f slots))) k keeping_calls)
@@ -63,7 +63,7 @@ in_turn_append : (k : ℕ) (xs ys : List (List Call)) → in_turn_from k (xs ++ 
 in_turn_append k [] ys = ap (λ (n : ℕ). in_turn_from n ys) (omega arith)
 in_turn_append k (calls ∷ xs) ys =
     let place : k + 1 + length xs ≡ k + length (calls ∷ xs) = omega arith in
-    ap (λ (cs : List Asking). calls_to k calls ++ cs) (in_turn_append (k + 1) xs ys ∙ ap (λ (n : ℕ). in_turn_from (k + 1) xs ++ in_turn_from n ys) place)
+    ap (λ (cs : List ComponentCall). calls_to k calls ++ cs) (in_turn_append (k + 1) xs ys ∙ ap (λ (n : ℕ). in_turn_from (k + 1) xs ++ in_turn_from n ys) place)
     ∙ sym (append_assoc (calls_to k calls) (in_turn_from (k + 1) xs) (in_turn_from (k + length (calls ∷ xs)) ys))
 
 module _ (lists : List (List Call)) (i : ℕ) (calls : List Call) (within : i < length lists) (is : calls ≡ get_or lists i calls) where
@@ -74,25 +74,25 @@ module _ (lists : List (List Call)) (i : ℕ) (calls : List Call) (within : i < 
   in_turn_more =
       ap (in_turn_from 0) (take_more lists i calls within) ∙ in_turn_append 0 (take i lists) (get_or lists i calls ∷ [])
       ∙ ap (λ (c : List Call). in_turn_from 0 (take i lists) ++ in_turn_from (0 + length (take i lists)) (c ∷ [])) (sym is)
-      ∙ ap (λ (cs : List Asking). in_turn_from 0 (take i lists) ++ cs) (append-nil (calls_to (0 + length (take i lists)) calls))
+      ∙ ap (λ (cs : List ComponentCall). in_turn_from 0 (take i lists) ++ cs) (append-nil (calls_to (0 + length (take i lists)) calls))
       ∙ ap (λ (n : ℕ). in_turn_from 0 (take i lists) ++ calls_to n calls) (let t = taken in omega (arith, t))
 
   in_turn_split : in_turn_from 0 lists ≡ (in_turn_from 0 (take i lists) ++ calls_to i calls) ++ in_turn_from (0 + length (take (i + 1) lists)) (drop (i + 1) lists)
   in_turn_split =
       ap (in_turn_from 0) (sym (take-append-drop (i + 1) lists)) ∙ in_turn_append 0 (take (i + 1) lists) (drop (i + 1) lists)
-      ∙ ap (λ (cs : List Asking). cs ++ in_turn_from (0 + length (take (i + 1) lists)) (drop (i + 1) lists)) in_turn_more
+      ∙ ap (λ (cs : List ComponentCall). cs ++ in_turn_from (0 + length (take (i + 1) lists)) (drop (i + 1) lists)) in_turn_more
 
   module _ (olds mids news : List Instance) (s : Stage (in_turn_from 0 (take i lists)) nothing olds mids (Ok tt)) where
     -- one component more
     pub in_turn_on : Stage (calls_to i calls) nothing mids news (Ok tt) → Stage (in_turn_from 0 (take (i + 1) lists)) nothing olds news (Ok tt)
     in_turn_on t =
-        subst (λ (cs : List Asking). Stage cs nothing olds news (Ok tt)) (sym in_turn_more)
+        subst (λ (cs : List ComponentCall). Stage cs nothing olds news (Ok tt)) (sym in_turn_more)
         (stage_on (in_turn_from 0 (take i lists)) (calls_to i calls) nothing nothing nothing olds mids news tt tt tt s t refl)
 
     -- or a bad answer
     pub in_turn_cut : (bad : BadAnswer) → Stage (calls_to i calls) nothing mids news (Err bad) → Stage (in_turn_from 0 lists) nothing olds news (Err bad)
     in_turn_cut bad t =
-        subst (λ (cs : List Asking). Stage cs nothing olds news (Err bad)) (sym in_turn_split)
+        subst (λ (cs : List ComponentCall). Stage cs nothing olds news (Err bad)) (sym in_turn_split)
         (stage_cut (in_turn_from 0 (take i lists) ++ calls_to i calls) _ nothing nothing olds mids news bad (Err bad) refl
         (stage_cut_later (in_turn_from 0 (take i lists)) (calls_to i calls) nothing nothing olds mids news bad (Err bad) refl tt s nothing t))
 
@@ -102,9 +102,9 @@ in_turn_all lists i olds news over s = subst (λ (ls : List (List Call)). Stage 
 
 -- ---- the calls of one
 
-asked_are : (k : ℕ) (es : List Exchange) → askings (sents k es) ≡ calls_to k (calls_in es)
+asked_are : (k : ℕ) (es : List Exchange) → component_calls (sents k es) ≡ calls_to k (calls_in es)
 asked_are k [] = refl
-asked_are k (e ∷ es) = ap (λ (cs : List Asking). record { component = k; call = e.call } ∷ cs) (asked_are k es)
+asked_are k (e ∷ es) = ap (λ (cs : List ComponentCall). record { component = k; call = e.call } ∷ cs) (asked_are k es)
 
 module _ (xs : List Instance) (k : ℕ) (x y : Instance) (within : k < length xs) (is : x ≡ get_or xs k x) where
   good_all : (es : List Exchange) → AllGood x.view.fixed.shape es → All (IsGoodOf (shapes xs)) (sents k es)
@@ -120,24 +120,24 @@ module _ (xs : List Instance) (k : ℕ) (x y : Instance) (within : k < length xs
     says = (record { calls_are = asked_are k a.exchanges ∙ ap (λ (cs : List Call). calls_to k cs) a.calls_are; good = good_all a.exchanges a.good }, refl);
   }
 
-  pub turn_badly : (calls : List Call) (bad : BadAnswer) → bad.component.0 ≡ k → StopsBehind calls bad.why x y → Stage (calls_to k calls) nothing xs (set xs k y) (Err bad)
+  pub turn_badly : (calls : List Call) (bad : BadAnswer) → bad.component.0 ≡ k → StopsAfter calls bad.why x y → Stage (calls_to k calls) nothing xs (set xs k y) (Err bad)
   turn_badly calls bad at s =
-      let es = s.front ++ s.last ∷ [] in
+      let es = s.prefix ++ s.last ∷ [] in
       let last : Sent = record { component = k; exchange = s.last } in
-      let all : calls_to k calls ≡ askings (sents k es) ++ calls_to k s.left =
+      let all : calls_to k calls ≡ component_calls (sents k es) ++ calls_to k s.left =
       ap (λ (cs : List Call). calls_to k cs) s.calls_are ∙ map-append (λ (call : Call). record { component = k; call = call }) (calls_in es) s.left
-      ∙ ap (λ (cs : List Asking). cs ++ calls_to k s.left) (sym (asked_are k es)) in
+      ∙ ap (λ (cs : List ComponentCall). cs ++ calls_to k s.left) (sym (asked_are k es)) in
       record {
         log = sents k es;
         told = told_several xs k x y es within is s.has;
         says = record {
-          front = sents k s.front;
+          prefix = sents k s.prefix;
           last = last;
           left = calls_to k s.left;
-          log_is = map-append (λ (e : Exchange). record { component = k; exchange = e }) s.front (s.last ∷ []);
+          log_is = map-append (λ (e : Exchange). record { component = k; exchange = e }) s.prefix (s.last ∷ []);
           calls_are = all;
           first = record {
-            good = good_all s.front s.good;
+            good = good_all s.prefix s.good;
             component = sym at;
             why = λ d. subst (λ (z : Shape). IsWhy z bad.why s.last) (map_at shape_of xs k x d within is) s.bad;
           };
@@ -159,7 +159,7 @@ module _ {A : Type 0} (f : A → Instance) (olds : List Instance) (news : List A
       subst (λ (l : List Instance). Stage (in_turn_from 0 (take (k + 1) lists)) nothing olds l (Ok tt)) (sym (map-set f news k y))
       (in_turn_on lists k calls listed is olds (map f news) (set (map f news) k (f y)) s (turn_well (map f news) k (f (get_or news k d)) (f y) within_map there_is calls a))
 
-  pub loop_cut : (bad : BadAnswer) → bad.component.0 ≡ k → StopsBehind calls bad.why (f (get_or news k d)) (f y) → Stage (in_turn_from 0 lists) nothing olds (map f (set news k y)) (Err bad)
+  pub loop_cut : (bad : BadAnswer) → bad.component.0 ≡ k → StopsAfter calls bad.why (f (get_or news k d)) (f y) → Stage (in_turn_from 0 lists) nothing olds (map f (set news k y)) (Err bad)
   loop_cut bad at b =
       subst (λ (l : List Instance). Stage (in_turn_from 0 lists) nothing olds l (Err bad)) (sym (map-set f news k y))
       (in_turn_cut lists k calls listed is olds (map f news) (set (map f news) k (f y)) s bad (turn_badly (map f news) k (f (get_or news k d)) (f y) within_map there_is calls bad at b))

@@ -1,4 +1,4 @@
-pub mod Along
+pub mod CourseInduction
 pub mod Chains
 pub mod Walks
 pub mod Phases
@@ -20,3 +20,4 @@ mod Putting
 mod Checkpoints
 mod Resumed
 mod ResumedStands
+mod Unasked

@@ -18,7 +18,7 @@ use Rattle.calling_sequence.specs.Course.{CourseIn, Extent, FromHeld, IsWithin, 
 use Rattle.calling_sequence.specs.Ends.{Badly, EndsAt, FinishesIn, MayEnd, RunsIn, Shown, Well, counted_in, header_of, pieces_in, point_of, puts_instants, text_of}
 use Rattle.calling_sequence.specs.Here.{Follows, Here, Past}
 use Rattle.calling_sequence.specs.Parts.{Calls, Does, Falls, Part}
-use Rattle.calling_sequence.specs.Puts.{CutsPiece, with_pieces}
+use Rattle.calling_sequence.specs.Puts.{PutsPrefixOf, with_pieces}
 
 pub pieces_append : (view : SinkView) (xs ys : List (List ℕ)) → with_pieces view (xs ++ ys) ≡ with_pieces (with_pieces view xs) ys
 pieces_append view [] ys = refl
@@ -93,7 +93,7 @@ module _ (e : Experiment) (olds : List Instance) (past : Past) (p : Place) (mids
         }
 
         -- or its put failed
-        pub cut : CutsPiece present (text_of i) after → RunsIn e.system e.bound e.plan past.extent olds news past.sink after count E.WriteFault
+        pub cut : PutsPrefixOf present (text_of i) after → RunsIn e.system e.bound e.plan past.extent olds news past.sink after count E.WriteFault
         cut put = record {
           log = h.log ++ more;
           is = h.is;
@@ -102,13 +102,13 @@ module _ (e : Experiment) (olds : List Instance) (past : Past) (p : Place) (mids
             pieces = pieces_in e.system e.plan past.extent h.is;
             piece = text_of i;
             awaits = Shown past.extent q (h.log ++ more) h.is i puts one course_on;
-            cuts = subst (λ (v : SinkView). CutsPiece v (text_of i) after) h.put put;
+            cuts = subst (λ (v : SinkView). PutsPrefixOf v (text_of i) after) h.put put;
           };
           counted_is = h.counted;
         }
 
   -- several parts, after which no instant stands
-  pub on_far : (q : Place) → ((front : List Sent) (is : List Instant) → CourseIn e.system e.bound e.plan past.extent p front is → CourseIn e.system e.bound e.plan past.extent q (front ++ more) is) → Here e olds past q news present count
+  pub on_far : (q : Place) → ((prefix : List Sent) (is : List Instant) → CourseIn e.system e.bound e.plan past.extent p prefix is → CourseIn e.system e.bound e.plan past.extent q (prefix ++ more) is) → Here e olds past q news present count
   on_far q leads = record {
     log = h.log ++ more;
     is = h.is;
@@ -119,7 +119,7 @@ module _ (e : Experiment) (olds : List Instance) (past : Past) (p : Place) (mids
   }
 
   -- and up to an end
-  pub off_far : (end : RunEnd) (point : ℕ) → ((front : List Sent) (is : List Instant) → CourseIn e.system e.bound e.plan past.extent p front is → FinishesIn e.system e.bound e.plan past.extent end point (front ++ more) is) →
+  pub off_far : (end : RunEnd) (point : ℕ) → ((prefix : List Sent) (is : List Instant) → CourseIn e.system e.bound e.plan past.extent p prefix is → FinishesIn e.system e.bound e.plan past.extent end point (prefix ++ more) is) →
       Follows e past.extent olds past.sink (record { end = end; point = point }) news present count
   off_far end point leads = record {
     log = h.log ++ more;
@@ -132,7 +132,7 @@ module _ (e : Experiment) (olds : List Instance) (past : Past) (p : Place) (mids
 
   -- a bad answer
   pub off : (bad : BadAnswer) → Falls e.system (part_at e.system e.bound e.plan p) bad more → Follows e past.extent olds past.sink (record { end = E.Bad bad; point = point_of e.plan p }) news present count
-  off bad falls = off_far (E.Bad bad) (point_of e.plan p) (λ front is course. Badly p bad front more is course falls)
+  off bad falls = off_far (E.Bad bad) (point_of e.plan p) (λ prefix is course. Badly p bad prefix more is course falls)
 
 module _ (e : Experiment) (olds : List Instance) (past : Past) (p : Place) (mids : List Instance) (present : SinkView) (count : ℕ) (h : Here e olds past p mids present count) where
   -- where nothing is sent

@@ -31,13 +31,13 @@ use Rattle.run_model.specs.AfterInstant.{asks_again}
 use Rattle.event_iteration.specs.Instants.{BeginsInstant, IsRunning}
 use Rattle.event_iteration.specs.Settings.{IsUnset}
 use Rattle.event_iteration.specs.Updates.{answer_passes}
-use Rattle.calling_sequence.specs.Place.{HasRoom, IsAt, IsDeparting, IsInInstant, IsInitializing, IsMade, IsSettled, IsStepping, IsTaking, IsThere}
+use Rattle.calling_sequence.specs.Place.{IsAt, IsDeparting, IsInInstant, IsInitializing, IsMade, IsSettled, IsStepping, IsTaking, IsThere, TracksActivity}
 use Rattle.calling_sequence.proofs.Chains.{IsGet, IsOfClock, IsQuestion, IsSet}
 use Rattle.calling_sequence.proofs.Walks.{IsGetOrSet, IsOfInstant}
 
 -- ---- what is kept of Clocks
 
-pub room_on : (v w : View) → w.fixed ≡ v.fixed → length w.phase.active ≡ length v.phase.active → HasRoom v → HasRoom w
+pub room_on : (v w : View) → w.fixed ≡ v.fixed → length w.phase.active ≡ length v.phase.active → TracksActivity v → TracksActivity w
 room_on v w fixed active h = active ∙ h ∙ ap (λ (f : Fixed). length f.shape.variables) (sym fixed)
 
 length_marked : (shape : Shape) (flags : List Bool) (reference : ℕ) → length (marked shape flags reference) ≡ length flags

@@ -25,8 +25,8 @@ use Rattle.calling_sequence.specs.Holding.{armed_up_to, by_port, times_of}
 module _ {V : Type 0} (f : V → List ℕ) where
   -- one part more
   pub put_on : (xs : List V) (i : ℕ) (x : V) → x ≡ get_or xs i x → i < length xs → (old mid new : List ℕ) → mid ≡ old ++ flat_map f (take i xs) → new ≡ mid ++ f x → new ≡ old ++ flat_map f (take (i + 1) xs)
-  put_on xs i x is within old mid new front last =
-      last ∙ ap (λ (l : List ℕ). l ++ f x) front ∙ append_assoc old (flat_map f (take i xs)) (f x)
+  put_on xs i x is within old mid new prefix last =
+      last ∙ ap (λ (l : List ℕ). l ++ f x) prefix ∙ append_assoc old (flat_map f (take i xs)) (f x)
       ∙ ap (λ (l : List ℕ). old ++ (flat_map f (take i xs) ++ l)) (ap f is ∙ sym (append-nil (f (get_or xs i x))))
       ∙ ap (λ (l : List ℕ). old ++ l) (sym (flat_map-append f (take i xs) (get_or xs i x ∷ []))) ∙ ap (λ (l : List V). old ++ flat_map f l) (sym (take_more xs i x within))
 

@@ -20,7 +20,7 @@ use Rattle.fmu_peer.specs.View.{View}
 use Rattle.fmu_peer.specs.declared.ended.Why.{Why}
 use Rattle.slot_calls.specs.Keeping.{MayBeKept, MayBeRestored, WasNotRestored, WasRestored, without_machine_in, without_machines}
 use Rattle.slot_calls.specs.declared.bad_answer.BadAnswer.{BadAnswer}
-use Rattle.slot_calls.specs.Log.{Asking}
+use Rattle.slot_calls.specs.Log.{ComponentCall}
 use Rattle.slot_calls.specs.Slots.{Stands, instances}
 use Rattle.slot_calls.specs.Stage.{Stage, nothing, shapes, shapes_of}
 use Rattle.slot_calls.proofs.CallerLemmas.{SameFrom, map_at, shape_of}
@@ -107,8 +107,8 @@ module _ {A : Type 0} (f : A → Instance) (olds mids : List A) (place : ℕ) (r
   at_place : (s : A) (d : Instance) → get_or (map f (set mids place y)) place d ≡ f y
   at_place s d = ap (λ (l : List Instance). get_or l place d) (map-set f mids place y) ∙ get_or-set_same (map f mids) place (f y) d there
 
-  in_front : (i : ℕ) (d : Instance) → i < place → get_or (map f (set mids place y)) i d ≡ get_or (map f mids) i d
-  in_front i d w = ap (λ (l : List Instance). get_or l i d) (map-set f mids place y) ∙ get_or-set_other (map f mids) place i (f y) d (omega (arith, w))
+  in_prefix : (i : ℕ) (d : Instance) → i < place → get_or (map f (set mids place y)) i d ≡ get_or (map f mids) i d
+  in_prefix i d w = ap (λ (l : List Instance). get_or l i d) (map-set f mids place y) ∙ get_or-set_other (map f mids) place i (f y) d (omega (arith, w))
 
   was : (s : A) (d : Instance) → f (get_or mids place s) ≡ get_or (map f olds) place d
   was s d = ap f (rest.rest place s (omega arith)) ∙ map_at f olds place (get_or olds place s) d within (get_or_default olds place s (get_or olds place s) within)
@@ -116,17 +116,17 @@ module _ {A : Type 0} (f : A → Instance) (olds mids : List A) (place : ℕ) (r
   pub one_there : (P : View → View → Type 0) (s : A) → P (f (get_or mids place s)).view (f y).view → (d : Instance) → P (get_or (map f olds) place d).view (get_or (map f (set mids place y)) place d).view
   one_there P s p d = subst (λ (x : Instance). P x.view (get_or (map f (set mids place y)) place d).view) (was s d) (subst (λ (x : Instance). P (f (get_or mids place s)).view x.view) (sym (at_place s d)) p)
 
-  module _ (P : ℕ → View → View → Type 0) (front : (i : ℕ) (d : Instance) → i < place → P i (get_or (map f olds) i d).view (get_or (map f mids) i d).view) where
-    pub front_same : (i : ℕ) (d : Instance) → i < place → P i (get_or (map f olds) i d).view (get_or (map f (set mids place y)) i d).view
-    front_same i d w = subst (λ (x : Instance). P i (get_or (map f olds) i d).view x.view) (sym (in_front i d w)) (front i d w)
+  module _ (P : ℕ → View → View → Type 0) (prefix : (i : ℕ) (d : Instance) → i < place → P i (get_or (map f olds) i d).view (get_or (map f mids) i d).view) where
+    pub prefix_same : (i : ℕ) (d : Instance) → i < place → P i (get_or (map f olds) i d).view (get_or (map f (set mids place y)) i d).view
+    prefix_same i d w = subst (λ (x : Instance). P i (get_or (map f olds) i d).view x.view) (sym (in_prefix i d w)) (prefix i d w)
 
-    pub front_more : (s : A) → P place (f (get_or mids place s)).view (f y).view → (i : ℕ) (d : Instance) → i < place + 1 → P i (get_or (map f olds) i d).view (get_or (map f (set mids place y)) i d).view
-    front_more s p i d w = by (split i place w) where
+    pub prefix_more : (s : A) → P place (f (get_or mids place s)).view (f y).view → (i : ℕ) (d : Instance) → i < place + 1 → P i (get_or (map f olds) i d).view (get_or (map f (set mids place y)) i d).view
+    prefix_more s p i d w = by (split i place w) where
       split : (j k : ℕ) → j < k + 1 → (j < k) ⊎ (j ≡ k)
       split j k v = grind (arith)
 
       by : (i < place) ⊎ (i ≡ place) → P i (get_or (map f olds) i d).view (get_or (map f (set mids place y)) i d).view
-      by (inl v) = front_same i d v
+      by (inl v) = prefix_same i d v
       by (inr is) = subst (λ (n : ℕ). P n (get_or (map f olds) n d).view (get_or (map f (set mids place y)) n d).view) (sym is) (one_there (P place) s p d)
 
 -- where each has become another, all stand so
@@ -151,7 +151,7 @@ bare_shapes f (x ∷ xs) = ap (λ (ss : List Shape). shape_of (f x) ∷ ss) (bar
 pub shapes_bare : {A : Type 0} (f : A → Instance) (xs : List A) → shapes (without_machines (map f xs)) ≡ shapes (map f xs)
 shapes_bare f xs = ap shapes (map-map without_machine_in f xs) ∙ bare_shapes f xs
 
-pub bare_stage : {A : Type 0} (f : A → Instance) (olds news : List A) (cs : List Asking) (r : Result (Unit {0}) BadAnswer) → Stage cs nothing (map (λ (x : A). without_machine_in (f x)) olds) (map (λ (x : A). without_machine_in (f x)) news) r →
+pub bare_stage : {A : Type 0} (f : A → Instance) (olds news : List A) (cs : List ComponentCall) (r : Result (Unit {0}) BadAnswer) → Stage cs nothing (map (λ (x : A). without_machine_in (f x)) olds) (map (λ (x : A). without_machine_in (f x)) news) r →
     Stage cs nothing (without_machines (map f olds)) (without_machines (map f news)) r
 bare_stage f olds news cs r s =
     subst (λ (l : List Instance). Stage cs nothing l (without_machines (map f news)) r) (sym (map-map without_machine_in f olds))
@@ -159,8 +159,8 @@ bare_stage f olds news cs r s =
 
 -- ---- by another name
 
-pub calls_as : {olds news : List Instance} {r : Result (Unit {0}) BadAnswer} (cs ds : List Asking) → cs ≡ ds → Stage cs nothing olds news r → Stage ds nothing olds news r
-calls_as {olds} {news} {r} cs ds same s = subst (λ (l : List Asking). Stage l nothing olds news r) same s
+pub calls_as : {olds news : List Instance} {r : Result (Unit {0}) BadAnswer} (cs ds : List ComponentCall) → cs ≡ ds → Stage cs nothing olds news r → Stage ds nothing olds news r
+calls_as {olds} {news} {r} cs ds same s = subst (λ (l : List ComponentCall). Stage l nothing olds news r) same s
 
 pub restored_as : {point stop : ℕ} {v w : View} (xs bs : List ℕ) → xs ≡ bs → WasRestored point stop xs v w → WasRestored point stop bs v w
 restored_as {point} {stop} {v} {w} xs bs same r = subst (λ (l : List ℕ). WasRestored point stop l v w) same r

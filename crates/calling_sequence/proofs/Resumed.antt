@@ -88,16 +88,16 @@ next_is k = omega arith
 pub arms : (armings : List Arming) (old now new : Timetable) (k point told : ℕ) → k < length armings → get_or armings k A.NoClock ≡ A.At point → told ≡ point → now ≡ record old { clocks = armed_by (take k armings) old.clocks } → new ≡ with_clock now k (S.Countdown (Some told)) →
     new ≡ record old { clocks = armed_by (take (k + 1) armings) old.clocks }
 unfolding with_clocks
-arms armings old now new k point told within at same front last =
-    last ∙ ap₂ (λ (t : Timetable) (n : ℕ). with_clock t k (S.Countdown (Some n))) front same
+arms armings old now new k point told within at same prefix last =
+    last ∙ ap₂ (λ (t : Timetable) (n : ℕ). with_clock t k (S.Countdown (Some n))) prefix same
     ∙ ap (λ (l : List ClockState). with_clocks old l) (sym (armed_at armings old.clocks k point (placed_at armings k A.NoClock (A.At point) within at)) ∙ ap (λ (n : ℕ). armed_by (take n armings) old.clocks) (next_is k))
 
 -- and one that isn't
 pub arms_none : (armings : List Arming) (old now new : Timetable) (k : ℕ) → k < length armings → ((point : ℕ) → get_or armings k A.NoClock ≡ A.At point → ⊥) → now ≡ record old { clocks = armed_by (take k armings) old.clocks } → new ≡ now →
     new ≡ record old { clocks = armed_by (take (k + 1) armings) old.clocks }
 unfolding with_clocks
-arms_none armings old now new k within not front last =
-    last ∙ front ∙ ap (λ (l : List ClockState). with_clocks old l) (sym (unarmed_at armings old.clocks k (get_or armings k A.NoClock) (placed_at armings k A.NoClock (get_or armings k A.NoClock) within refl) (stays (get_or armings k A.NoClock) not)) ∙ ap (λ (n : ℕ). armed_by (take n armings) old.clocks) (next_is k)) where
+arms_none armings old now new k within not prefix last =
+    last ∙ prefix ∙ ap (λ (l : List ClockState). with_clocks old l) (sym (unarmed_at armings old.clocks k (get_or armings k A.NoClock) (placed_at armings k A.NoClock (get_or armings k A.NoClock) within refl) (stays (get_or armings k A.NoClock) not)) ∙ ap (λ (n : ℕ). armed_by (take n armings) old.clocks) (next_is k)) where
       stays : (arming : Arming) → ((point : ℕ) → arming ≡ A.At point → ⊥) → (s : ClockState) → armed_as arming s ≡ s
       stays A.NoClock none s = refl
       stays A.Unarmed none s = refl
@@ -115,8 +115,8 @@ timed_more (y ∷ xs) (z ∷ ys) (suc k) x len at = ap (λ (l : List (Option ℕ
 pub times_one : (xs : List (Option ℕ)) (old now new : Timetable) (k : ℕ) → k < length xs → length xs ≡ length old.events → now ≡ record old { events = take k xs ++ drop k old.events } → new ≡ with_event now k (get_or xs k None) →
     new ≡ record old { events = take (k + 1) xs ++ drop (k + 1) old.events }
 unfolding with_times
-times_one xs old now new k within len front last =
-    last ∙ ap (λ (t : Timetable). with_event t k (get_or xs k None)) front
+times_one xs old now new k within len prefix last =
+    last ∙ ap (λ (t : Timetable). with_event t k (get_or xs k None)) prefix
     ∙ ap (λ (l : List (Option ℕ)). with_times old l) (timed_more xs old.events k (get_or xs k None) (sym len) (placed_at xs k None (get_or xs k None) within refl) ∙ ap (λ (n : ℕ). take n xs ++ drop n old.events) (next_is k))
 
 -- ---- the Clocks of what was held

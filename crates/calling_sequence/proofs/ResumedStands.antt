@@ -35,7 +35,8 @@ use Rattle.calling_sequence.specs.Holding.{AreOfRoles, FitPorts, armed_as, armed
 use Rattle.calling_sequence.specs.declared.buffers.Buffers.{Buffers}
 use Rattle.calling_sequence.specs.declared.experiment.Experiment.{Experiment}
 use Rattle.calling_sequence.specs.Course.{Spot}
-use Rattle.calling_sequence.specs.Ready.{AreResumed, HaveModes, IsPlanOf}
+use Rattle.calling_sequence.specs.Ready.{AreResumed, HaveModes, IsPlanOf, KnowParticipants}
+use Rattle.event_iteration.specs.Participants.{AreUnfedAwaited}
 use Rattle.calling_sequence.proofs.Resumed.{by_len, clocks_sound, each_len}
 
 -- ---- ticks
@@ -202,8 +203,8 @@ values_fit (q ∷ ports) (w ∷ words) len = λ p port at. by p port at (values_
 
 -- ---- the buffers
 
-pub resumed : (e : Experiment) (held : Snapshot) (b : Buffers) → IsSound e.system → CanBeHeld e.system held → IsPlanOf e.plan held → b.values.items ≡ values_by e.system.ports held.words → b.schedule ≡ resumed_table e.system e.plan held → HoldsEach e.system (length b.text.items) → b.instants ≡ 0 → AreResumed e held b
-resumed e held b sound can plan values schedule holds none =
+pub resumed : (e : Experiment) (held : Snapshot) (b : Buffers) → IsSound e.system → CanBeHeld e.system held → IsPlanOf e.plan held → KnowParticipants e.system b → AreUnfedAwaited e.system b.values b.pending → b.values ≡ values_by e.system.ports held.words → b.schedule ≡ resumed_table e.system e.plan held → HoldsEach e.system (length b.text.items) → b.instants ≡ 0 → AreResumed e held b
+resumed e held b sound can plan know awaited values schedule holds none =
     let ports = e.system.ports in
     let s : StandAll held e.plan.start ports held.times held.armings = stand_all held e.plan.start ports held.times held.armings can.times can.armings (clocks_sound e.system held.times sound can.times) in
     let words = by_len IsWord ports held.words can.words in
@@ -215,6 +216,8 @@ resumed e held b sound can plan values schedule holds none =
       spot_is = ap₂ (λ (vs : List (Option ℤ)) (t : Timetable). spot_of held.point vs t) values schedule ∙ ap (λ (ts : List Timer). spot_with held ports ts) s.timers;
       done = record {
         timed = record {
+          know = know;
+          awaited = awaited;
           starts = ap (λ (t : Timetable). t.start) schedule;
           stops = ap (λ (t : Timetable). t.stop) schedule;
           stands = subst (λ (t : Timetable). StandsAt e.system held.point false t) (sym schedule) (record {

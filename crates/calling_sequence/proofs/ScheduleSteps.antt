@@ -211,8 +211,8 @@ module _ (system : System) (plan : Plan) (table : Timetable) (t to : ℕ) (stand
       let later : t < armed = grind (arith, nat_tests) in up_to clock (S.Countdown (Some armed)) is armed later refl
 
   -- a step to at most its bound passes over no tick
-  pub stands_behind : StandsAt system m true table
-  stands_behind = record {
+  pub stands_after : StandsAt system m true table
+  stands_after = record {
     len = stands.len;
     components = stands.components;
     places = stands.places;
@@ -246,11 +246,13 @@ begins system plan table t n is_first values known starts stands first = record 
 }
 
 -- the buffers at the end of a step to at most its bound
-pub timed_behind : (e : Experiment) (t n to m : ℕ) (b : Buffers) → IsPlan e.plan → AreTimed e t n false b → is_some_armed t (timers_in b.schedule) ≡ false → IsBoundOf e.plan (timers_in b.schedule) b.schedule.events t to → t < m → m ≤ to → AreTimed e m 0 true b
-timed_behind e t n to m b plan h none bound later within = record {
+pub timed_after : (e : Experiment) (t n to m : ℕ) (b : Buffers) → IsPlan e.plan → AreTimed e t n false b → is_some_armed t (timers_in b.schedule) ≡ false → IsBoundOf e.plan (timers_in b.schedule) b.schedule.events t to → t < m → m ≤ to → AreTimed e m 0 true b
+timed_after e t n to m b plan h none bound later within = record {
+  know = h.know;
+  awaited = h.awaited;
   starts = h.starts;
   stops = h.stops;
-  stands = stands_behind e.system e.plan b.schedule t to h.stands none h.starts h.stops bound.before_stop bound.bound m later within;
+  stands = stands_after e.system e.plan b.schedule t to h.stands none h.starts h.stops bound.before_stop bound.bound m later within;
   places = h.places;
   fitting = h.fitting;
   holds = h.holds;

@@ -22,14 +22,14 @@ use Rattle.run_model.specs.Initial.{is_bad_initially}
 use Rattle.run_model.specs.Run.{Timer}
 use Rattle.system_model.specs.declared.system.System.{System}
 use Rattle.slot_calls.specs.declared.bad_answer.BadAnswer.{BadAnswer}
-use Rattle.slot_calls.specs.Log.{Asking, Sent, Told}
+use Rattle.slot_calls.specs.Log.{ComponentCall, Sent, Told}
 use Rattle.slot_calls.specs.Slots.{LiveSlot, Stands, instances}
 use Rattle.slot_calls.specs.Stage.{IsAnswered, Stage, StopsAt, shapes, shapes_of, to_each, to_those}
 use Rattle.slot_calls.proofs.CallerLemmas.{Led, stage_all, stage_those}
 use Rattle.calling_sequence.specs.declared.experiment.Experiment.{Experiment}
-use Rattle.calling_sequence.specs.Course.{Extent, Found, IsWithin, LeadsTo, MayLeave, Place, Read, Rearmed, Rearming, Seen, Spot, Timed, Times, Updates, part_at, shown}
+use Rattle.calling_sequence.specs.Course.{Extent, Found, InstantDone, IsWithin, LeadsTo, MayLeave, Place, Read, Rearmed, Rearming, Spot, Timed, Times, Updates, part_at, shown}
 use Rattle.calling_sequence.specs.Ends.{RunsIn, point_of, puts_instants}
-use Rattle.calling_sequence.specs.Goes.{Comes, ComesTo, Crosses, Goes, Onward, Puts, StepsFrom}
+use Rattle.calling_sequence.specs.StageOutcomes.{ComesTo, Crosses, Puts, ReachesEnd, ReachesPlace, StageOutcome, StepsFrom}
 use Rattle.calling_sequence.specs.Here.{Follows, Here, Past}
 use Rattle.calling_sequence.specs.declared.buffers.Buffers.{Buffers}
 use Rattle.calling_sequence.specs.declared.ending.Break.{Break}
@@ -41,44 +41,49 @@ use Rattle.calling_sequence.specs.Ready.{Ready}
 use Rattle.calling_sequence.proofs.Chains.{IsGoodly, IsQuestion, fits_on, keep_all}
 use Rattle.calling_sequence.proofs.Walks.{asking_goodly, timing_goodly}
 use Rattle.calling_sequence.proofs.Onto.{cut, off, on_quietly, on_shown, on_unput}
-use Rattle.calling_sequence.specs.Puts.{CutsPiece}
+use Rattle.calling_sequence.specs.Puts.{PutsPrefixOf}
 
 -- ---- where it leads the run
 
 module _ {T : Type 0} (e : Experiment) (p : Place) (q : T → Place) (quiet : (x : T) → shown (q x) ≡ []) (within : (x : T) (extent : Extent) → IsWithin extent (q x)) (mids news : List Instance) (count : ℕ) where
-  module _ (fits : shapes mids ≡ shapes_of e.system) (calls : List Shape → List Asking) (value : List Sent → T) where
+  module _ (fits : shapes mids ≡ shapes_of e.system) (calls : List Shape → List ComponentCall) (value : List Sent → T) where
     -- the answers lead on by the value that they give
     abbrev pub LeadsBy : Type 0
     LeadsBy = (x : T) (log : List Sent) → IsAnswered (shapes_of e.system) (calls (shapes_of e.system)) log → x ≡ value log → LeadsTo e.system e.plan p [] log (q x)
 
     -- calls that stop at the first bad answer
-    pub by_stage : part_at e.system e.bound e.plan p ≡ Calls (calls (shapes_of e.system)) → LeadsBy → (r : Result T BadAnswer) → Stage (calls (shapes mids)) value mids news r → Goes e p q mids news count count r
+    pub by_stage : part_at e.system e.bound e.plan p ≡ Calls (calls (shapes_of e.system)) → LeadsBy → (r : Result T BadAnswer) → Stage (calls (shapes mids)) value mids news r → StageOutcome e p q mids news count count r
     by_stage is leads (Ok x) s = λ v olds past h.
         let done = subst (λ (ss : List Shape). IsAnswered ss (calls ss) s.log) fits s.says.0 in
         on_quietly e olds past p mids news v count h s.log s.told (q x) [] (subst (λ (part : Part). Does e.system part [] s.log) (sym is) done) (leads x s.log done s.says.1) (within x past.extent) (quiet x)
     by_stage is leads (Err bad) s = λ v olds past h.
         off e olds past p mids news v count h s.log s.told bad (subst (λ (part : Part). Falls e.system part bad s.log) (sym is) (subst (λ (ss : List Shape). StopsAt ss (calls ss) bad s.log) fits s.says))
 
--- a walk
-pub by_walk : (e : Experiment) (p q : Place) → shown q ≡ [] → ((extent : Extent) → IsWithin extent q) → (mids news : List Instance) (count : ℕ) (rules : Rules) (past : List (Option ℤ)) (order : List ℕ) (values : List (Option ℤ)) → part_at e.system e.bound e.plan p ≡ Walk rules past order →
-    ((log : List Sent) → LeadsTo e.system e.plan p values log q) → (r : Result (Unit {0}) BadAnswer) → Walks e.system rules past order values mids news r → Goes e p (λ (x : Unit {0}). q) mids news count count r
-by_walk e p q quiet within mids news count rules past order values is leads (Ok x) w = λ v olds past h.
+-- both hold after a good answer
+pub both_ok : {T E : Type 0} (P Q : Type 0) (r : Result T E) → OnOk r P → OnOk r Q → OnOk r (P × Q)
+both_ok P Q (Ok x) p q = (p, q)
+both_ok P Q (Err bad) p q = tt
+
+always : {T E : Type 0} (P : Type 0) (r : Result T E) → P → OnOk r P
+always P (Ok x) p = p
+always P (Err bad) p = tt
+
+-- a walk, where after good answers it leads on
+pub by_good_walk : (e : Experiment) (p q : Place) → shown q ≡ [] → ((extent : Extent) → IsWithin extent q) → (mids news : List Instance) (count : ℕ) (rules : Rules) (past : List (Option ℤ)) (order : List ℕ) (values : List (Option ℤ)) → part_at e.system e.bound e.plan p ≡ Walk rules past order →
+    (r : Result (Unit {0}) BadAnswer) → ((log : List Sent) → OnOk r (LeadsTo e.system e.plan p values log q)) → Walks e.system rules past order values mids news r → StageOutcome e p (λ (x : Unit {0}). q) mids news count count r
+by_good_walk e p q quiet within mids news count rules past order values is (Ok x) leads w = λ v olds past h.
     on_quietly e olds past p mids news v count h w.log w.told q values (subst (λ (part : Part). Does e.system part values w.log) (sym is) w.says) (leads w.log) (within past.extent) quiet
-by_walk e p q quiet within mids news count rules past order values is leads (Err bad) w = λ v olds past h.
+by_good_walk e p q quiet within mids news count rules past order values is (Err bad) leads w = λ v olds past h.
     off e olds past p mids news v count h w.log w.told bad (subst (λ (part : Part). Falls e.system part bad w.log) (sym is) w.says)
 
--- the same values, by another name
-pub walks_as : (system : System) (rules : Rules) (order : List ℕ) (mids news : List Instance) (r : Result (Unit {0}) BadAnswer) (a b c d : List (Option ℤ)) → a ≡ b → c ≡ d → Walks system rules a order c mids news r → Walks system rules b order d mids news r
-walks_as system rules order mids news r a b c d past now w = subst (λ (vs : List (Option ℤ)). Walks system rules b order vs mids news r) now (subst (λ (vs : List (Option ℤ)). Walks system rules vs order c mids news r) past w)
-
-pub sets_as : (system : System) (order : List ℕ) (mids news : List Instance) (r : Result (Unit {0}) BadAnswer) (a b : List (Option ℤ)) → a ≡ b → Walks system (before_step a) a order a mids news r → Walks system (before_step b) b order b mids news r
-sets_as system order mids news r a b same w = subst (λ (vs : List (Option ℤ)). Walks system (before_step vs) vs order vs mids news r) same w
-
-pub asks_as : (system : System) (per_second t : ℕ) (timers next : List Timer) (mids news : List Instance) (r : Result Bool BadAnswer) (a b : List (Option ℤ)) → a ≡ b → AsksIntervals system per_second t a timers next mids news r → AsksIntervals system per_second t b timers next mids news r
-asks_as system per_second t timers next mids news r a b same w = subst (λ (vs : List (Option ℤ)). AsksIntervals system per_second t vs timers next mids news r) same w
+-- and where it always does
+pub by_walk : (e : Experiment) (p q : Place) → shown q ≡ [] → ((extent : Extent) → IsWithin extent q) → (mids news : List Instance) (count : ℕ) (rules : Rules) (past : List (Option ℤ)) (order : List ℕ) (values : List (Option ℤ)) → part_at e.system e.bound e.plan p ≡ Walk rules past order →
+    ((log : List Sent) → LeadsTo e.system e.plan p values log q) → (r : Result (Unit {0}) BadAnswer) → Walks e.system rules past order values mids news r → StageOutcome e p (λ (x : Unit {0}). q) mids news count count r
+by_walk e p q quiet within mids news count rules past order values is leads r w =
+    by_good_walk e p q quiet within mids news count rules past order values is r (λ log. always (LeadsTo e.system e.plan p values log q) r (leads log)) w
 
 -- the questions for the timing of fixed and changing Clocks
-pub by_fixes : (e : Experiment) (found : List (Option ℤ)) → list_any (is_bad_initially e.system found) e.system.ports ≡ false → (timers : List Timer) (mids news : List Instance) (count : ℕ) (r : Result (Unit {0}) BadAnswer) → Fixes e.system e.plan.resolution e.plan.start timers mids news r → Goes e (Found found) (λ (x : Unit {0}). Timed timers) mids news count count r
+pub by_fixes : (e : Experiment) (found : List (Option ℤ)) → list_any (is_bad_initially e.system found) e.system.ports ≡ false → (timers : List Timer) (mids news : List Instance) (count : ℕ) (r : Result (Unit {0}) BadAnswer) → Fixes e.system e.plan.resolution e.plan.start timers mids news r → StageOutcome e (Found found) (λ (x : Unit {0}). Timed timers) mids news count count r
 by_fixes e found kept timers mids news count (Ok x) f = λ v olds past h. on_quietly e olds past (Found found) mids news v count h f.log f.told (Timed timers) [] f.says.0 (Times found [] f.log timers kept f.says.1) tt refl
 by_fixes e found kept timers mids news count (Err bad) f = λ v olds past h. off e olds past (Found found) mids news v count h f.log f.told bad f.says
 
@@ -88,16 +93,16 @@ fixes_as system per_second a b same timers mids news r f = subst (λ (start : �
 
 -- the questions for intervals
 pub by_asking : (e : Experiment) (s : Spot) → list_any (is_bad s.values) e.system.ports ≡ false → (next : List Timer) (mids news : List Instance) (count : ℕ) (r : Result Bool BadAnswer) → AsksIntervals e.system e.plan.resolution s.t s.values s.timers next mids news r →
-    Goes e (Read s) (λ (armed : Bool). Rearmed (record s { timers = next })) mids news count count r
+    StageOutcome e (Read s) (λ (armed : Bool). Rearmed (record s { timers = next })) mids news count count r
 by_asking e s kept next mids news count (Ok x) a = λ v olds past h.
     on_quietly e olds past (Read s) mids news v count h a.log a.told (Rearmed (record s { timers = next })) s.values a.says.0.explains (Rearming s s.values next a.log kept a.says.0) tt refl
 by_asking e s kept next mids news count (Err bad) a = λ v olds past h.
     off e olds past (Read s) mids news v count h a.log a.told bad (s.values, a.says)
 
 -- the same event times, by another name
-pub goes_as : (e : Experiment) (p : Place) (s : Spot) (events : List (Option ℕ)) → s.events ≡ events → (mids news : List Instance) (count counted : ℕ) (r : Result Bool BadAnswer) → Goes e p (λ (armed : Bool). Rearmed s) mids news count counted r →
-    Goes e p (λ (armed : Bool). Rearmed (record s { events = events })) mids news count counted r
-goes_as e p s events same mids news count counted r goes = subst (λ (es : List (Option ℕ)). Goes {T = Bool} e p (λ (armed : Bool). Rearmed (record s { events = es })) mids news count counted r) same goes
+pub goes_as : (e : Experiment) (p : Place) (s : Spot) (events : List (Option ℕ)) → s.events ≡ events → (mids news : List Instance) (count counted : ℕ) (r : Result Bool BadAnswer) → StageOutcome e p (λ (armed : Bool). Rearmed s) mids news count counted r →
+    StageOutcome e p (λ (armed : Bool). Rearmed (record s { events = events })) mids news count counted r
+goes_as e p s events same mids news count counted r goes = subst (λ (es : List (Option ℕ)). StageOutcome {T = Bool} e p (λ (armed : Bool). Rearmed (record s { events = es })) mids news count counted r) same goes
 
 pub armed_by : {system : System} {per_second t : ℕ} {values : List (Option ℤ)} {timers next : List Timer} {mids news : List Instance} (r : Result Bool BadAnswer) → AsksIntervals system per_second t values timers next mids news r → IfOk r (λ (b : Bool). b ≡ is_some_armed t next)
 armed_by (Ok x) a = a.says.1
@@ -113,13 +118,13 @@ module _ (e : Experiment) (s : Spot) (events : List (Option ℕ)) (u v : Updated
   abbrev told_spot : Spot
   told_spot = record s { events = events }
 
-  sees : LeadsTo e.system e.plan (Rearmed s) [] updates.stage.log (Seen told_spot v.again v.asked)
+  sees : LeadsTo e.system e.plan (Rearmed s) [] updates.stage.log (InstantDone told_spot v.again v.asked)
   sees =
       Updates s [] updates.stage.log events v.again v.asked (updates.events_are ∙ ap (λ (ss : List Shape). events_told s.t ss updates.stage.log) fits) (again ∙ ap (λ (x : Updated). x.again || is_some_armed s.t s.timers) updates.stage.says.1)
       (asked ∙ ap (λ (x : Updated). x.asked) updates.stage.says.1)
 
   abbrev goes_on : Place
-  goes_on = Seen told_spot v.again v.asked
+  goes_on = InstantDone told_spot v.again v.asked
 
   -- the instant isn't put
   pub by_none : puts_instants past.extent ≡ false → Here e olds past goes_on news present count
@@ -128,46 +133,46 @@ module _ (e : Experiment) (s : Spot) (events : List (Option ℕ)) (u v : Updated
   pub by_put : puts_instants past.extent ≡ true → (after : SinkView) → after ≡ with_piece present (instant_text s.t s.n s.values) → Here e olds past goes_on news after (count + 1)
   by_put puts after put = on_shown e olds past (Rearmed s) mids news present count h updates.stage.log updates.stage.told goes_on [] done sees tt _ refl puts after put
 
-  pub by_cut : puts_instants past.extent ≡ true → (after : SinkView) → CutsPiece present (instant_text s.t s.n s.values) after → RunsIn e.system e.bound e.plan past.extent olds news past.sink after count E.WriteFault
+  pub by_cut : puts_instants past.extent ≡ true → (after : SinkView) → PutsPrefixOf present (instant_text s.t s.n s.values) after → RunsIn e.system e.bound e.plan past.extent olds news past.sink after count E.WriteFault
   by_cut puts after put = cut e olds past (Rearmed s) mids news present count h updates.stage.log updates.stage.told goes_on [] done sees tt _ refl puts after put
 
 pub badly_updated : (e : Experiment) (s : Spot) (mids news : List Instance) → shapes mids ≡ shapes_of e.system → (bad : BadAnswer) → Stage (updating (shapes mids)) updated_by mids news (Err bad) → (v : SinkView) (count : ℕ) →
-    Comes e (Rearmed s) (record { end = E.Bad bad; point = s.t }) mids news v v count count
+    ReachesEnd e (Rearmed s) (record { end = E.Bad bad; point = s.t }) mids news v v count count
 badly_updated e s mids news fits bad stage v count olds past h =
     off e olds past (Rearmed s) mids news v count h stage.log stage.told bad (subst (λ (ss : List Shape). StopsAt ss (updating ss) bad stage.log) fits stage.says)
 
 -- ---- one stage after others
 
 module _ {T : Type 0} (e : Experiment) (p q : Place) (r : T → Place) (olds mids news : List Instance) (count now counted : ℕ) where
-  pub then_goes : point_of e.plan q ≡ point_of e.plan p → ((v : SinkView) → Onward e p q olds mids v v count now) → (x : Result T BadAnswer) → Goes e q r mids news now counted x → Goes e p r olds news count counted x
+  pub then_goes : point_of e.plan q ≡ point_of e.plan p → ((v : SinkView) → ReachesPlace e p q olds mids v v count now) → (x : Result T BadAnswer) → StageOutcome e q r mids news now counted x → StageOutcome e p r olds news count counted x
   then_goes same first (Ok x) s = λ v starts past h. s v starts past (first v starts past h)
   then_goes same first (Err bad) s = λ v starts past h.
       subst (λ (point : ℕ). Follows e past.extent starts past.sink (record { end = E.Bad bad; point = point }) news v counted) same (s v starts past (first v starts past h))
 
-  pub then_crosses : ((v : SinkView) → Onward e p q olds mids v v count now) → (x : Result T Ending) → Crosses e q r mids news now counted x → Crosses e p r olds news count counted x
+  pub then_crosses : ((v : SinkView) → ReachesPlace e p q olds mids v v count now) → (x : Result T Ending) → Crosses e q r mids news now counted x → Crosses e p r olds news count counted x
   then_crosses first (Ok x) s = λ v starts past h. s v starts past (first v starts past h)
   then_crosses first (Err ending) s = λ v starts past h. s v starts past (first v starts past h)
 
-  pub then_steps : (t : ℕ) → ((v : SinkView) → Onward e p q olds mids v v count now) → (x : Result T Ending) → StepsFrom e t q r mids news now counted x → StepsFrom e t p r olds news count counted x
+  pub then_steps : (t : ℕ) → ((v : SinkView) → ReachesPlace e p q olds mids v v count now) → (x : Result T Ending) → StepsFrom e t q r mids news now counted x → StepsFrom e t p r olds news count counted x
   then_steps t first (Ok x) s = λ v starts past may h. s v starts past may (first v starts past h)
   then_steps t first (Err ending) s = λ v starts past may h. s v starts past may (first v starts past h)
 
   -- a step that the run may leave for
-  pub steps_behind : (t : ℕ) → ((v : SinkView) (starts : List Instance) (past : Past) → MayLeave past.extent t → Here e starts past p olds v count → Here e starts past q mids v now) → (x : Result T Ending) → StepsFrom e t q r mids news now counted x → StepsFrom e t p r olds news count counted x
-  steps_behind t first (Ok x) s = λ v starts past may h. s v starts past may (first v starts past may h)
-  steps_behind t first (Err ending) s = λ v starts past may h. s v starts past may (first v starts past may h)
+  pub steps_after : (t : ℕ) → ((v : SinkView) (starts : List Instance) (past : Past) → MayLeave past.extent t → Here e starts past p olds v count → Here e starts past q mids v now) → (x : Result T Ending) → StepsFrom e t q r mids news now counted x → StepsFrom e t p r olds news count counted x
+  steps_after t first (Ok x) s = λ v starts past may h. s v starts past may (first v starts past may h)
+  steps_after t first (Err ending) s = λ v starts past may h. s v starts past may (first v starts past may h)
 
   -- and one after it
   pub steps_before : (t : ℕ) → ((v : SinkView) (starts : List Instance) (past : Past) → MayLeave past.extent t → Here e starts past p olds v count → Here e starts past q mids v now) → (x : Result T Ending) → Crosses e q r mids news now counted x → StepsFrom e t p r olds news count counted x
   steps_before t first (Ok x) s = λ v starts past may h. s v starts past (first v starts past may h)
   steps_before t first (Err ending) s = λ v starts past may h. s v starts past (first v starts past may h)
 
-  pub then_puts : (puts : Bool) (present after : SinkView) → Onward e p q olds mids present present count now → (x : Result T Break) → Puts e puts q r mids news present after now counted x → Puts e puts p r olds news present after count counted x
+  pub then_puts : (puts : Bool) (present after : SinkView) → ReachesPlace e p q olds mids present present count now → (x : Result T Break) → Puts e puts q r mids news present after now counted x → Puts e puts p r olds news present after count counted x
   then_puts puts present after first (Ok x) s = λ starts past so h. s starts past so (first starts past h)
   then_puts puts present after first (Err broken) s = λ starts past so h. s starts past so (first starts past h)
 
 -- a stage before those that take instants
-pub before_come : (e : Experiment) (p q : Place) (b : Buffers) (olds mids news : List Instance) (present after : SinkView) (count now counted : ℕ) (puts : Bool) (limit : ℕ) → Onward e p q olds mids present present count now → (x : Result ℕ Break) → ComesTo e puts limit q b mids news present after now counted x →
+pub before_come : (e : Experiment) (p q : Place) (b : Buffers) (olds mids news : List Instance) (present after : SinkView) (count now counted : ℕ) (puts : Bool) (limit : ℕ) → ReachesPlace e p q olds mids present present count now → (x : Result ℕ Break) → ComesTo e puts limit q b mids news present after now counted x →
     ComesTo e puts limit p b olds news present after count counted x
 before_come e p q b olds mids news present after count now counted puts limit first (Ok t) s = λ starts past goes h. s starts past goes (first starts past h)
 before_come e p q b olds mids news present after count now counted puts limit first (Err broken) s = λ starts past goes h. s starts past goes (first starts past h)

@@ -1,5 +1,5 @@
 -- Where the instances stand after the last Updates of a point, and what the values are that were found.
-use Rattle.std.proofs.Common.{◌≡◌, ℕ, ◌<◌, Bool, true, false, List, [], ◌∷◌, Option, Some, None, Ok, refl, sym, ap, ◌∙◌, subst, arith, length, get_or, map, replicate, zero, suc}
+use Rattle.std.proofs.Common.{◌≡◌, ℕ, ◌<◌, Bool, true, false, List, [], ◌∷◌, Option, Some, None, Ok, inl, refl, sym, ap, ◌∙◌, subst, arith, length, get_or, map, replicate, zero, suc}
 use Rattle.std.specs.Int.{w128}
 use Rattle.std.specs.Prelude.{All, ℤ, ◌||◌, FitsSigned, IfSome, if◌then◌else◌, slice_get}
 use Rattle.std.proofs.lemmas.Int.{ints}
@@ -17,6 +17,7 @@ use Rattle.system_model.specs.declared.system.Port.{Port}
 use Rattle.system_model.specs.declared.system.System.{System}
 use Rattle.run_model.specs.AfterInstant.{asks_again}
 use Rattle.run_model.specs.Machines.{AreFitting}
+use Rattle.event_iteration.specs.Participants.{AreUnfedAwaited}
 use Rattle.system_model.specs.Values.{value}
 use Rattle.slot_calls.specs.Carried.{IsWide}
 use Rattle.slot_calls.specs.Log.{Sent}
@@ -90,6 +91,9 @@ none_at : (ports : List Port) (p : ℕ) → value (map (λ (port : Port). no_val
 none_at [] p = refl
 none_at (port ∷ ports) zero = refl
 none_at (port ∷ ports) (suc p) = none_at ports p
+
+pub none_unfed : (system : System) (values : List (Option ℤ)) (pending : List Bool) → values ≡ no_values system → AreUnfedAwaited system values pending
+none_unfed system values pending is j p port at there role = inl (ap (λ (vs : List (Option ℤ)). value vs p) is ∙ none_at system.ports p)
 
 pub none_fit : (system : System) (values : List (Option ℤ)) → values ≡ no_values system → AreFitting system values
 none_fit system values is p port at = subst (λ (o : Option ℤ). IfSome o (Fits port.kind)) (sym (ap (λ (vs : List (Option ℤ)). value vs p) is ∙ none_at system.ports p)) tt

@@ -15,7 +15,7 @@ use Rattle.fmi_calls.specs.Next.{counted, entered, graded, next_of}
 use Rattle.fmi_calls.specs.Worth.{grade_of}
 use Rattle.fmu_peer.specs.declared.peer.Exchange.{Exchange}
 use Rattle.fmu_peer.specs.View.{View}
-use Rattle.slot_calls.specs.Log.{Asking, Sent, Talks, asking_of, askings}
+use Rattle.slot_calls.specs.Log.{ComponentCall, Sent, Talks, component_call, component_calls}
 use Rattle.slot_calls.specs.Stage.{to_those, to_those_from}
 use Rattle.slot_calls.specs.declared.bad_answer.BadAnswer.{BadAnswer}
 use Rattle.slot_calls.proofs.CallerLemmas.{map_at}
@@ -64,26 +64,26 @@ talks_stay v w (e ∷ es) (mid, may, asked, rest) all =
 abbrev pub AreOfStep : List Sent → Type 0
 AreOfStep log = All (λ (s : Sent). IsOfStep s.exchange.call) log
 
-one_more : (a : Asking) (rest : List Asking) (b : Bool) → IsOfStep a.call → All (λ (x : Asking). IsOfStep x.call) rest → All (λ (x : Asking). IsOfStep x.call) (if b then a ∷ rest else rest)
-one_more a rest true is all = All-cons (λ (x : Asking). IsOfStep x.call) a rest is all
+one_more : (a : ComponentCall) (rest : List ComponentCall) (b : Bool) → IsOfStep a.call → All (λ (x : ComponentCall). IsOfStep x.call) rest → All (λ (x : ComponentCall). IsOfStep x.call) (if b then a ∷ rest else rest)
+one_more a rest true is all = All-cons (λ (x : ComponentCall). IsOfStep x.call) a rest is all
 one_more a rest false is all = all
 
-calls_of : {A : Type 0} (test : A → Bool) (call : Call) → IsOfStep call → (k : ℕ) (xs : List A) → All (λ (a : Asking). IsOfStep a.call) (to_those_from k test (λ x. call) xs)
-calls_of test call is k [] = All-nil (λ (a : Asking). IsOfStep a.call)
+calls_of : {A : Type 0} (test : A → Bool) (call : Call) → IsOfStep call → (k : ℕ) (xs : List A) → All (λ (a : ComponentCall). IsOfStep a.call) (to_those_from k test (λ x. call) xs)
+calls_of test call is k [] = All-nil (λ (a : ComponentCall). IsOfStep a.call)
 calls_of test call is k (x ∷ xs) = one_more (record { component = k; call = call }) (to_those_from (k + 1) test (λ y. call) xs) (test x) is (calls_of test call is (k + 1) xs)
 
-by_askings : (log : List Sent) (calls : List Asking) → askings log ≡ calls → All (λ (a : Asking). IsOfStep a.call) calls → AreOfStep log
+by_askings : (log : List Sent) (calls : List ComponentCall) → component_calls log ≡ calls → All (λ (a : ComponentCall). IsOfStep a.call) calls → AreOfStep log
 by_askings log calls is all = λ k d w.
     let s = get_or log k d in
-    let at : asking_of s ≡ get_or (askings log) k (asking_of s) = map_at asking_of log k s (asking_of s) w (get_or_default log k d s w) in
-    let within : k < length (askings log) = let m = length-map log asking_of in omega (arith, m, w) in
-    subst (λ (a : Asking). IsOfStep a.call) (sym at) (subst (All (λ (a : Asking). IsOfStep a.call)) (sym is) all k (asking_of s) within)
+    let at : component_call s ≡ get_or (component_calls log) k (component_call s) = map_at component_call log k s (component_call s) w (get_or_default log k d s w) in
+    let within : k < length (component_calls log) = let m = length-map log component_call in omega (arith, m, w) in
+    subst (λ (a : ComponentCall). IsOfStep a.call) (sym at) (subst (All (λ (a : ComponentCall). IsOfStep a.call)) (sym is) all k (component_call s) within)
 
-pub round_of_step : {A : Type 0} (test : A → Bool) (call : Call) → IsOfStep call → (xs : List A) (log : List Sent) → askings log ≡ to_those test (λ x. call) xs → AreOfStep log
+pub round_of_step : {A : Type 0} (test : A → Bool) (call : Call) → IsOfStep call → (xs : List A) (log : List Sent) → component_calls log ≡ to_those test (λ x. call) xs → AreOfStep log
 round_of_step test call is xs log calls_are = by_askings log (to_those test (λ x. call) xs) calls_are (calls_of test call is 0 xs)
 
-pub joined : (front back : List Sent) → AreOfStep front → AreOfStep back → AreOfStep (front ++ back)
-joined front back f b = All-append (λ (s : Sent). IsOfStep s.exchange.call) front back f b
+pub joined : (prefix back : List Sent) → AreOfStep prefix → AreOfStep back → AreOfStep (prefix ++ back)
+joined prefix back f b = All-append (λ (s : Sent). IsOfStep s.exchange.call) prefix back f b
 
 of_round : (t : ℕ) (call : Call) → IsOfRound t call → IsOfStep call
 of_round t call (inl is) = subst IsOfStep (sym is) tt
@@ -93,7 +93,7 @@ along : (t : ℕ) (ss : List Shape) → IsAlong t ss AreOfStep (λ (bad : BadAns
 along t ss = record {
   none = All-nil (λ (s : Sent). IsOfStep s.exchange.call);
   joined = joined;
-  behind = λ bad. joined;
+  after = λ bad. joined;
   well = λ test call stands log is same a. round_of_step test call (of_round t call is) stands log a.calls_are;
   badly = λ test call stands bad log is same f. round_of_step test call (of_round t call is) stands log f.calls_are;
 }

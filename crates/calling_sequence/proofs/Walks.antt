@@ -21,7 +21,7 @@ use Rattle.system_model.specs.declared.system.System.{System}
 use Rattle.run_model.specs.Equations.{fed, source_value}
 use Rattle.run_model.specs.Initial.{is_read}
 use Rattle.system_model.specs.Values.{value, is_active, is_present}
-use Rattle.slot_calls.specs.Log.{Asking, Sent}
+use Rattle.slot_calls.specs.Log.{ComponentCall, Sent}
 use Rattle.slot_calls.specs.Stage.{IsAnswered, shapes_of}
 use Rattle.slot_calls.proofs.CallerLemmas.{sent_all}
 use Rattle.event_iteration.specs.Explains.{Explains, all_said, call_at, said}
@@ -145,7 +145,7 @@ questions ClockOutput port v k h result = absurd (cc)
 
 -- ---- the questions for fixed and changing Clocks, in Initialization Mode
 
-abbrev IsQuestionAsked : Asking → Type 0
+abbrev IsQuestionAsked : ComponentCall → Type 0
 IsQuestionAsked a = (reference : ℕ) × ((a.call ≡ C.GetInterval reference) ⊎ (a.call ≡ C.GetShift reference))
 
 timing_of : (role : Role) (port : Port) → All IsQuestionAsked (timing_calls_of role port)

@@ -5,7 +5,7 @@ use Rattle.system_model.specs.declared.bound.Bound.{Bound}
 use Rattle.system_model.specs.declared.plan.Plan.{Plan}
 use Rattle.system_model.specs.declared.system.System.{System}
 use Rattle.system_model.specs.Text.{Instant}
-use Rattle.system_model.specs.Ports.{numbers}
+use Rattle.system_model.specs.Ports.{port_numbers}
 use Rattle.run_model.specs.Equations.{is_bad}
 use Rattle.run_model.specs.Initial.{is_bad_initially}
 use Rattle.run_model.specs.Run.{Timer}
@@ -52,7 +52,7 @@ pub data Place : Type 0 where
   Read : (s : Spot) → Place
   Rearmed : (s : Spot) → Place
   -- after an instant, whose Updates tell the event times: whether another is asked for at the point, and whether the end is
-  Seen : (s : Spot) (again asked : Bool) → Place
+  InstantDone : (s : Spot) (again asked : Bool) → Place
   -- on the way to a step: the point is done; those with event mode are in Step Mode; the inputs of the others were set; the states were saved
   Leaving : (w : Way) → Place
   Left : (w : Way) → Place
@@ -72,14 +72,14 @@ abbrev pub part_at : System → Bound → Plan → Place → Part
 part_at system bound plan Made = Calls (binding bound)
 part_at system bound plan Configured = Calls (entering system plan)
 part_at system bound plan Entered =
-    Walk (initially system) (no_values system) (numbers system.initial_order)
+    Walk (initially system) (no_values system) (port_numbers system.initial_order)
 part_at system bound plan (Found values) = Calls (timing_calls system)
 part_at system bound plan (Timed timers) = Calls (leaving system)
 part_at system bound plan (Before s ticks) =
-    Walk (in_instant ticks (s.n == 0)) s.values (numbers system.instant_order)
+    Walk (in_instant ticks (s.n == 0)) s.values (port_numbers system.instant_order)
 part_at system bound plan (Read s) = Walk (intervals s.values) s.values (port_order system)
 part_at system bound plan (Rearmed s) = Calls (updating (shapes_of system))
-part_at system bound plan (Seen s again asked) = Calls []
+part_at system bound plan (InstantDone s again asked) = Calls []
 part_at system bound plan (Leaving w) = Calls (entering_step system)
 part_at system bound plan (Left w) = Walk (before_step w.s.values) w.s.values (port_order system)
 part_at system bound plan (Departing w) = Round (saving system)
@@ -135,15 +135,17 @@ pub data LeadsTo (system : System) (plan : Plan) : Place → List (Option ℤ) �
       (again asked : Bool) → events ≡ events_told s.t (shapes_of system) log →
       again ≡ ((updated_by log).again || is_some_armed s.t s.timers) →
       asked ≡ (updated_by log).asked →
-      LeadsTo system plan (Rearmed s) values log (Seen (record s { events = events }) again asked)
+      LeadsTo system plan (Rearmed s) values log
+      (InstantDone (record s { events = events }) again asked)
   -- another instant at the point, of which there may be one more
   Again : (s : Spot) (values : List (Option ℤ)) (log : List Sent) (ticks : ℕ → Bool) →
       (suc s.n == plan.limit) ≡ false → Begins system plan (record s { n = suc s.n }) ticks →
-      LeadsTo system plan (Seen s true false) values log (Before (record s { n = suc s.n }) ticks)
+      LeadsTo system plan (InstantDone s true false) values log
+      (Before (record s { n = suc s.n }) ticks)
   -- the point is done, from which a step is to be made
   GoesOn : (w : Way) (values : List (Option ℤ)) (log : List Sent) →
       IsStep system plan w.s.timers w.s.events w.s.t w.to →
-      LeadsTo system plan (Seen w.s false false) values log (Leaving w)
+      LeadsTo system plan (InstantDone w.s false false) values log (Leaving w)
   Leaves : (w : Way) (values : List (Option ℤ)) (log : List Sent) →
       LeadsTo system plan (Leaving w) values log (Left w)
   Sets : (w : Way) (values : List (Option ℤ)) (log : List Sent) →
@@ -171,7 +173,7 @@ pub data LeadsTo (system : System) (plan : Plan) : Place → List (Option ℤ) �
 
 -- the instant that follows the part which leads there
 abbrev pub shown : Place → List Instant
-shown (Seen s again asked) = record { t = s.t; n = s.n; values = s.values } ∷ []
+shown (InstantDone s again asked) = record { t = s.t; n = s.n; values = s.values } ∷ []
 shown p = []
 
 -- ---- how much of a run is gone through
@@ -202,11 +204,11 @@ IsWithin extent p = Unit {0}
 pub data CourseIn (system : System) (bound : Bound) (plan : Plan) (extent : Extent) : Place →
     List Sent → List Instant → Type 0 where
   AtFirst : CourseIn system bound plan extent (first_of extent) [] []
-  On : (p q : Place) (values : List (Option ℤ)) (front more : List Sent) (is : List Instant) →
-      CourseIn system bound plan extent p front is →
+  On : (p q : Place) (values : List (Option ℤ)) (prefix more : List Sent) (is : List Instant) →
+      CourseIn system bound plan extent p prefix is →
       Does system (part_at system bound plan p) values more →
       LeadsTo system plan p values more q → IsWithin extent q →
-      CourseIn system bound plan extent q (front ++ more) (is ++ shown q)
+      CourseIn system bound plan extent q (prefix ++ more) (is ++ shown q)
 
 -- of a whole run
 abbrev pub Course : System → Bound → Plan → Place → List Sent → List Instant → Type 0

@@ -22,9 +22,9 @@ use Rattle.rollback.specs.declared.step_end.StepEnd.{StepEnd}
 use Rattle.rollback.specs.declared.step_end.StepEnd.TheVariants.{Bad, FixedStep}
 use Rattle.slot_calls.specs.Log.{Sent, Told}
 use Rattle.calling_sequence.specs.Calls.{IsBoundOf, first_unfit}
-use Rattle.calling_sequence.specs.Course.{Agreed, Before, Configured, CourseIn, Departing, Entered, Extent, Found, FromHeld, Left, Leaving, Made, MayLeave, Place, Read, Rearmed, Restored, Saved, Seen, Short, Spot, Stepped, Timed, UpToHeld, Way, Whole, part_at, shown}
+use Rattle.calling_sequence.specs.Course.{Agreed, Before, Configured, CourseIn, Departing, Entered, Extent, Found, FromHeld, Left, Leaving, Made, MayLeave, Place, Read, Rearmed, Restored, Saved, InstantDone, Short, Spot, Stepped, Timed, UpToHeld, Way, Whole, part_at, shown}
 use Rattle.calling_sequence.specs.Parts.{Falls}
-use Rattle.calling_sequence.specs.Puts.{CutsPiece, with_pieces}
+use Rattle.calling_sequence.specs.Puts.{PutsPrefixOf, with_pieces}
 
 -- ---- where it ends
 
@@ -38,7 +38,7 @@ point_of plan (Timed timers) = plan.start
 point_of plan (Before s ticks) = s.t
 point_of plan (Read s) = s.t
 point_of plan (Rearmed s) = s.t
-point_of plan (Seen s again asked) = s.t
+point_of plan (InstantDone s again asked) = s.t
 point_of plan (Leaving w) = w.s.t
 point_of plan (Left w) = w.s.t
 point_of plan (Departing w) = w.s.t
@@ -51,17 +51,17 @@ point_of plan (Restored s) = s.t
 -- at this place a run ends so, but for a bad answer
 pub data EndsAt (system : System) (plan : Plan) : RunEnd → Place → Type 0 where
   -- the point of the stop is done
-  AtStop : (s : Spot) → s.t ≡ plan.stop → EndsAt system plan E.Stop (Seen s false false)
+  AtStop : (s : Spot) → s.t ≡ plan.stop → EndsAt system plan E.Stop (InstantDone s false false)
   -- an Update asked for the end, or an answer to a step did
-  ByUpdate : (s : Spot) (again : Bool) → EndsAt system plan (E.Asked s.t) (Seen s again true)
+  ByUpdate : (s : Spot) (again : Bool) → EndsAt system plan (E.Asked s.t) (InstantDone s again true)
   ByStep : (s : Spot) → EndsAt system plan (E.Asked s.t) (Stepped s true)
   -- another instant is asked for, and the instants at this point have reached their limit
   AtLimit : (s : Spot) → (suc s.n == plan.limit) ≡ true →
-      EndsAt system plan (E.EventLimit s.t) (Seen s true false)
+      EndsAt system plan (E.EventLimit s.t) (InstantDone s true false)
   -- the point is done, and the size of the step from there is one that the component doesn't take, the least of those
   Unfit : (s : Spot) (component : CompId) (end : ℕ) → IsBoundOf plan s.timers s.events s.t end →
       first_unfit system plan (end - s.t) ≡ Some component.0 →
-      EndsAt system plan (E.FixedStep component s.t end) (Seen s false false)
+      EndsAt system plan (E.FixedStep component s.t end) (InstantDone s false false)
   -- the same where the run was resumed there
   UnfitAtFirst : (s : Spot) (component : CompId) (end : ℕ) →
       IsBoundOf plan s.timers s.events s.t end →
@@ -98,10 +98,10 @@ pub data FinishesIn (system : System) (bound : Bound) (plan : Plan) (extent : Ex
   Well : (p : Place) (end : RunEnd) (log : List Sent) (is : List Instant) →
       CourseIn system bound plan extent p log is → EndsAt system plan end p → MayEnd extent end →
       FinishesIn system bound plan extent end (point_of plan p) log is
-  Badly : (p : Place) (bad : BadAnswer) (front more : List Sent) (is : List Instant) →
-      CourseIn system bound plan extent p front is →
+  Badly : (p : Place) (bad : BadAnswer) (prefix more : List Sent) (is : List Instant) →
+      CourseIn system bound plan extent p prefix is →
       Falls system (part_at system bound plan p) bad more →
-      FinishesIn system bound plan extent (E.Bad bad) (point_of plan p) (front ++ more) is
+      FinishesIn system bound plan extent (E.Bad bad) (point_of plan p) (prefix ++ more) is
 
 -- a whole run
 abbrev pub Finishes : System → Bound → Plan → RunEnd → ℕ → List Sent → List Instant → Type 0
@@ -194,7 +194,7 @@ pub record PutFailsIn (system : System) (bound : Bound) (plan : Plan) (extent : 
   pub pieces : List (List ℕ)
   pub piece : List ℕ
   pub awaits : AwaitsIn system bound plan extent log is pieces piece
-  pub cuts : CutsPiece (with_pieces before pieces) piece after
+  pub cuts : PutsPrefixOf (with_pieces before pieces) piece after
 
 -- the run came to this end, and its whole text was put
 abbrev pub PutsAll : System → Bound → Plan → Extent → List Sent → List Instant → RunEnd →

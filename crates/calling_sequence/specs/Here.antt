@@ -14,7 +14,7 @@ use Rattle.calling_sequence.specs.declared.run_end.RunEnd.{RunEnd}
 use Rattle.calling_sequence.specs.declared.run_end.RunEnd.TheVariants as E
 use Rattle.calling_sequence.specs.Course.{CourseIn, Extent, Place}
 use Rattle.calling_sequence.specs.Ends.{FinishesIn, counted_in, kind_of_end, pieces_in}
-use Rattle.calling_sequence.specs.Puts.{CutsPiece, with_pieces}
+use Rattle.calling_sequence.specs.Puts.{PutsPrefixOf, with_pieces}
 
 -- how a run began: the sink before it, and how much of it is gone through
 pub record Past : Type 0 where
@@ -52,10 +52,10 @@ abbrev pub PutsEnd : Ending → RunEnd → SinkView → SinkView → Type 0
 PutsEnd ending end before after =
     ((end ≡ ending.end) × (after ≡
     with_piece before (end_text (kind_of_end ending.end) ending.point)))
-    ⊎ ((end ≡ E.WriteFault) × CutsPiece before
+    ⊎ ((end ≡ E.WriteFault) × PutsPrefixOf before
     (end_text (kind_of_end ending.end) ending.point) after)
 
 -- and it isn't put after a put that failed
-abbrev pub Concludes : Break → RunEnd → SinkView → SinkView → Type 0
-Concludes (B.Ends ending) end before after = PutsEnd ending end before after
-Concludes B.Write end before after = (end ≡ E.WriteFault) × (after ≡ before)
+abbrev pub PutsEndAfter : Break → RunEnd → SinkView → SinkView → Type 0
+PutsEndAfter (B.Ends ending) end before after = PutsEnd ending end before after
+PutsEndAfter B.Write end before after = (end ≡ E.WriteFault) × (after ≡ before)

@@ -31,15 +31,15 @@ use Rattle.event_iteration.specs.Clocks.{IsPlaceOf, first_clock}
 use Rattle.system_model.specs.Values.{value}
 use Rattle.slot_calls.specs.declared.bad_answer.BadAnswer.{BadAnswer}
 use Rattle.slot_calls.specs.Keeping.{AreRestored, AreRestoredUntil, IsPackedOf, without_machines}
-use Rattle.slot_calls.specs.Log.{Asking, Sent, Told}
+use Rattle.slot_calls.specs.Log.{ComponentCall, Sent, Told}
 use Rattle.slot_calls.specs.Stage.{IsAnswered, StopsAt, shapes_of}
 use Rattle.calling_sequence.specs.declared.experiment.Experiment.{Experiment}
 use Rattle.calling_sequence.specs.declared.run_end.RunEnd.{RunEnd}
 use Rattle.calling_sequence.specs.declared.run_end.RunEnd.TheVariants as E
 use Rattle.calling_sequence.specs.Calls.{entering_step, keeping, restoring}
-use Rattle.calling_sequence.specs.Course.{CourseIn, FromHeld, Seen, Spot, UpToHeld}
+use Rattle.calling_sequence.specs.Course.{CourseIn, FromHeld, InstantDone, Spot, UpToHeld}
 use Rattle.calling_sequence.specs.Ends.{FinishesIn, RunsIn, header_of, kind_of_end}
-use Rattle.calling_sequence.specs.Puts.{CutsPiece}
+use Rattle.calling_sequence.specs.Puts.{PutsPrefixOf}
 
 -- ---- what a checkpoint keeps
 
@@ -174,12 +174,12 @@ resumed_table system plan held = record {
 -- the run came to the first point from this one on that is done and before the stop
 pub record ComesToHold (e : Experiment) (at : ℕ) (s : Spot) (log : List Sent)
     (is : List Instant) : Type 0 where
-  pub course : CourseIn e.system e.bound e.plan (UpToHeld at) (Seen s false false) log is
+  pub course : CourseIn e.system e.bound e.plan (UpToHeld at) (InstantDone s false false) log is
   pub reached : at ≤ s.t
   pub early : s.t < e.plan.stop
 
 -- there each goes into Step Mode, and its state is kept
-abbrev pub holding : System → List Asking
+abbrev pub holding : System → List ComponentCall
 holding system = entering_step system ++ keeping system
 
 -- each component has its bytes, which are those of its state
@@ -226,7 +226,7 @@ KeepsAll e s olds news bytes (Err bad) = KeepsBadly e bad olds news
 abbrev pub PutsPiece : RunEnd → List ℕ → SinkView → SinkView → RunEnd → Type 0
 PutsPiece outcome piece before after end =
     ((end ≡ outcome) × (after ≡ with_piece before piece))
-    ⊎ ((end ≡ E.WriteFault) × CutsPiece before piece after)
+    ⊎ ((end ≡ E.WriteFault) × PutsPrefixOf before piece after)
 
 -- so a run that is held ends with this log, and puts this piece alone
 pub data HoldsWith (e : Experiment) (at : ℕ) (olds : List Instance) : RunEnd → List Sent →
@@ -236,18 +236,18 @@ pub data HoldsWith (e : Experiment) (at : ℕ) (olds : List Instance) : RunEnd �
       FinishesIn e.system e.bound e.plan (UpToHeld at) end point log is →
       HoldsWith e at olds end log (end_text (kind_of_end end) point)
   -- an answer to the calls there isn't good
-  BadlyHeld : (s : Spot) (bad : BadAnswer) (front more : List Sent) (is : List Instant) →
-      ComesToHold e at s front is → StopsAt (shapes_of e.system) (holding e.system) bad more →
-      HoldsWith e at olds (E.Bad bad) (front ++ more) (end_text K.Fault s.t)
+  BadlyHeld : (s : Spot) (bad : BadAnswer) (prefix more : List Sent) (is : List Instant) →
+      ComesToHold e at s prefix is → StopsAt (shapes_of e.system) (holding e.system) bad more →
+      HoldsWith e at olds (E.Bad bad) (prefix ++ more) (end_text K.Fault s.t)
   -- all are in Step Mode, and their states are kept: the checkpoint
-  WellHeld : (s : Spot) (front entered kept : List Sent) (is : List Instant)
+  WellHeld : (s : Spot) (prefix entered kept : List Sent) (is : List Instant)
       (mids : List Instance) (states : List (List ℕ)) →
-      ComesToHold e at s front is →
+      ComesToHold e at s prefix is →
       IsAnswered (shapes_of e.system) (entering_step e.system) entered →
-      Told (front ++ entered) olds mids → ArePacked mids states →
+      Told (prefix ++ entered) olds mids → ArePacked mids states →
       IsAnswered (shapes_of e.system) (keeping e.system) kept →
       CanBeHeld e.system (kept_at e s states) →
-      HoldsWith e at olds (E.Held s.t) ((front ++ entered) ++ kept)
+      HoldsWith e at olds (E.Held s.t) ((prefix ++ entered) ++ kept)
       (spelling (header_of e.system e.plan) (kept_at e s states))
 
 -- over slots: the piece was put, or its put failed

@@ -7,5 +7,5 @@ pub mod Puts
 pub mod Ends
 pub mod Ready
 pub mod Here
-pub mod Goes
+pub mod StageOutcomes
 pub mod Holding

@@ -5,7 +5,7 @@ use Rattle.system_model.specs.declared.system.System.{System}
 use Rattle.system_model.specs.EarlyReturn.{early_count}
 use Rattle.run_model.specs.Stepping.{asked_first}
 use Rattle.slot_calls.specs.declared.bad_answer.BadAnswer.{BadAnswer}
-use Rattle.slot_calls.specs.Log.{Asking, Sent, part}
+use Rattle.slot_calls.specs.Log.{ComponentCall, Sent, part}
 use Rattle.slot_calls.specs.Stage.{FailsIn, IsAnswered, IsFirst, StopsAt, shapes_of}
 use Rattle.step_agreement.specs.Agreement.{Agrees, Fails, Outcome}
 use Rattle.step_agreement.specs.Saving.{IsGoodOutcome}
@@ -15,8 +15,8 @@ use Rattle.event_iteration.specs.Turns.{Rules}
 
 -- calls up to the first bad answer, calls that are all sent whatever is answered, a walk through ports, from the values before it, or the agreement of all components from t on, with the plan's step and this bound
 pub data Part : Type 0 where
-  Calls : (calls : List Asking) → Part
-  Round : (calls : List Asking) → Part
+  Calls : (calls : List ComponentCall) → Part
+  Round : (calls : List ComponentCall) → Part
   Walk : (rules : Rules) (before : List (Option ℤ)) (order : List ℕ) → Part
   Agreement : (t step bound : ℕ) → Part
 
@@ -44,10 +44,10 @@ Falls system (Agreement t step bound) bad log = AllAgree system t step bound log
 
 -- the first bad answer of a log: after it the instances up to that have no exchange
 pub record EndsBadly (shapes : List Shape) (bad : BadAnswer) (log : List Sent) : Type 0 where
-  pub front : List Sent
+  pub prefix : List Sent
   pub last : Sent
   pub back : List Sent
-  pub log_is : log ≡ front ++ last ∷ back
-  pub first : IsFirst shapes bad front last
+  pub log_is : log ≡ prefix ++ last ∷ back
+  pub first : IsFirst shapes bad prefix last
   pub within : last.component < length shapes
   pub alone : (j : ℕ) → j ≤ last.component → part j back ≡ []

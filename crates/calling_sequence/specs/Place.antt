@@ -7,8 +7,8 @@ use Rattle.fmu_peer.specs.View.{View}
 use Rattle.rollback.specs.Standing.{TakesSize}
 
 -- for each variable it is kept whether it is an active Clock
-abbrev pub HasRoom : View → Type 0
-HasRoom v = length v.phase.active ≡ length v.fixed.shape.variables
+abbrev pub TracksActivity : View → Type 0
+TracksActivity v = length v.phase.active ≡ length v.fixed.shape.variables
 
 -- nothing is set, in the instant or since the last step, and no state is saved
 pub record IsClear (v : View) : Type 0 where
@@ -20,7 +20,7 @@ pub record IsMade (v : View) : Type 0 where
   pub state : v.phase.state ≡ P.Instantiated
   pub unstepped : v.phase.first_size ≡ None
   pub clear : IsClear v
-  pub room : HasRoom v
+  pub room : TracksActivity v
 
 -- in Initialization Mode between start and stop
 pub record IsInitializing (start stop : ℕ) (v : View) : Type 0 where
@@ -29,7 +29,7 @@ pub record IsInitializing (start stop : ℕ) (v : View) : Type 0 where
   pub stop_is : v.phase.stop ≡ stop
   pub unstepped : v.phase.first_size ≡ None
   pub clear : IsClear v
-  pub room : HasRoom v
+  pub room : TracksActivity v
 
 -- at a point, with this stop, after steps of sizes that the plan's step allows, with no state saved
 pub record IsThere (t stop step : ℕ) (v : View) : Type 0 where
@@ -37,7 +37,7 @@ pub record IsThere (t stop step : ℕ) (v : View) : Type 0 where
   pub stop_is : v.phase.stop ≡ stop
   pub sized : IfSome v.phase.first_size (λ size. TakesSize step size v.fixed.shape)
   pub empty : v.phase.slot.is_full ≡ false
-  pub room : HasRoom v
+  pub room : TracksActivity v
 
 -- there, in an instant: in Event Mode, or without event mode in Step Mode
 pub record IsInInstant (t stop step : ℕ) (v : View) : Type 0 where

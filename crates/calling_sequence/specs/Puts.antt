@@ -8,5 +8,5 @@ with_pieces view [] = view
 with_pieces view (piece ∷ pieces) = with_pieces (with_piece view piece) pieces
 
 -- the put of a piece failed, and a prefix of it was taken
-abbrev pub CutsPiece : SinkView → List ℕ → SinkView → Type 0
-CutsPiece old piece new = (n : ℕ) × (new ≡ with_fault old (take n piece))
+abbrev pub PutsPrefixOf : SinkView → List ℕ → SinkView → Type 0
+PutsPrefixOf old piece new = (n : ℕ) × (new ≡ with_fault old (take n piece))

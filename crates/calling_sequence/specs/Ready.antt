@@ -10,6 +10,7 @@ use Rattle.run_model.specs.Machines.{AreFitting}
 use Rattle.event_iteration.specs.Clocks.{StandsAt, first_table, timers_in}
 use Rattle.event_iteration.specs.Initialization.{AreReads}
 use Rattle.event_iteration.specs.Intervals.{is_some_armed}
+use Rattle.event_iteration.specs.Participants.{AreParticipants, AreUnfedAwaited}
 use Rattle.event_iteration.specs.Updates.{AreLater}
 use Rattle.system_checkpoint.specs.declared.snapshot.Snapshot.{Snapshot}
 use Rattle.system_checkpoint.specs.Spelling.{AllBy, greatest_len}
@@ -19,7 +20,7 @@ use Rattle.calling_sequence.specs.declared.experiment.Experiment.{Experiment}
 use Rattle.calling_sequence.specs.declared.buffers.Buffers.{Buffers}
 use Rattle.calling_sequence.specs.declared.holding.Keeping.{Keeping}
 use Rattle.calling_sequence.specs.Ends.{header_of}
-use Rattle.calling_sequence.specs.Goes.{spot}
+use Rattle.calling_sequence.specs.StageOutcomes.{spot}
 use Rattle.calling_sequence.specs.Holding.{spot_in}
 use Rattle.calling_sequence.specs.Place.{IsMade}
 use Rattle.calling_sequence.specs.Plans.{CountsBy}
@@ -44,11 +45,27 @@ pub record Ready {L : Type 0} {g : _} (view : L → View) (e : Experiment)
   pub live : All (LiveSlot view) slots
   pub stand : All (Stands (P e.plan.stop e.plan.step) view) slots
 
+-- the buffers know what takes part in an instant, and have a mark for each place of its order
+pub record KnowParticipants (system : System) (buffers : Buffers) : Type 0 where
+  pub participants : AreParticipants system buffers.participants
+  pub room : length buffers.pending ≡ length system.instant_order
+
 -- the buffers are as they were made for it: no Clock has ticked, and no instant was put; whatever stands in the places of the values and the text
 pub record AreFresh (e : Experiment) (buffers : Buffers) : Type 0 where
   pub reads_are : AreReads e.system buffers.reads
+  pub know : KnowParticipants e.system buffers
   pub clocks : buffers.schedule ≡ first_table e.system e.plan.start e.plan.stop
-  pub places : length buffers.values.items ≡ length e.system.ports
+  pub places : length buffers.values ≡ length e.system.ports
+  pub holds : HoldsEach e.system (length buffers.text.items)
+  pub none : buffers.instants ≡ 0
+
+-- the Clocks were asked in Initialization Mode: the schedule stands at the start, whatever the values are
+pub record AreFixed (e : Experiment) (buffers : Buffers) : Type 0 where
+  pub know : KnowParticipants e.system buffers
+  pub starts : buffers.schedule.start ≡ e.plan.start
+  pub stops : buffers.schedule.stop ≡ e.plan.stop
+  pub stands : StandsAt e.system e.plan.start true buffers.schedule
+  pub places : length buffers.values ≡ length e.system.ports
   pub holds : HoldsEach e.system (length buffers.text.items)
   pub none : buffers.instants ≡ 0
 
@@ -58,13 +75,15 @@ pub record MayBegin {L : Type 0} {g : _} (view : L → View) (e : Experiment)
   pub ready : Ready view e (λ stop step. IsMade) slots
   pub fresh : AreFresh e buffers
 
--- at a point, after so many instants there: the schedule stands there, the values fit their ports, and no more instants were put than 10000 of each earlier point and those
+-- at a point, after so many instants there: the schedule stands there, the values fit their ports, an input that nothing feeds has none or is still to be taken, and no more instants were put than 10000 of each earlier point and those
 pub record AreTimed (e : Experiment) (t n : ℕ) (is_first : Bool) (buffers : Buffers) : Type 0 where
+  pub know : KnowParticipants e.system buffers
+  pub awaited : AreUnfedAwaited e.system buffers.values buffers.pending
   pub starts : buffers.schedule.start ≡ e.plan.start
   pub stops : buffers.schedule.stop ≡ e.plan.stop
   pub stands : StandsAt e.system t is_first buffers.schedule
-  pub places : length buffers.values.items ≡ length e.system.ports
-  pub fitting : AreFitting e.system buffers.values.items
+  pub places : length buffers.values ≡ length e.system.ports
+  pub fitting : AreFitting e.system buffers.values
   pub holds : HoldsEach e.system (length buffers.text.items)
   pub limited : n ≤ e.plan.limit
   pub few : buffers.instants ≤ t * 10000 + n

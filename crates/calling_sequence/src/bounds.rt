@@ -1,10 +1,11 @@
-ghost use Rattle.std.specs.Prelude.{◌≡◌, ◌≤◌, ◌<◌, ◌^◌, None, [], false, IfSome, IfOk, IfErr, All, length, not, option_map, position};
+ghost use Rattle.std.specs.Prelude.{◌≡◌, ◌≤◌, ◌<◌, ◌^◌, None, [], false, IfSome, IfErr, All, length, not, option_map, position};
 ghost use Rattle.run_model.specs.Steps.{IsBound};
 ghost use Rattle.event_iteration.specs.Clocks.{IsNextFrom, timers_in};
 ghost use Rattle.event_iteration.specs.Intervals.{is_some_armed};
 ghost use Rattle.event_iteration.specs.Updates.{AreLater};
 ghost use Rattle.calling_sequence.specs.Calls.{IsStep, first_unfit};
 ghost use Rattle.calling_sequence.specs.Ends.{LacksStep};
+ghost use Rattle.calling_sequence.specs.StageOutcomes.{or_ends};
 ghost use Rattle.system_model.specs.Plans.{IsPlan};
 
 use crate::{Ending, Experiment, RunEnd};
@@ -12,13 +13,14 @@ use sim_base::CompId;
 use system_model::{Component, Plan, System};
 use tick_schedule::{Schedule, plain};
 
-/// The bound of the step from a point before the stop that is done, or how the run ends there: where a component takes no step
-/// of that size.
+/// The bound of the step from a point before the stop that is done. Where a component takes no step of that size there is none,
+/// and how the run ends there stands in `ending`.
 pub(crate) fn bound_from(
     experiment: &Experiment,
     schedule: &Schedule,
     t: u64,
-) -> Result<u64, Ending>
+    ending: &mut Ending,
+) -> Option<u64>
     requires plan { IsPlan experiment.now.plan }
     requires few { length experiment.now.system.components ≤ 2 ^ 32 }
     requires begun { experiment.now.plan.start ≤ t }
@@ -28,23 +30,26 @@ pub(crate) fn bound_from(
     requires next { All (IsNextFrom schedule.now.start t false) schedule.now.clocks }
     requires done { is_some_armed t (timers_in schedule.now) ≡ false }
     requires later { AreLater t schedule.now.events }
-    ensures step { IfOk result (IsStep experiment.now.system experiment.now.plan
+    ensures step { IfSome result (IsStep experiment.now.system experiment.now.plan
         (timers_in schedule.now) schedule.now.events t) }
-    ensures unfit { IfErr result (LacksStep experiment.now.system experiment.now.plan
-        (timers_in schedule.now) schedule.now.events t) }
+    ensures unfit { IfErr (or_ends result ending.new) (LacksStep experiment.now.system
+        experiment.now.plan (timers_in schedule.now) schedule.now.events t) }
 {
     let plan = &experiment.plan;
     let bound = next_bound(plan, schedule, t);
     match first_unfit(&experiment.system, plan, bound - t) {
-        Some(component) => Err(Ending {
-            end: RunEnd::FixedStep {
-                component,
-                at: t,
-                end: bound,
-            },
-            point: t,
-        }),
-        None => Ok(bound),
+        Some(component) => {
+            *ending = Ending {
+                end: RunEnd::FixedStep {
+                    component,
+                    at: t,
+                    end: bound,
+                },
+                point: t,
+            };
+            None
+        }
+        None => Some(bound),
     }
 }
 

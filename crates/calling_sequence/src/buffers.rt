@@ -6,10 +6,11 @@ ghost use Rattle.system_model.specs.Sound.{IsSound};
 
 use crate::Experiment;
 use crate::resumption::{self, values_of};
-use event_iteration::{InitialReads, schedule_of};
+use event_iteration::{InitialReads, Participants, await_unfed, schedule_of};
+use port_values::PortValues;
 use std::alloc::{AllocError, Global};
 use system_checkpoint::Snapshot;
-use tick_schedule::Schedule;
+use tick_schedule::{Pending, Schedule};
 use trace_text::room_for;
 
 /// Out of memory for the buffers of a run.
@@ -22,13 +23,16 @@ impl From<AllocError> for NoMemory {
     }
 }
 
-/// All memory of a run: which outputs Initialization Mode reads, when Clocks tick and components have their event times, a
-/// place for the value of each port, room for the longest text of a trace, and the number of instants that were put.
+/// All memory of a run: which outputs Initialization Mode reads, what takes part in instants, which places of their order are
+/// still to be taken in one, when Clocks tick and components have their event times, a place for the value of each port, room
+/// for the longest text of a trace, and the number of instants that were put.
 #[derive(Drop)]
 pub struct Buffers {
     pub reads: InitialReads,
+    pub participants: Participants,
+    pub pending: Pending,
     pub schedule: Schedule,
-    pub values: Vec<Option<i128>>,
+    pub values: PortValues,
     pub text: Vec<u8>,
     pub instants: u128,
 }
@@ -47,15 +51,17 @@ impl Buffers {
         };
         Ok(Buffers {
             reads: InitialReads::of(alloc, system)?,
+            participants: Participants::of(alloc, system)?,
+            pending: Pending::none(alloc, system.instant_order.len())?,
             schedule: schedule_of(alloc, system, plan.start, plan.stop)?,
-            values: vec![in alloc; None; system.ports.len()]?,
+            values: PortValues::none(alloc, system.ports.len())?,
             text: vec![in alloc; 0u8; bytes]?,
             instants: 0,
         })
     }
 
-    /// Those of a run that is resumed with what was held: the values and the Clocks stand where they did. It fails where
-    /// memory runs out.
+    /// Those of a run that is resumed with what was held: the values and the Clocks stand where they did. An input that
+    /// nothing feeds and that was held with a value loses it in the first instant. It fails where memory runs out.
     pub fn resume(
         alloc: Global,
         experiment: &Experiment,
@@ -71,10 +77,15 @@ impl Buffers {
         let Some(bytes) = room_for(system) else {
             return Err(NoMemory);
         };
+        let values = values_of(alloc, system.ports.as_slice(), held.words.as_slice())?;
+        let mut pending = Pending::none(alloc, system.instant_order.len())?;
+        await_unfed(system, &values, &mut pending);
         Ok(Buffers {
             reads: InitialReads::of(alloc, system)?,
+            participants: Participants::of(alloc, system)?,
+            pending,
             schedule: resumption::schedule_of(alloc, experiment, held)?,
-            values: values_of(alloc, system.ports.as_slice(), held.words.as_slice())?,
+            values,
             text: vec![in alloc; 0u8; bytes]?,
             instants: 0,
         })

@@ -9,7 +9,7 @@ ghost use Rattle.slot_calls.specs.Stage.{Stage, nothing, shapes};
 ghost use Rattle.calling_sequence.specs.Calls.{keeping_from};
 ghost use Rattle.calling_sequence.specs.Course.{Made};
 ghost use Rattle.calling_sequence.specs.Ends.{header_of};
-ghost use Rattle.calling_sequence.specs.Goes.{ComesTo, spot};
+ghost use Rattle.calling_sequence.specs.StageOutcomes.{ComesTo, spot};
 ghost use Rattle.calling_sequence.specs.Holding.{HoldsSlots, KeepsAll, KeepsBytes, PutsPiece};
 ghost use Rattle.calling_sequence.specs.Place.{IsSettled};
 ghost use Rattle.calling_sequence.specs.Ready.{CanKeep, IsDone, IsRoomy, MayBegin, MayHold, Ready};

@@ -1,13 +1,13 @@
-ghost use Rattle.std.specs.Prelude.{◌≡◌, ℕ, None, OnOk, false, true, length, replicate};
+ghost use Rattle.std.specs.Prelude.{◌≡◌, ℕ, OnOk, false, true, length};
 ghost use Rattle.std.specs.List.{list_any};
 ghost use Rattle.event_iteration.specs.Clocks.{no_events};
 ghost use Rattle.run_model.specs.Initial.{is_bad_initially};
 ghost use Rattle.run_model.specs.Machines.{AreFitting};
 ghost use Rattle.slot_calls.specs.Slots.{instances};
 ghost use Rattle.calling_sequence.specs.Course.{Configured, Entered, Found, Made};
-ghost use Rattle.calling_sequence.specs.Goes.{Crosses, Goes, before_instant, timed};
+ghost use Rattle.calling_sequence.specs.StageOutcomes.{Crosses, StageOutcome, before_instant, timed};
 ghost use Rattle.calling_sequence.specs.Place.{IsAt, IsInitializing, IsMade};
-ghost use Rattle.calling_sequence.specs.Ready.{AreFresh, AreTimed, Ready};
+ghost use Rattle.calling_sequence.specs.Ready.{AreFixed, AreFresh, AreTimed, Ready};
 
 use crate::parameters::set_parameters;
 use crate::{BadAnswer, Buffers, Ending, Experiment, RunEnd};
@@ -71,9 +71,9 @@ fn find_values<L: Peer>(
         (λ stop step. IsInitializing experiment.now.plan.start stop) slots.new) }
     ensures fresh { OnOk result (AreFresh experiment.now buffers.new) }
     ensures fitting { OnOk result
-        (AreFitting experiment.now.system buffers.new.values.items) }
+        (AreFitting experiment.now.system buffers.new.values) }
     ensures text { length buffers.new.text.items ≡ length buffers.old.text.items }
-    ensures goes { Goes experiment.now Made (λ x. Found buffers.new.values.items)
+    ensures goes { StageOutcome experiment.now Made (λ x. Found buffers.new.values)
         (instances L.view slots.old) (instances L.view slots.new) buffers.old.instants
         buffers.new.instants result }
 {
@@ -97,15 +97,15 @@ fn leave<L: Peer>(
     requires ready { Ready L.view experiment.now
         (λ stop step. IsInitializing experiment.now.plan.start stop) slots.old }
     requires fresh { AreFresh experiment.now buffers.old }
-    requires fitting { AreFitting experiment.now.system buffers.old.values.items }
-    requires kept { list_any (is_bad_initially experiment.now.system buffers.old.values.items)
+    requires fitting { AreFitting experiment.now.system buffers.old.values }
+    requires kept { list_any (is_bad_initially experiment.now.system buffers.old.values)
         experiment.now.system.ports ≡ false }
     ensures ready { OnOk result
         (Ready L.view experiment.now (IsAt experiment.now.plan.start) slots.new) }
     ensures timed { OnOk result
         (AreTimed experiment.now experiment.now.plan.start 0 true buffers.new) }
     ensures text { length buffers.new.text.items ≡ length buffers.old.text.items }
-    ensures goes { Goes experiment.now (Found buffers.old.values.items)
+    ensures goes { StageOutcome experiment.now (Found buffers.old.values)
         (λ x. before_instant experiment.now.plan.start 0 buffers.new) (instances L.view slots.old)
         (instances L.view slots.new) buffers.old.instants buffers.new.instants result }
 {
@@ -120,7 +120,7 @@ fn leave<L: Peer>(
 fn configure<L: Peer>(slots: &mut [Slot<L>], experiment: &Experiment) -> Result<(), BadAnswer>
     requires { Ready L.view experiment.now (λ stop step. IsMade) slots.old }
     ensures ready { OnOk result (Ready L.view experiment.now (λ stop step. IsMade) slots.new) }
-    ensures goes { (count : ℕ) → Goes experiment.now Made (λ x. Configured)
+    ensures goes { (count : ℕ) → StageOutcome experiment.now Made (λ x. Configured)
         (instances L.view slots.old) (instances L.view slots.new) count count result }
 {
     set_parameters(slots, &experiment.bound)
@@ -131,7 +131,7 @@ fn enter<L: Peer>(slots: &mut [Slot<L>], experiment: &Experiment) -> Result<(), 
     requires { Ready L.view experiment.now (λ stop step. IsMade) slots.old }
     ensures ready { OnOk result (Ready L.view experiment.now
         (λ stop step. IsInitializing experiment.now.plan.start stop) slots.new) }
-    ensures goes { (count : ℕ) → Goes experiment.now Configured (λ x. Entered)
+    ensures goes { (count : ℕ) → StageOutcome experiment.now Configured (λ x. Entered)
         (instances L.view slots.old) (instances L.view slots.new) count count result }
 {
     each(
@@ -154,10 +154,10 @@ fn find<L: Peer>(
     requires fresh { AreFresh experiment.now buffers.old }
     ensures ready { OnOk result (Ready L.view experiment.now
         (λ stop step. IsInitializing experiment.now.plan.start stop) slots.new) }
-    ensures fresh { AreFresh experiment.now buffers.new }
-    ensures fitting { AreFitting experiment.now.system buffers.new.values.items }
+    ensures fresh { OnOk result (AreFresh experiment.now buffers.new) }
+    ensures fitting { AreFitting experiment.now.system buffers.new.values }
     ensures text { length buffers.new.text.items ≡ length buffers.old.text.items }
-    ensures goes { Goes experiment.now Entered (λ x. Found buffers.new.values.items)
+    ensures goes { StageOutcome experiment.now Entered (λ x. Found buffers.new.values)
         (instances L.view slots.old) (instances L.view slots.new) buffers.old.instants
         buffers.new.instants result }
 {
@@ -178,16 +178,15 @@ fn ask<L: Peer>(
     requires ready { Ready L.view experiment.now
         (λ stop step. IsInitializing experiment.now.plan.start stop) slots.old }
     requires fresh { AreFresh experiment.now buffers.old }
-    requires fitting { AreFitting experiment.now.system buffers.old.values.items }
-    requires kept { list_any (is_bad_initially experiment.now.system buffers.old.values.items)
+    requires fitting { AreFitting experiment.now.system buffers.old.values }
+    requires kept { list_any (is_bad_initially experiment.now.system buffers.old.values)
         experiment.now.system.ports ≡ false }
     ensures ready { OnOk result (Ready L.view experiment.now
         (λ stop step. IsInitializing experiment.now.plan.start stop) slots.new) }
-    ensures timed { OnOk result
-        (AreTimed experiment.now experiment.now.plan.start 0 true buffers.new) }
+    ensures fixed { OnOk result (AreFixed experiment.now buffers.new) }
     ensures none { buffers.new.schedule.events ≡ no_events experiment.now.system }
     ensures text { length buffers.new.text.items ≡ length buffers.old.text.items }
-    ensures goes { Goes experiment.now (Found buffers.old.values.items) (λ x. timed buffers.new)
+    ensures goes { StageOutcome experiment.now (Found buffers.old.values) (λ x. timed buffers.new)
         (instances L.view slots.old) (instances L.view slots.new) buffers.old.instants
         buffers.new.instants result }
 {
@@ -208,23 +207,16 @@ fn exit<L: Peer>(
 ) -> Result<(), BadAnswer>
     requires ready { Ready L.view experiment.now
         (λ stop step. IsInitializing experiment.now.plan.start stop) slots.old }
-    requires timed { AreTimed experiment.now experiment.now.plan.start 0 true buffers.old }
+    requires fixed { AreFixed experiment.now buffers.old }
     requires none { buffers.old.schedule.events ≡ no_events experiment.now.system }
     ensures ready { OnOk result
         (Ready L.view experiment.now (IsAt experiment.now.plan.start) slots.new) }
     ensures timed { AreTimed experiment.now experiment.now.plan.start 0 true buffers.new }
     ensures text { length buffers.new.text.items ≡ length buffers.old.text.items }
-    ensures goes { Goes experiment.now (timed buffers.old)
+    ensures goes { StageOutcome experiment.now (timed buffers.old)
         (λ x. before_instant experiment.now.plan.start 0 buffers.new) (instances L.view slots.old)
         (instances L.view slots.new) buffers.old.instants buffers.new.instants result }
 {
-    clear(&mut buffers.values);
+    buffers.values.clear();
     each(slots, Ask::ExitInitialization)
-}
-
-// Clears the values.
-fn clear(values: &mut [Option<i128>])
-    ensures { values.new ≡ replicate (length values.old) None }
-{
-    values.fill(None);
 }

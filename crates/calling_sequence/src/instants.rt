@@ -9,7 +9,7 @@ ghost use Rattle.event_iteration.specs.Updates.{AreLater};
 ghost use Rattle.slot_calls.specs.Slots.{instances};
 ghost use Rattle.slot_calls.specs.Stage.{shapes_of};
 ghost use Rattle.calling_sequence.specs.Course.{Read, Rearmed};
-ghost use Rattle.calling_sequence.specs.Goes.{Goes, Puts, before_instant, seen, spot};
+ghost use Rattle.calling_sequence.specs.StageOutcomes.{Puts, StageOutcome, before_instant, instant_done, spot};
 ghost use Rattle.calling_sequence.specs.Place.{IsAt, IsSettled, IsTaking};
 ghost use Rattle.calling_sequence.specs.Ready.{AreTimed, HaveModes, Ready};
 
@@ -49,7 +49,8 @@ pub(crate) fn take<L: Peer, O: Sink>(
         buffers.new.schedule.events) }
     ensures text { length buffers.new.text.items ≡ length buffers.old.text.items }
     ensures puts { Puts experiment.now puts (before_instant t n buffers.old)
-        (λ u. seen t n buffers.new u) (instances L.view slots.old) (instances L.view slots.new)
+        (λ u. instant_done t n buffers.new u) (instances L.view slots.old)
+        (instances L.view slots.new)
         (O.view out.old) (O.view out.new) buffers.old.instants buffers.new.instants result }
 {
     match find(slots, experiment, buffers, t, n) {
@@ -90,19 +91,21 @@ fn find<L: Peer>(
     requires ready { Ready L.view experiment.now (IsAt t) slots.old }
     requires timed { AreTimed experiment.now t n (n == 0) buffers.old }
     ensures ready { OnOk result (Ready L.view experiment.now (IsTaking t) slots.new) }
-    ensures timed { AreTimed experiment.now t n (n == 0) buffers.new }
+    ensures timed { OnOk result (AreTimed experiment.now t n (n == 0) buffers.new) }
     ensures ticks { OnOk result (TellsTicks experiment.now.system buffers.new.schedule t
-        buffers.new.values.items) }
-    ensures active { OnOk result (AreActive experiment.now.system buffers.new.values.items
+        buffers.new.values) }
+    ensures active { OnOk result (AreActive experiment.now.system buffers.new.values
         (modes (instances L.view slots.new))) }
     ensures text { length buffers.new.text.items ≡ length buffers.old.text.items }
-    ensures goes { Goes experiment.now (before_instant t n buffers.old)
+    ensures goes { StageOutcome experiment.now (before_instant t n buffers.old)
         (λ x. Read (spot t n buffers.new)) (instances L.view slots.old)
         (instances L.view slots.new) buffers.old.instants buffers.new.instants result }
 {
     instant(
         slots,
         &experiment.system,
+        &buffers.participants,
+        &mut buffers.pending,
         &buffers.schedule,
         t,
         n == 0,
@@ -122,23 +125,24 @@ fn ask<L: Peer>(
     requires ready { Ready L.view experiment.now (IsTaking t) slots.old }
     requires timed { AreTimed experiment.now t n (n == 0) buffers.old }
     requires ticks { TellsTicks experiment.now.system buffers.old.schedule t
-        buffers.old.values.items }
-    requires active { AreActive experiment.now.system buffers.old.values.items
+        buffers.old.values }
+    requires active { AreActive experiment.now.system buffers.old.values
         (modes (instances L.view slots.old)) }
-    requires kept { list_any (is_bad buffers.old.values.items) experiment.now.system.ports ≡
+    requires kept { list_any (is_bad buffers.old.values) experiment.now.system.ports ≡
         false }
     ensures ready { OnOk result (Ready L.view experiment.now (IsTaking t) slots.new) }
     ensures timed { OnOk result (AreTimed experiment.now t n false buffers.new) }
     ensures armed { IfOk result (λ armed.
         armed ≡ is_some_armed t (timers_in buffers.new.schedule)) }
     ensures text { length buffers.new.text.items ≡ length buffers.old.text.items }
-    ensures goes { Goes experiment.now (Read (spot t n buffers.old))
+    ensures goes { StageOutcome experiment.now (Read (spot t n buffers.old))
         (λ armed. Rearmed (spot t n buffers.new)) (instances L.view slots.old)
         (instances L.view slots.new) buffers.old.instants buffers.new.instants result }
 {
     ask_intervals(
         slots,
         &experiment.system,
+        &buffers.participants,
         &mut buffers.schedule,
         experiment.plan.resolution,
         n == 0,
@@ -173,7 +177,8 @@ fn show<L: Peer, O: Sink>(
         buffers.new.schedule.events) }
     ensures text { length buffers.new.text.items ≡ length buffers.old.text.items }
     ensures puts { Puts experiment.now puts (Rearmed (spot t n buffers.old))
-        (λ u. seen t n buffers.new u) (instances L.view slots.old) (instances L.view slots.new)
+        (λ u. instant_done t n buffers.new u) (instances L.view slots.old)
+        (instances L.view slots.new)
         (O.view out.old) (O.view out.new) buffers.old.instants buffers.new.instants result }
 {
     let updated = match update(slots, &experiment.system, &mut buffers.schedule, t) {
@@ -192,7 +197,7 @@ fn show<L: Peer, O: Sink>(
         &experiment.system,
         t,
         n,
-        &buffers.values,
+        &mut buffers.values,
         &mut buffers.text,
         &mut buffers.instants,
         out,

@@ -14,6 +14,7 @@ ghost use Rattle.event_iteration.specs.Clocks.{IsPlaceOf, timer_in, timers_in};
 ghost use Rattle.calling_sequence.specs.Holding.{AreOfRoles, FitPorts, armed_up_to, arming_of, by_port, rest_bytes, times_of};
 
 use crate::Buffers;
+use port_values::PortValues;
 use system_checkpoint::{Arming, ClockTimes, put_arming, put_option, put_times};
 use system_model::{Port, Role, System, Timing};
 use tick_schedule::{Schedule, plain};
@@ -22,8 +23,8 @@ use value_types::{PortType, to_word};
 /// Puts what a checkpoint has after the states: the values, the intervals and shifts of Clocks that were asked for them, the
 /// armings, and the event times. There is room for it.
 pub(crate) fn put_rest(system: &System, buffers: &Buffers, bytes: &mut Vec<u8>)
-    requires places { length buffers.now.values.items ≡ length system.now.ports }
-    requires fitting { AreFitting system.now buffers.now.values.items }
+    requires places { length buffers.now.values ≡ length system.now.ports }
+    requires fitting { AreFitting system.now buffers.now.values }
     requires clocks { length buffers.now.schedule.clocks ≡ length system.now.ports }
     requires events { length buffers.now.schedule.events ≡ length system.now.components }
     requires stand { AreOfRoles system.now.ports buffers.now.schedule.clocks }
@@ -32,7 +33,7 @@ pub(crate) fn put_rest(system: &System, buffers: &Buffers, bytes: &mut Vec<u8>)
     ensures bounds { All (λ times. IfSome times AreTimes)
         (by_port times_of system.now.ports (timers_in buffers.now.schedule)) }
     ensures text { bytes.new.items ≡ bytes.old.items ++ rest_bytes system.now
-        buffers.now.schedule.stop buffers.now.values.items (timers_in buffers.now.schedule)
+        buffers.now.schedule.stop buffers.now.values (timers_in buffers.now.schedule)
         buffers.now.schedule.events }
 {
     let ports = system.ports.as_slice();
@@ -43,7 +44,7 @@ pub(crate) fn put_rest(system: &System, buffers: &Buffers, bytes: &mut Vec<u8>)
 }
 
 // Puts the word of each value.
-fn put_words(ports: &[Port], values: &[Option<i128>], bytes: &mut Vec<u8>)
+fn put_words(ports: &[Port], values: &PortValues, bytes: &mut Vec<u8>)
     requires places { length values.now ≡ length ports.now }
     requires fitting { FitPorts ports.now values.now }
     requires room { vec_len bytes.old + length
@@ -53,7 +54,7 @@ fn put_words(ports: &[Port], values: &[Option<i128>], bytes: &mut Vec<u8>)
     ensures room { vec_capacity bytes.old ≤ vec_capacity bytes.new }
 {
     for (place, port) in ports.iter().enumerate() {
-        let value = values[place];
+        let value = values.at(place);
         put_option(word_of(port.kind, value), bytes);
     }
 }

@@ -5,7 +5,7 @@ ghost use Rattle.slot_calls.specs.Slots.{instances};
 ghost use Rattle.slot_calls.specs.Stage.{Stage, nothing};
 ghost use Rattle.calling_sequence.specs.Calls.{restoring};
 ghost use Rattle.calling_sequence.specs.Course.{Restored};
-ghost use Rattle.calling_sequence.specs.Goes.{Breaks, spot};
+ghost use Rattle.calling_sequence.specs.StageOutcomes.{Breaks, spot};
 ghost use Rattle.calling_sequence.specs.Holding.{ResumesSlots};
 ghost use Rattle.calling_sequence.specs.Place.{IsMade, IsStepping};
 ghost use Rattle.calling_sequence.specs.Ready.{CanKeep, IsDone, MayResume, Ready};
@@ -15,7 +15,7 @@ use crate::steps::first_step;
 use crate::text::conclude;
 use crate::{BadAnswer, Break, Buffers, Ending, Experiment, RunEnd};
 use fmu_peer::{Peer, Slot};
-use sim_base::{CompId, Items, Sink};
+use sim_base::{CompId, SharedBytes, Sink};
 use slot_calls::restore;
 use std::thread::Threads;
 
@@ -30,7 +30,7 @@ pub fn resume_slots<R: Threads + Sync, L: Peer, O: Sink>(
     slots: &mut [Slot<L>],
     experiment: &Experiment,
     buffers: &mut Buffers,
-    states: &[Items<u8>],
+    states: &[SharedBytes],
     point: u64,
     out: &mut O,
 ) -> RunEnd
@@ -73,9 +73,13 @@ fn follow<R: Threads + Sync, L: Peer, O: Sink>(
         (instances L.view slots.new) (O.view out.old) (O.view out.new) buffers.old.instants
         buffers.new.instants result }
 {
-    match first_step(rt, slots, experiment, buffers, point) {
-        Ok(reached) => go_on(rt, slots, experiment, buffers, reached, out),
-        Err(ending) => Break::Ends(ending),
+    let mut ending = Ending {
+        end: RunEnd::Stop,
+        point: experiment.plan.stop,
+    };
+    match first_step(rt, slots, experiment, buffers, point, &mut ending) {
+        Some(reached) => go_on(rt, slots, experiment, buffers, reached, out),
+        None => Break::Ends(ending),
     }
 }
 
@@ -83,7 +87,7 @@ fn follow<R: Threads + Sync, L: Peer, O: Sink>(
 fn restore_each<L: Peer>(
     slots: &mut [Slot<L>],
     experiment: &Experiment,
-    states: &[Items<u8>],
+    states: &[SharedBytes],
     point: u64,
 ) -> Result<(), BadAnswer>
     requires ready { Ready L.view experiment.now (λ stop step. IsMade) slots.old }

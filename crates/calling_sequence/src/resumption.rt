@@ -8,6 +8,7 @@ ghost use Rattle.calling_sequence.specs.Ready.{IsPlanOf};
 
 use crate::Experiment;
 use event_iteration::clock_of;
+use port_values::PortValues;
 use std::alloc::{AllocError, Global};
 use system_checkpoint::{Arming, ClockTimes, Snapshot};
 use system_model::{Port, Role};
@@ -19,14 +20,14 @@ pub(crate) fn values_of(
     alloc: Global,
     ports: &[Port],
     words: &[Option<u64>],
-) -> Result<Vec<Option<i128>>, AllocError>
+) -> Result<PortValues, AllocError>
     requires { length words.now ≡ length ports.now }
-    ensures { IfOk result (λ values. values.items ≡ values_by ports.now words.now) }
+    ensures { IfOk result (λ values. values ≡ values_by ports.now words.now) }
 {
-    let mut values = Vec::with_capacity(alloc, ports.len())?;
+    let mut values = PortValues::none(alloc, ports.len())?;
     for (place, port) in ports.iter().enumerate() {
         let word = words[place];
-        values.push(value_of(port.kind, word))?;
+        values.put(place, value_of(port.kind, word));
     }
     Ok(values)
 }

@@ -2,7 +2,7 @@ ghost use Rattle.std.specs.Prelude.{◌≡◌, ◌≤◌, ◌<◌, ℕ, IfOk, le
 ghost use Rattle.slot_calls.specs.Slots.{instances};
 ghost use Rattle.calling_sequence.specs.Course.{Made};
 ghost use Rattle.calling_sequence.specs.Ends.{RunsSlots};
-ghost use Rattle.calling_sequence.specs.Goes.{Breaks, ComesTo, before_instant};
+ghost use Rattle.calling_sequence.specs.StageOutcomes.{Breaks, ComesTo, before_instant};
 ghost use Rattle.calling_sequence.specs.Place.{IsAt, IsSettled};
 ghost use Rattle.calling_sequence.specs.Ready.{AreTimed, IsDone, MayBegin, Ready};
 
@@ -133,6 +133,10 @@ pub(crate) fn come_to<R: Threads + Sync, L: Peer, O: Sink>(
     let has_changes = has_changes(&experiment.system);
     let mut t = from;
     let mut n = 0;
+    let mut ending = Ending {
+        end: RunEnd::Stop,
+        point: plan.stop,
+    };
     'instants: loop {
         let updated = match take(slots, experiment, buffers, t, n, has_changes, puts, out) {
             Ok(updated) => updated,
@@ -163,12 +167,12 @@ pub(crate) fn come_to<R: Threads + Sync, L: Peer, O: Sink>(
         if limit <= t {
             return Ok(t);
         }
-        match step_on(rt, slots, experiment, buffers, t, n) {
-            Ok(point) => {
+        match step_on(rt, slots, experiment, buffers, t, n, &mut ending) {
+            Some(point) => {
                 t = point;
                 n = 0;
             }
-            Err(ending) => return Err(Break::Ends(ending)),
+            None => return Err(Break::Ends(ending)),
         }
     }
 }

@@ -4,11 +4,12 @@ ghost use Rattle.system_model.specs.Text.{instant_text};
 ghost use Rattle.trace_text.specs.Room.{HoldsEach};
 ghost use Rattle.slot_calls.specs.Carried.{IsWide};
 ghost use Rattle.calling_sequence.specs.Ends.{header_of, kind_of_end};
-ghost use Rattle.calling_sequence.specs.Here.{Concludes, HoldsEnds, PutsEnd};
-ghost use Rattle.calling_sequence.specs.Puts.{CutsPiece};
+ghost use Rattle.calling_sequence.specs.Here.{HoldsEnds, PutsEnd, PutsEndAfter};
+ghost use Rattle.calling_sequence.specs.Puts.{PutsPrefixOf};
 ghost use Rattle.calling_sequence.specs.declared.ending.Break.TheVariants as Break;
 
 use crate::{Break, Ending, Experiment, RunEnd};
+use port_values::PortValues;
 use sim_base::Sink;
 use system_model::{EndKind, System};
 use trace_text::{put_end, put_header, put_instant};
@@ -23,7 +24,7 @@ pub(crate) fn put_head<O: Sink>(
     ensures ok { OnOk result (O.view out.new ≡ with_piece (O.view out.old)
         (header_of experiment.now.system experiment.now.plan)) }
     ensures err { IfErr result (λ b. (b ≡ Break.Write) ×
-        CutsPiece (O.view out.old) (header_of experiment.now.system experiment.now.plan)
+        PutsPrefixOf (O.view out.old) (header_of experiment.now.system experiment.now.plan)
         (O.view out.new)) }
 {
     let plan = &experiment.plan;
@@ -45,20 +46,21 @@ pub(crate) fn put_values<O: Sink>(
     system: &System,
     t: u64,
     n: u64,
-    values: &[Option<i128>],
+    values: &mut PortValues,
     text: &mut [u8],
     instants: &mut u128,
     out: &mut O,
 ) -> Result<(), Break>
-    requires wide { All IsWide values.now }
-    requires places { length values.now ≡ length system.now.ports }
+    requires wide { All IsWide values.old }
+    requires places { length values.old ≡ length system.now.ports }
     requires room { HoldsEach system.now (length text.old) }
     requires counts { instants.old < 2 ^ 127 }
+    ensures values { values.new ≡ values.old }
     ensures put { OnOk result (O.view out.new ≡ with_piece (O.view out.old)
-        (instant_text t n values.now)) }
+        (instant_text t n values.old)) }
     ensures counted { OnOk result (instants.new ≡ instants.old + 1) }
     ensures write { IfErr result (λ b. b ≡ Break.Write) }
-    ensures cut { IfErr result (λ b. CutsPiece (O.view out.old) (instant_text t n values.now)
+    ensures cut { IfErr result (λ b. PutsPrefixOf (O.view out.old) (instant_text t n values.old)
         (O.view out.new)) }
     ensures uncounted { IfErr result (λ b. instants.new ≡ instants.old) }
 {
@@ -75,7 +77,7 @@ pub(crate) fn put_values<O: Sink>(
 /// Puts the end line, unless a put failed before.
 pub(crate) fn conclude<O: Sink>(broken: Break, text: &mut [u8], out: &mut O) -> RunEnd
     requires { HoldsEnds (length text.old) }
-    ensures { Concludes broken result (O.view out.old) (O.view out.new) }
+    ensures { PutsEndAfter broken result (O.view out.old) (O.view out.new) }
 {
     match broken {
         Break::Ends(ending) => finish(ending, text, out),

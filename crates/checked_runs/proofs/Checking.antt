@@ -36,7 +36,7 @@ use Rattle.run_program.specs.Happened.{Happened}
 use Rattle.run_program.specs.Message.{file_message}
 use Rattle.run_program.specs.Rows.{Answers, Says, memory_line}
 use Rattle.run_program.specs.TraceCheck as check
-use Rattle.run_program.specs.TraceCheck.{EndsCheck, FailsToRead, Tells, Wanting, question_of}
+use Rattle.run_program.specs.TraceCheck.{EndsCheck, FailsToRead, OutOfMemory, Tells, question_of}
 use Rattle.run_program.proofs.When.{cut_short_rose}
 use Rattle.checked_runs.specs.Laws.{AnswersYes, HasTrace, IsCheckOf}
 
@@ -92,9 +92,9 @@ pub none_failed : (old mid new : FolderView) (some told : List ReadNote) (path :
     AreUnfailed told → ⊥
 none_failed old mid new some told path m failed is unfailed =
     let read = read_of path (Err f.Failed) in
-    let behind : new.reads ≡ (old.reads ++ some) ++ read ∷ [] = ap (λ (v : FolderView). v.reads) failed ∙ ap (λ (v : FolderView). v.reads ++ read ∷ []) m in
+    let after : new.reads ≡ (old.reads ++ some) ++ read ∷ [] = ap (λ (v : FolderView). v.reads) failed ∙ ap (λ (v : FolderView). v.reads ++ read ∷ []) m in
     let same : some ++ read ∷ [] ≡ told =
-    append_cancel_left old.reads (some ++ read ∷ []) told (sym (append_assoc old.reads some (read ∷ [])) ∙ sym behind ∙ ap (λ (v : FolderView). v.reads) is) in
+    append_cancel_left old.reads (some ++ read ∷ []) told (sym (append_assoc old.reads some (read ∷ [])) ∙ sym after ∙ ap (λ (v : FolderView). v.reads) is) in
     last_unfailed some read (subst AreUnfailed (sym same) unfailed) refl
 
 pub both_read : (old mid new : FolderView) (some more : List ReadNote) → mid ≡ with_reads old some → new ≡ with_reads mid more → new ≡ with_reads old (some ++ more)
@@ -191,7 +191,7 @@ module _ (laws : Texts) (h k : Happened) (asked : RunLine) (loaded : Loaded) (li
       by : EndsCheck k line → AnswersYes k
       by (check.Judges j judged tells) = judged_yes j judged tells
       by (FailsToRead path fails bare answers) = absurd (no_failure (question_of line) path k.old.folder k.new.folder (read_of line.file (Ok bytes) ∷ c.later) fails c.told c.unfailed)
-      by (Wanting few bare answers) = inr (put_so k line asked (Ok bytes) loading.reads c 11 memory_line answers).0
+      by (OutOfMemory few bare answers) = inr (put_so k line asked (Ok bytes) loading.reads c 11 memory_line answers).0
 
 -- ---- a file past its limit
 
@@ -235,4 +235,4 @@ module _ (k : Happened) (line : TraceLine) (asked : RunLine) (reads : List ReadN
       by : EndsCheck k line → IsTold
       by (check.Judges j judged tells) = judged_long j judged tells
       by (FailsToRead path fails bare answers) = absurd (no_failure (question_of line) path k.old.folder k.new.folder (read_of line.file (Err (f.TooBig n)) ∷ c.later) fails c.told c.unfailed)
-      by (Wanting few bare answers) = inr (put_so k line asked (Err (f.TooBig n)) reads c 11 memory_line answers).0
+      by (OutOfMemory few bare answers) = inr (put_so k line asked (Err (f.TooBig n)) reads c 11 memory_line answers).0

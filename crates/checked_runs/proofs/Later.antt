@@ -56,7 +56,7 @@ module _ (r : Run) (steps : StepsWithin r) where
       let up = rises s next V reached solves leads in
       subst (AllLater t) (sym e) (All-cons (λ (i : Instant). t < i.t) (instant_of s V) rest from (all_later t (Onward s V next reached solves leads) (omega (arith, from, up)) more))
 
-  module _ (two : StepsInTwo) (front : List Instant) (z : Situation) (h : Held r front z) where
+  module _ (two : StepsInTwo) (prefix : List Instant) (z : Situation) (h : Held r prefix z) where
     abbrev d : Departed r z
     d = held_departed h
 
@@ -72,7 +72,7 @@ module _ (r : Run) (steps : StepsWithin r) where
         all_later z.t (reached_next next there) (departs_later z next (λ kept q step. (steps z kept q d step).0) there refl) more
 
     -- the instants before end with one at the point
-    pub is_cut : (later : List Instant) (kind : EndKind) (end : ℕ) → Rest r (at_step r z) later kind end → IsCutAfter front later z.t
+    pub is_cut : (later : List Instant) (kind : EndKind) (end : ℕ) → Rest r (at_step r z) later kind end → IsCutAfter prefix later z.t
     is_cut later kind end rest = record {
       before = h.before;
       last = instant_of h.s h.values;

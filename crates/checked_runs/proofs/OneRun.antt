@@ -58,7 +58,7 @@ made_is (Some f) shape v m is e = is ∙ e
 
 -- the peers that are started tell the machines
 pub tells : (x : Shared) (spawner : SpawnerView) (host : List ℕ) (folders : List (List ℕ)) (components : List Component) (olds : List View) → x.loaded.system.components ≡ components → StartsMachines spawner host x →
-    length olds ≡ length components → AreStarted host folders components olds → AreMade host spawner components olds → T.TellMachines olds x.machines
+    length olds ≡ length components → AreStarted host folders components olds → AreMade host spawner components olds → T.AreMachinesOf olds x.machines
 tells x spawner host folders components olds same starts all are made = record {
   count = starts.count ∙ ap length same ∙ sym all;
   each = λ i v m at there.

@@ -121,4 +121,4 @@ only_run h x run others other comes = by ((system_rows h (lines.Run x.asked) run
         let alone : ComesAlone (search_for (lines.Run x.asked)) x.reads loads.asked finding = subst (λ (rs : List ReadNote). ComesAlone (search_for (lines.Run x.asked)) rs loads.asked finding) same loads.comes in
         agree_from finding other x.loaded (alone.only run.alike.steady run.paths (Found x.loaded) run.comes).1 (alone.only run.alike.steady others other comes).1
     by (rows.Failing path fails answers) = absurd (none_unread (search_for (lines.Run x.asked)) path h.old.folder h.new.folder x.reads fails run.alike.told run.alike.unfailed)
-    by (rows.Wanting few answers) = absurd (unanswered h 11 rows.memory_line run.loses run.memory answers)
+    by (rows.OutOfMemory few answers) = absurd (unanswered h 11 rows.memory_line run.loses run.memory answers)

@@ -39,8 +39,8 @@ use Rattle.calling_sequence.specs.Ends.{header_of, pieces_of, text_of, trace_pie
 use Rattle.calling_sequence.specs.Holding.{PutsPiece}
 use Rattle.calling_sequence.specs.Puts.{with_pieces}
 use Rattle.machine_courses.specs.Held.{EndsEarly, KeepsRun, checkpoint_of, ends_before, packings_of}
-use Rattle.machine_courses.specs.Outcomes.{PutsTraceIn, rest_behind}
-use Rattle.step_master.specs.Lived.{Account}
+use Rattle.machine_courses.specs.Outcomes.{PutsTraceIn, rest_after}
+use Rattle.step_master.specs.Sessions.{Account}
 use Rattle.step_master.specs.Traced as T
 use Rattle.step_master.specs.Traced.{HoldsWell, TracesWellIn, output_of}
 use Rattle.alike_runs.specs.Alike.{AreAlike}
@@ -84,10 +84,10 @@ pub record Laws : Type 0 where
 -- ---- texts
 
 -- the text of a trace is that of its front and of its rest
-pieces_parted : (system : System) (plan : Plan) (front later : List Instant) (kind : EndKind) (point : ℕ) → trace_pieces system plan (front ++ later) kind point ≡ pieces_of system plan front ++ rest_pieces later kind point
-pieces_parted system plan front later kind point =
-    ap (λ (texts : List (List ℕ)). (header_of system plan ∷ texts) ++ end_text kind point ∷ []) (map-append text_of front later)
-    ∙ append_assoc (header_of system plan ∷ map text_of front) (map text_of later) (end_text kind point ∷ [])
+pieces_parted : (system : System) (plan : Plan) (prefix later : List Instant) (kind : EndKind) (point : ℕ) → trace_pieces system plan (prefix ++ later) kind point ≡ pieces_of system plan prefix ++ rest_pieces later kind point
+pieces_parted system plan prefix later kind point =
+    ap (λ (texts : List (List ℕ)). (header_of system plan ∷ texts) ++ end_text kind point ∷ []) (map-append text_of prefix later)
+    ∙ append_assoc (header_of system plan ∷ map text_of prefix) (map text_of later) (end_text kind point ∷ [])
 
 -- alike runs have the same text, and the same checkpoint
 pieces_alike : (r q : Run) → AreAlike r q → (is : List Instant) (pieces : List (List ℕ)) (kind : EndKind) (point : ℕ) → pieces ≡ trace_pieces r.system r.plan is kind point → pieces ≡ trace_pieces q.system q.plan is kind point
@@ -116,8 +116,8 @@ header_too one other plan same =
     ap (λ (cs : List Component). header_by (record one { components = cs }) plan) same.0
     ∙ ap (λ (ps : List Port). header_by (record one { components = other.components; ports = ps }) plan) same.1
 
-held_at : (r q : Run) → AreAlike r q → (at : ℕ) (front : List Instant) (z : Situation) → HeldAt r at front z → HeldAt q at front z
-held_at r q same at front z h = record { held = held_alike r q same front z h.held; reached = h.reached; first = h.first }
+held_at : (r q : Run) → AreAlike r q → (at : ℕ) (prefix : List Instant) (z : Situation) → HeldAt r at prefix z → HeldAt q at prefix z
+held_at r q same at prefix z h = record { held = held_alike r q same prefix z h.held; reached = h.reached; first = h.first }
 
 -- what two calls put of one trace
 module _ (laws : Laws) (h : Happened) (x : Shared) (run : IsRun h x) (keeps : PutsStates (run_in x)) (can : IsHoldable x.loaded.system x.asked.plan) where
@@ -156,25 +156,25 @@ module _ (laws : Laws) (h : Happened) (x : Shared) (run : IsRun h x) (keeps : Pu
 
   -- ---- the rest of the run
 
-  module _ (front : List Instant) (z : Situation) (held_there : Held r front z) where
-    joins : (j : Happened) (later : List Instant) (kind : EndKind) (point : ℕ) → IsTrace r (front ++ later) kind point → Puts j (rest_pieces later kind point) → j.status ≡ kind_code kind → Joins h j (run_in x) front z.t
+  module _ (prefix : List Instant) (z : Situation) (held_there : Held r prefix z) where
+    joins : (j : Happened) (later : List Instant) (kind : EndKind) (point : ℕ) → IsTrace r (prefix ++ later) kind point → Puts j (rest_pieces later kind point) → j.status ≡ kind_code kind → Joins h j (run_in x) prefix z.t
     joins j later kind point trace puts status =
-        let same = one_end (front ++ later) kind point trace in
-        let parted = laws.splits r came.sound came.machines_are front (front ++ later) kind point z held_there trace in
-        let rest : later ≡ parted.0 = append_cancel_left front later parted.0 parted.1 in
+        let same = one_end (prefix ++ later) kind point trace in
+        let parted = laws.splits r came.sound came.machines_are prefix (prefix ++ later) kind point z held_there trace in
+        let rest : later ≡ parted.0 = append_cancel_left prefix later parted.0 parted.1 in
         record {
           later = later;
           kind = kind;
           point = point;
-          cut = subst (λ (is : List Instant). IsCutAfter front is z.t) (sym rest) (is_cut r steps laws.two front z held_there parted.0 kind point parted.2);
-          whole = wrote_so (front ++ later) kind point same ∙ ap (with_pieces h.old.run.out) (pieces_parted x.loaded.system x.asked.plan front later kind point);
+          cut = subst (λ (is : List Instant). IsCutAfter prefix is z.t) (sym rest) (is_cut r steps laws.two prefix z held_there parted.0 kind point parted.2);
+          whole = wrote_so (prefix ++ later) kind point same ∙ ap (with_pieces h.old.run.out) (pieces_parted x.loaded.system x.asked.plan prefix later kind point);
           rest = puts;
           status = status ∙ sym (ap kind_code same.1) ∙ sym came.status;
         }
 
   -- ---- a resume
 
-  module _ (front : List Instant) (z : Situation) (there : Held (run_in x) front z) (begun : x.asked.plan.start ≤ z.t) (kept : CanBeHeld x.loaded.system (checkpoint_of (run_in x) z))
+  module _ (prefix : List Instant) (z : Situation) (there : Held (run_in x) prefix z) (begun : x.asked.plan.start ≤ z.t) (kept : CanBeHeld x.loaded.system (checkpoint_of (run_in x) z))
       (j : Happened) (rest : ResumeLine) (c : IsResume j x (checkpoint_text (run_in x) z) rest) (takes : TakesStates (run_in x) rest.link) where
     abbrev line : ResumeLine
     line = record rest { directory = x.asked.directory }
@@ -308,7 +308,7 @@ module _ (laws : Laws) (h : Happened) (x : Shared) (run : IsRun h x) (keeps : Pu
     -- ---- what is run
 
     abbrev ComesOut : Type 0
-    ComesOut = RunsOut j ⊎ Joins h j (run_in x) front z.t
+    ComesOut = RunsOut j ⊎ Joins h j (run_in x) prefix z.t
 
     module _ (loaded : Loaded) (agree : Agree (Found x.loaded) (Found loaded)) where
       -- the run that was held, of what this call loaded
@@ -321,25 +321,25 @@ module _ (laws : Laws) (h : Happened) (x : Shared) (run : IsRun h x) (keeps : Pu
       own_alike : AreAlike (run_in x) own
       own_alike = of_parts x loaded agree.0 agree.1
 
-      own_tells : (olds news : List View) (after : SpawnerView) → RunsPeers task loaded.system olds news j.old.run.spawner after → T.TellMachines olds x.machines
+      own_tells : (olds news : List View) (after : SpawnerView) → RunsPeers task loaded.system olds news j.old.run.spawner after → T.AreMachinesOf olds x.machines
       own_tells olds news after p = tells x j.old.run.spawner rest.host loaded.folders loaded.system.components olds agree.0.0 c.starts p.each p.are p.made
 
       went_back : (end : RunEnd) → j.status ≡ end_code end → (g : GoesOn task loaded.system snapshot end j.old.run j.new.run) → ComesOut
       went_back end e g = by end told e
         where
-          told : TracesWellIn g.account own (rest_behind front) end
+          told : TracesWellIn g.account own (rest_after prefix) end
           told =
-              g.well own front z refl refl (own_tells g.account.olds g.account.news j.new.run.spawner g.is.peers) (behave_alike (run_in x) own own_alike keeps.well)
+              g.well own prefix z refl refl (own_tells g.account.olds g.account.news j.new.run.spawner g.is.peers) (behave_alike (run_in x) own own_alike keeps.well)
               (read_back_alike (run_in x) own own_alike (packings_of (run_in x)) keeps.read_back) (λ i. takes_alike (run_in x) own own_alike task.plan i (takes.takes i))
-              (held_alike (run_in x) own own_alike front z there) begun (kept_alike (run_in x) own own_alike z snapshot refl)
+              (held_alike (run_in x) own own_alike prefix z there) begun (kept_alike (run_in x) own own_alike z snapshot refl)
 
-          put : (kind : EndKind) (point : ℕ) → PutsTraceIn own (rest_behind front) (output_of g.account) kind point → j.status ≡ kind_code kind → ComesOut
+          put : (kind : EndKind) (point : ℕ) → PutsTraceIn own (rest_after prefix) (output_of g.account) kind point → j.status ≡ kind_code kind → ComesOut
           put kind point p status =
-              inr (joins front z (held_alike (run_in x) r alike front z there) j p.is kind point
-              (trace_alike (run_in x) r alike (front ++ p.is) kind point (trace_alike own (run_in x) (back own_alike refl) (front ++ p.is) kind point p.trace))
+              inr (joins prefix z (held_alike (run_in x) r alike prefix z there) j p.is kind point
+              (trace_alike (run_in x) r alike (prefix ++ p.is) kind point (trace_alike own (run_in x) (back own_alike refl) (prefix ++ p.is) kind point p.trace))
               (sym g.is.after_is ∙ p.text.put ∙ ap (λ (s : SinkView). with_pieces s (rest_pieces p.is kind point)) g.is.before_is) status)
 
-          by : (end : RunEnd) → TracesWellIn g.account own (rest_behind front) end → j.status ≡ end_code end → ComesOut
+          by : (end : RunEnd) → TracesWellIn g.account own (rest_after prefix) end → j.status ≡ end_code end → ComesOut
           by E.Stop w e = put K.Stop x.asked.plan.stop w e
           by (E.Asked point) w e = put K.Asked point w e
           by (E.EventLimit point) w e = put K.Limit point w e
@@ -437,30 +437,30 @@ module _ (laws : Laws) (h : Happened) (x : Shared) (run : IsRun h x) (keeps : Pu
         is_run : T.IsRunOf loaded.system loaded.bound a.olds held_run
         is_run = held_tells a.olds a.news k.new.run.spawner g.is.peers
 
-        module _ (there : a.after ≡ with_piece a.before g.lived.piece) where
-          out : Puts k (g.lived.piece ∷ [])
-          out = sym g.is.after_is ∙ there ∙ ap (λ (s : SinkView). with_piece s g.lived.piece) g.is.before_is
+        module _ (there : a.after ≡ with_piece a.before g.session.piece) where
+          out : Puts k (g.session.piece ∷ [])
+          out = sym g.is.after_is ∙ there ∙ ap (λ (s : SinkView). with_piece s g.session.piece) g.is.before_is
 
-          puts_so : (piece : List ℕ) → g.lived.piece ≡ piece → Puts k (piece ∷ [])
+          puts_so : (piece : List ℕ) → g.session.piece ≡ piece → Puts k (piece ∷ [])
           puts_so piece same = out ∙ ap (with_piece k.old.run.out) same
 
-          early : (o : RunEnd) (kind : EndKind) (point : ℕ) → g.lived.outcome ≡ o → ends_before o ≡ true → EndsEarly held_run kind point g.lived.piece → k.status ≡ kind_code kind → IsParted h k x at
+          early : (o : RunEnd) (kind : EndKind) (point : ℕ) → g.session.outcome ≡ o → ends_before o ≡ true → EndsEarly held_run kind point g.session.piece → k.status ≡ kind_code kind → IsParted h k x at
           early o kind point is before w status =
               let same = one_end w.is kind point (trace_alike (run_in x) r alike w.is kind point (trace_alike held_run (run_in x) from_held w.is kind point w.trace)) in
               AtNone
-              (λ front z there. g.none held_run is_run refl (laws.steps held_run held_well) (ap ends_before is ∙ before) front z (held_at (run_in x) held_run to_held at front z there))
+              (λ prefix z there. g.none held_run is_run refl (laws.steps held_run held_well) (ap ends_before is ∙ before) prefix z (held_at (run_in x) held_run to_held at prefix z there))
               (record { is = w.is; kind = kind; point = point; whole = wrote_so w.is kind point same; line = puts_so (end_text kind point) w.put; status = status ∙ sym (ap kind_code same.1) ∙ sym came.status })
 
-          at_step : (point : ℕ) → KeepsRun held_run at point g.lived.piece → k.status ≡ 0 → IsParted h k x at
+          at_step : (point : ℕ) → KeepsRun held_run at point g.session.piece → k.status ≡ 0 → IsParted h k x at
           at_step point w status =
               let there : HeldAt (run_in x) at w.is w.z = held_at held_run (run_in x) from_held at w.is w.z w.held in
               let kept : CanBeHeld x.loaded.system (checkpoint_of (run_in x) w.z) =
               can_too loaded.system x.loaded.system (checkpoint_of (run_in x) w.z) (sym agree.0.0, sym agree.0.1)
               (subst (CanBeHeld loaded.system) (kept_alike held_run (run_in x) from_held w.z (checkpoint_of held_run w.z) refl) w.can) in
-              AtStep w.is w.z there status (puts_so (checkpoint_text (run_in x) w.z) (text_alike held_run (run_in x) from_held w.z g.lived.piece w.put))
+              AtStep w.is w.z there status (puts_so (checkpoint_text (run_in x) w.z) (text_alike held_run (run_in x) from_held w.z g.session.piece w.put))
               (λ j rest again takes. resumes w.is w.z there.held (let reached = there.reached in let first = begins in omega (arith, reached, first)) kept j rest again takes)
 
-          by_outcome : (o : RunEnd) → g.lived.outcome ≡ o → HoldsWell a held_run at o g.lived.piece → k.status ≡ end_code o → IsParted h k x at
+          by_outcome : (o : RunEnd) → g.session.outcome ≡ o → HoldsWell a held_run at o g.session.piece → k.status ≡ end_code o → IsParted h k x at
           by_outcome E.Stop is w status = early E.Stop K.Stop x.asked.plan.stop is refl w status
           by_outcome (E.Asked point) is w status = early (E.Asked point) K.Asked point is refl w status
           by_outcome (E.EventLimit point) is w status = early (E.EventLimit point) K.Limit point is refl w status
@@ -471,11 +471,11 @@ module _ (laws : Laws) (h : Happened) (x : Shared) (run : IsRun h x) (keeps : Pu
           by_outcome E.WriteFault is w status = absurd w
 
         went_on : IsParted h k x at
-        went_on = by g.lived.puts
+        went_on = by g.session.puts
           where
-            by : PutsPiece g.lived.outcome g.lived.piece a.before a.after a.end → IsParted h k x at
+            by : PutsPiece g.session.outcome g.session.piece a.before a.after a.end → IsParted h k x at
             by (inl (same, there)) =
-                by_outcome there g.lived.outcome refl (g.well held_run is_run refl held_well (λ i. puts_alike (run_in x) held_run to_held i (keeps.puts i)))
+                by_outcome there g.session.outcome refl (g.well held_run is_run refl held_well (λ i. puts_alike (run_in x) held_run to_held i (keeps.puts i)))
                 (e ∙ ap end_code (sym g.is.end_is ∙ same))
             by (inr (same, cut)) = absurd (c.loses.puts (e ∙ ap end_code (sym g.is.end_is ∙ same)))
 

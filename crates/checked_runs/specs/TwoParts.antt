@@ -147,10 +147,10 @@ abbrev pub checkpoint_text : Run → Situation → List ℕ
 checkpoint_text r z = spelling (header_of r.system r.plan) (checkpoint_of r z)
 
 -- the last of the first instants is at the point, and those after it are later
-pub record IsCutAfter (front later : List Instant) (t : ℕ) : Type 0 where
+pub record IsCutAfter (prefix later : List Instant) (t : ℕ) : Type 0 where
   pub before : List Instant
   pub last : Instant
-  pub ends : front ≡ before ++ last ∷ []
+  pub ends : prefix ≡ before ++ last ∷ []
   pub there : last.t ≡ t
   pub after : All (λ (i : Instant). t < i.t) later
 
@@ -159,12 +159,12 @@ abbrev pub rest_pieces : List Instant → EndKind → ℕ → List (List ℕ)
 rest_pieces is kind point = map text_of is ++ end_text kind point ∷ []
 
 -- what the run put, cut after its last instant at the point, goes on with what the resumed run put, and no more; the status is the same
-pub record Joins (h j : Happened) (r : Run) (front : List Instant) (t : ℕ) : Type 0 where
+pub record Joins (h j : Happened) (r : Run) (prefix : List Instant) (t : ℕ) : Type 0 where
   pub later : List Instant
   pub kind : EndKind
   pub point : ℕ
-  pub cut : IsCutAfter front later t
-  pub whole : Puts h (pieces_of r.system r.plan front ++ rest_pieces later kind point)
+  pub cut : IsCutAfter prefix later t
+  pub whole : Puts h (pieces_of r.system r.plan prefix ++ rest_pieces later kind point)
   pub rest : Puts j (rest_pieces later kind point)
   pub status : j.status ≡ h.status
 
@@ -181,19 +181,19 @@ pub record EndsAlone (h k : Happened) (r : Run) : Type 0 where
 
 -- each resume of the bytes puts what the run put after its last instant at the point, or memory runs out
 abbrev pub AreResumed : Happened → Shared → List Instant → ℕ → List ℕ → Type 0
-AreResumed h x front t bytes =
+AreResumed h x prefix t bytes =
     (j : Happened) (rest : ResumeLine) → IsResume j x bytes rest →
-    TakesStates (run_in x) rest.link → RunsOut j ⊎ Joins h j (run_in x) front t
+    TakesStates (run_in x) rest.link → RunsOut j ⊎ Joins h j (run_in x) prefix t
 
 -- what `checkpoint` comes to
 pub data IsParted (h k : Happened) (x : Shared) (at : ℕ) : Type 0 where
   OutOfMemory : RunsOut k → IsParted h k x at
   -- the run comes to a step, from a first point from `at` on: the bytes of the checkpoint there, with status 0
-  AtStep : (front : List Instant) (z : Situation) → HeldAt (run_in x) at front z → k.status ≡ 0 →
+  AtStep : (prefix : List Instant) (z : Situation) → HeldAt (run_in x) at prefix z → k.status ≡ 0 →
       Puts k (checkpoint_text (run_in x) z ∷ []) →
-      AreResumed h x front z.t (checkpoint_text (run_in x) z) → IsParted h k x at
+      AreResumed h x prefix z.t (checkpoint_text (run_in x) z) → IsParted h k x at
   -- it comes to none
-  AtNone : ((front : List Instant) (z : Situation) → HeldAt (run_in x) at front z → ⊥) →
+  AtNone : ((prefix : List Instant) (z : Situation) → HeldAt (run_in x) at prefix z → ⊥) →
       EndsAlone h k (run_in x) → IsParted h k x at
 
 -- what `checkpoint` and then `resume` put is what `run` puts

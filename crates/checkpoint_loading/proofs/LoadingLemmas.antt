@@ -1,12 +1,10 @@
 -- What a run goes on from is one thing.
 use Rattle.std.proofs.Common.{◌≡◌, ℕ, ◌^◌, List, [], refl, sym, subst, inl, inr}
-use Rattle.std.specs.Prelude.{All, IfSome, IfOk, IfErr, Option, Some, None, Result, Ok, Err, Vec}
-use Rattle.std.specs.declared.alloc.Global.{Global}
+use Rattle.std.specs.Prelude.{All, IfSome, IfOk, IfErr, Option, Some, None, Result, Ok, Err}
 use Rattle.std.proofs.lemmas.List.{append-nil}
 use Rattle.sim_base.specs.Asking.{Asks, IsAnswerOf}
 use Rattle.sim_base.specs.Folder as folder
 use Rattle.sim_base.specs.Folder.{FolderView, KeepsLimit, NotesRead, with_read}
-use Rattle.sim_base.specs.ReadNotes.{told_answer}
 use Rattle.sim_base.specs.declared.folder.ReadFault.{ReadFault}
 use Rattle.sim_base.specs.declared.folder.ReadFault.TheVariants as r
 use Rattle.sim_base.specs.declared.read_book.ReadNote.{ReadNote}
@@ -16,8 +14,8 @@ use Rattle.system_model.specs.declared.system.Port.{Port}
 use Rattle.system_model.specs.declared.system.System.{System}
 use Rattle.system_loading.specs.Assembly.{HaveSameParts}
 use Rattle.system_files.specs.declared.loaded.Loaded.{Loaded}
-use Rattle.system_files.specs.declared.loading.LoadEnd.{LoadEnd}
-use Rattle.system_files.specs.declared.loading.LoadEnd.TheVariants as load
+use Rattle.system_files.specs.declared.loading.LoadError.{LoadError}
+use Rattle.system_files.specs.declared.loading.LoadError.TheVariants as load
 use Rattle.system_files.specs.declared.named.NamedFile.{NamedFile}
 use Rattle.system_files.specs.declared.named.FileFault.TheVariants.{Unread, Missing, TooBig, Broken}
 use Rattle.system_files.specs.Files.{Absent, Faulty, Flaw, Long}
@@ -37,7 +35,7 @@ use Rattle.checkpoint_loading.specs.declared.rest.HeldRun.{HeldRun}
 use Rattle.checkpoint_loading.specs.declared.rest.RestEnd.{RestEnd}
 use Rattle.checkpoint_loading.specs.declared.rest.RestEnd.TheVariants as end
 use Rattle.checkpoint_loading.specs.Loading.{Agree, AllFiles, Comes, EndsRest, Finding, IsRead, Lacks, Loads, LongFile, NoCheckpoint, NoFile, NoPlan, NoRest, NoSystem, Nothing, OfCheckpoint, OfSystem, Question, Rests, SomeFiles, TakesBytes, Unkept, Whole, header_by}
-use Rattle.checkpoint_loading.specs.Steps.{BehindSystem, EndsSystem, LacksBytes, NoRestThere, TakesRest, Unloaded, end_at, end_of, unread_end}
+use Rattle.checkpoint_loading.specs.Steps.{AfterSystem, EndsSystem, LacksBytes, NoRestThere, TakesRest, Unloaded, end_at, end_of, unread_end}
 
 -- ---- the laws of checkpoints
 
@@ -80,11 +78,11 @@ module _ (plan : Plan) (bytes : List ℕ) where
 
   bad_there : (one other : System) (at : ℕ) → HaveSameParts one other → IsBad one (header_by one plan) bytes at → IsBad other (header_by other plan) bytes at
   bad_there one other at same is =
-      let first : IsBad (with_parts other one.components one.ports) (header_by (with_parts other one.components one.ports) plan) bytes at = record { within = is.within; front = is.front; next = is.next; none = is.none } in
+      let first : IsBad (with_parts other one.components one.ports) (header_by (with_parts other one.components one.ports) plan) bytes at = record { within = is.within; prefix = is.prefix; next = is.next; none = is.none } in
       let last : IsBad (with_parts other other.components other.ports) (header_by (with_parts other other.components other.ports) plan) bytes at =
       subst (λ (ports : List Port). IsBad (with_parts other other.components ports) (header_by (with_parts other other.components ports) plan) bytes at) same.1
       (subst (λ (components : List Component). IsBad (with_parts other components one.ports) (header_by (with_parts other components one.ports) plan) bytes at) same.0 first) in
-      record { within = last.within; front = last.front; next = last.next; none = last.none }
+      record { within = last.within; prefix = last.prefix; next = last.next; none = last.none }
 
 -- ---- it comes to one thing
 
@@ -270,7 +268,7 @@ module _ (laws : LawsOfCheckpoints) (q : Question) (old new : FolderView) where
       asks = l.asks;
     }
 
-    unloaded : (ended : LoadEnd) → EndsHeld (search_by q.directory plan) plan ended mid new → EndsRest q (end_of ended) old new
+    unloaded : (ended : LoadError) → EndsHeld (search_by q.directory plan) plan ended mid new → EndsRest q (end_of ended) old new
     unloaded (load.File file Unread) h = OfSystem bytes plan mid takes has h
     unloaded (load.File file Missing) h = refused file.path Absent h
     unloaded (load.File file TooBig) h = refused file.path Long h
@@ -293,7 +291,7 @@ module _ (laws : LawsOfCheckpoints) (q : Question) (old new : FolderView) where
         asks = l.asks;
       },
     )
-    ends_system _ (BehindSystem loaded l is) = subst (λ (x : RestEnd). EndsRest q x old new) (sym is) (AllFiles bytes plan loaded mid takes has l)
+    ends_system _ (AfterSystem loaded l is) = subst (λ (x : RestEnd). EndsRest q x old new) (sym is) (AllFiles bytes plan loaded mid takes has l)
 
     pub takes_rest : (run : HeldRun) → TakesRest q.directory plan bytes run mid new → Loads q (Rests run.loaded run.held) old new
     takes_rest run t = record {
@@ -311,25 +309,25 @@ module _ (laws : LawsOfCheckpoints) (q : Question) (old new : FolderView) where
 -- ---- the read of the checkpoint
 
 abbrev pub Answer : Type 0
-Answer = Result (Vec ℕ Global) ReadFault
+Answer = Result (List ℕ) ReadFault
 
 -- where a folder tells its files, this is the answer to the read
 abbrev pub Answered : FolderView → List ℕ → Answer → Type 0
 Answered view path answer = IfSome view.files (λ at. folder.Reads (at path) (2 ^ 29) answer)
 
-answers_so : (at : Option (List ℕ)) (answer : Answer) → folder.Reads at (2 ^ 29) answer → IsAnswerOf at (told_answer answer)
+answers_so : (at : Option (List ℕ)) (answer : Answer) → folder.Reads at (2 ^ 29) answer → IsAnswerOf at answer
 answers_so at (Ok bytes) h = h.0
 answers_so at (Err r.Missing) h = h
 answers_so at (Err (r.TooBig n)) h = (h.0, h.1, h.2)
 answers_so at (Err r.Failed) h = tt
 answers_so at (Err r.Memory) h = tt
 
-given_so : (files : Option (List ℕ → Option (List ℕ))) (path : List ℕ) (answer : Answer) → IfSome files (λ at. folder.Reads (at path) (2 ^ 29) answer) → IfSome files (λ at. IsAnswerOf (at path) (told_answer answer))
+given_so : (files : Option (List ℕ → Option (List ℕ))) (path : List ℕ) (answer : Answer) → IfSome files (λ at. folder.Reads (at path) (2 ^ 29) answer) → IfSome files (λ at. IsAnswerOf (at path) answer)
 given_so None path answer h = tt
 given_so (Some at) path answer h = answers_so (at path) answer h
 
-pub takes_bytes : (directory path : List ℕ) (bytes : Vec ℕ Global) (old new : FolderView) → Answered old path (Ok bytes) → KeepsLimit (2 ^ 29) (Ok bytes) → NotesRead old new path (Ok bytes) →
-    TakesBytes (record { directory = directory; file = path }) bytes.items old new
+pub takes_bytes : (directory path : List ℕ) (bytes : List ℕ) (old new : FolderView) → Answered old path (Ok bytes) → KeepsLimit (2 ^ 29) (Ok bytes) → NotesRead old new path (Ok bytes) →
+    TakesBytes (record { directory = directory; file = path }) bytes old new
 takes_bytes directory path bytes old new answers within noted = record { told = noted; given = given_so old.files path (Ok bytes) answers; short = within }
 
 pub lacks_read : (directory path : List ℕ) (file : NamedFile) (fault : ReadFault) (old new : FolderView) → file.path ≡ path → Answered old path (Err fault) → KeepsLimit (2 ^ 29) (Err fault) → NotesRead old new path (Err fault) →
@@ -352,7 +350,7 @@ lacks_there directory path named ended old new is lacks = subst (λ (p : List �
 pub breaks_off : (directory : List ℕ) (plan : Plan) (bytes : List ℕ) (file : NamedFile) (loaded : Loaded) (fault : CheckpointFault) (ended : RestEnd) (old new : FolderView) →
     LoadsHeld (search_by directory plan) plan (Found loaded) old new → Answers loaded.system (header_by loaded.system plan) bytes (Err fault) → ended ≡ end_at file fault → EndsSystem directory plan bytes file.path ended old new
 breaks_off directory plan bytes file loaded (F.Bad at) ended old new loads bad is = NoRestThere loaded file at loads bad refl is
-breaks_off directory plan bytes file loaded F.Memory ended old new loads none is = BehindSystem loaded loads is
+breaks_off directory plan bytes file loaded F.Memory ended old new loads none is = AfterSystem loaded loads is
 
 -- what the checkpoint keeps has the plan that it begins with
 pub kept_plan : LawsOfCheckpoints → (bytes : List ℕ) (plan : Plan) (system : System) (header : List ℕ) (held : Snapshot) → HasPlan bytes plan → Checkpoint system header held bytes → plan ≡ held.plan

@@ -6,8 +6,8 @@ use Rattle.sim_base.specs.declared.folder.ReadFault.{ReadFault}
 use Rattle.sim_base.specs.declared.folder.ReadFault.TheVariants as r
 use Rattle.system_model.specs.declared.plan.Plan.{Plan}
 use Rattle.system_files.specs.declared.loaded.Loaded.{Loaded}
-use Rattle.system_files.specs.declared.loading.LoadEnd.{LoadEnd}
-use Rattle.system_files.specs.declared.loading.LoadEnd.TheVariants as load
+use Rattle.system_files.specs.declared.loading.LoadError.{LoadError}
+use Rattle.system_files.specs.declared.loading.LoadError.TheVariants as load
 use Rattle.system_files.specs.declared.named.NamedFile.{NamedFile}
 use Rattle.system_files.specs.declared.named.FileFault.{FileFault}
 use Rattle.system_files.specs.declared.named.FileFault.TheVariants.{Unread, Missing, TooBig, Broken}
@@ -46,7 +46,7 @@ unread_end file (r.TooBig n) = end.File file TooBig
 unread_end file r.Memory = end.Memory
 
 -- the end at the files of the system
-abbrev pub end_of : LoadEnd → RestEnd
+abbrev pub end_of : LoadError → RestEnd
 end_of (load.File file fault) = end.File file fault
 end_of load.Memory = end.Memory
 
@@ -64,13 +64,13 @@ end_at file F.Memory = end.Memory
 -- no system is loaded, or the bytes are no checkpoint of it, which this byte shows, or memory runs out
 pub data EndsSystem (directory : List ℕ) (plan : Plan) (bytes path : List ℕ) (ended : RestEnd)
     (old new : FolderView) : Type 0 where
-  Unloaded : (load : LoadEnd) → EndsHeld (search_by directory plan) plan load old new →
+  Unloaded : (load : LoadError) → EndsHeld (search_by directory plan) plan load old new →
       ended ≡ end_of load → EndsSystem directory plan bytes path ended old new
   NoRestThere : (loaded : Loaded) (file : NamedFile) (at : ℕ) →
       LoadsHeld (search_by directory plan) plan (Found loaded) old new →
       IsBad loaded.system (header_by loaded.system plan) bytes at →
       file.path ≡ path → ended ≡ end.NoCheckpoint file at →
       EndsSystem directory plan bytes path ended old new
-  BehindSystem : (loaded : Loaded) →
+  AfterSystem : (loaded : Loaded) →
       LoadsHeld (search_by directory plan) plan (Found loaded) old new → ended ≡ end.Memory →
       EndsSystem directory plan bytes path ended old new

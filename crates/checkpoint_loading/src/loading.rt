@@ -12,12 +12,12 @@ ghost use Rattle.checkpoint_loading.specs.Loading.{EndsRest, Loads, Rests, Takes
 ghost use Rattle.checkpoint_loading.specs.Steps.{EndsSystem, LacksBytes, TakesRest, end_at, end_of, unread_end};
 
 use crate::rest::{HeldRun, RestEnd};
-use sim_base::{Folder, ReadFault, Text};
+use sim_base::{Folder, ReadFault, SharedBytes, Text};
 use std::alloc::Global;
 use system_checkpoint::{
     CheckpointFault, Snapshot, checkpoint_laws, plan_laws, read_checkpoint, read_plan,
 };
-use system_files::{FileFault, LoadEnd, NamedFile, NoMemory, load_held};
+use system_files::{FileFault, LoadError, NamedFile, NoMemory, load_held};
 use system_model::{Plan, System};
 use trace_text::{put_header, room_for};
 
@@ -54,8 +54,8 @@ pub fn load_rest<F: Folder>(
         return Err(RestEnd::Memory);
     };
     match read_bytes(alloc, named, folder) {
-        Ok((named, bytes)) => match read_plan(&bytes) {
-            Ok(plan) => load_behind(alloc, directory, plan, named, &bytes, folder),
+        Ok((named, bytes)) => match read_plan(bytes.as_slice()) {
+            Ok(plan) => load_after(alloc, directory, plan, named, &bytes, folder),
             Err(fault) => Err(refuse(named, fault)),
         },
         Err(end) => Err(end),
@@ -74,9 +74,9 @@ fn read_bytes<F: Folder>(
     alloc: Global,
     file: NamedFile,
     folder: &mut F,
-) -> Result<(NamedFile, Vec<u8>), RestEnd>
+) -> Result<(NamedFile, SharedBytes), RestEnd>
     ensures ok { IfOk result (λ read. (read.0.path ≡ file.path) ×
-        ((directory : List ℕ) → TakesBytes (record { directory = directory; file = file.path }) read.1.items
+        ((directory : List ℕ) → TakesBytes (record { directory = directory; file = file.path }) read.1
         (F.view folder.old) (F.view folder.new))) }
     ensures err { IfErr result (λ end. (directory : List ℕ) →
         LacksBytes (record { directory = directory; file = file.path }) end
@@ -110,12 +110,12 @@ fn leave_unread(file: NamedFile, fault: ReadFault) -> RestEnd
 }
 
 // The system, and the rest of the checkpoint by it.
-fn load_behind<F: Folder>(
+fn load_after<F: Folder>(
     alloc: Global,
     directory: &str,
     plan: Plan,
     file: NamedFile,
-    bytes: &[u8],
+    bytes: &SharedBytes,
     folder: &mut F,
 ) -> Result<HeldRun, RestEnd>
     requires { HasPlan bytes.now plan }
@@ -144,12 +144,12 @@ fn load_behind<F: Folder>(
 }
 
 // The end at the files of the system.
-fn leave_unloaded(end: LoadEnd) -> RestEnd
+fn leave_unloaded(end: LoadError) -> RestEnd
     ensures { result ≡ end_of end }
 {
     match end {
-        LoadEnd::File { file, fault } => RestEnd::File { file, fault },
-        LoadEnd::Memory => RestEnd::Memory,
+        LoadError::File { file, fault } => RestEnd::File { file, fault },
+        LoadError::Memory => RestEnd::Memory,
     }
 }
 
@@ -158,7 +158,7 @@ fn read_held(
     alloc: Global,
     system: &System,
     plan: Plan,
-    bytes: &[u8],
+    bytes: &SharedBytes,
 ) -> Result<Snapshot, CheckpointFault>
     requires holdable { IsHoldable system.now plan }
     ensures { Answers system.now (header_by system.now plan) bytes.now result }

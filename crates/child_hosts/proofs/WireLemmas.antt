@@ -5,7 +5,7 @@ use Rattle.std.specs.Io.KnownBytes.{Consumes, Keeps}
 use Rattle.std.proofs.Math.Seq.{drop-append_seam}
 use Rattle.sim_base.specs.Causes.{one_more}
 use Rattle.sim_base.specs.Sink.{SinkView, with_piece}
-use Rattle.fmu_link.specs.Wire.{FallsShort, at_end, wire_view, with_fault, with_front, with_sent, without_front}
+use Rattle.fmu_link.specs.Wire.{FallsShort, at_end, wire_view, with_fault, with_prefix, with_sent, without_prefix}
 use Rattle.fmu_link.specs.declared.wire.WireFault.{WireFault}
 use Rattle.fmu_link.specs.declared.wire.WireFault.TheVariants.{Ended, Failed}
 use Rattle.child_hosts.specs.Filling.{Fills, RunsOut}
@@ -45,7 +45,7 @@ fills_failed T old new into fault is h = subst (λ (f : WireFault). Fills {T = T
 -- ---- receiving, from a reader that tells its bytes at all times or at none
 
 pub received_whole : (old new sent : Option (List ℕ)) (faults : ℕ) (into : List ℕ) → is_some old ≡ is_some new → Consumes old new into →
-    wire_view sent old faults ≡ with_front into (wire_view sent new faults)
+    wire_view sent old faults ≡ with_prefix into (wire_view sent new faults)
 received_whole None None sent faults into steady taken = refl
 received_whole None (Some ys) sent faults into steady taken = cc
 received_whole (Some xs) None sent faults into steady taken = absurd taken
@@ -65,7 +65,7 @@ received_less (Some xs) (Some ys) sent faults into steady out =
     (omega (arith, short, same), ap (λ (l : List ℕ). wire_view sent (Some l) faults) out.end)
 
 pub received_part : (old new sent : Option (List ℕ)) (faults : ℕ) (part : List ℕ) → is_some old ≡ is_some new → Consumes old new part →
-    wire_view sent new (one_more faults) ≡ with_fault (without_front (length part) (wire_view sent old faults))
+    wire_view sent new (one_more faults) ≡ with_fault (without_prefix (length part) (wire_view sent old faults))
 received_part None None sent faults part steady taken = refl
 received_part None (Some ys) sent faults part steady taken = cc
 received_part (Some xs) None sent faults part steady taken = absurd taken

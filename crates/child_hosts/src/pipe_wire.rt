@@ -104,7 +104,7 @@ fn fill<S: Source>(source: &mut S, into: &mut [u8]) -> Result<(), WireFault>
 {
     let mut filled = 0;
     'takes: while filled < into.len() {
-        match take_behind(source, into, filled) {
+        match take_after(source, into, filled) {
             Ok(count) => filled += count,
             Err(fault) => return Err(fault),
         }
@@ -113,14 +113,10 @@ fn fill<S: Source>(source: &mut S, into: &mut [u8]) -> Result<(), WireFault>
 }
 
 // One take of some bytes after those at the start of the room.
-fn take_behind<S: Source>(
-    source: &mut S,
-    into: &mut [u8],
-    filled: usize,
-) -> Result<usize, WireFault>
+fn take_after<S: Source>(source: &mut S, into: &mut [u8], filled: usize) -> Result<usize, WireFault>
     requires { filled < length into.old }
     ensures some { IfOk result (λ n. (1 ≤ n) × (filled + n ≤ length into.new)) }
-    ensures front { take filled into.new ≡ take filled into.old }
+    ensures prefix { take filled into.new ≡ take filled into.old }
     ensures taken { FillsMore (S.view source.old).left (S.view source.new).left filled into.new
         result }
 {

@@ -8,25 +8,25 @@ use Rattle.clock_fraction.proofs.ShortestLemmas.{bounded, zero_only}
 
 -- ---- zeros at the end of a number
 
-zeros_raise : (number front tail up j : ℕ) → number ≡ front * 10 ^ tail → number * 10 ^ (up + j) ≡ front * 10 ^ (tail + up + j)
-zeros_raise number front tail up j is_number =
+zeros_raise : (number prefix tail up j : ℕ) → number ≡ prefix * 10 ^ tail → number * 10 ^ (up + j) ≡ prefix * 10 ^ (tail + up + j)
+zeros_raise number prefix tail up j is_number =
     let sum : tail + up + j ≡ tail + (up + j) = omega arith in
     let tens : 10 ^ (tail + up + j) ≡ 10 ^ tail * 10 ^ (up + j) = ap (λ i. 10 ^ i) sum ∙ pow-add 10 tail (up + j) in
-    ap (λ x. x * 10 ^ (up + j)) is_number ∙ sym (ap (λ x. front * x) tens ∙ omega arith)
+    ap (λ x. x * 10 ^ (up + j)) is_number ∙ sym (ap (λ x. prefix * x) tens ∙ omega arith)
 
-shortest_to_front : (number front tail up down k : ℕ) (fraction : Fraction) → number ≡ front * 10 ^ tail → IsShortest number up down k fraction → IsShortest front (tail + up) down k fraction
-shortest_to_front number front tail up down k fraction is_number is = record {
-  value = is.value ∙ zeros_raise number front tail up k is_number;
-  least = λ n j same. is.least n j (same ∙ sym (zeros_raise number front tail up j is_number));
+shortest_to_prefix : (number prefix tail up down k : ℕ) (fraction : Fraction) → number ≡ prefix * 10 ^ tail → IsShortest number up down k fraction → IsShortest prefix (tail + up) down k fraction
+shortest_to_prefix number prefix tail up down k fraction is_number is = record {
+  value = is.value ∙ zeros_raise number prefix tail up k is_number;
+  least = λ n j same. is.least n j (same ∙ sym (zeros_raise number prefix tail up j is_number));
   resolution = is.resolution;
   few_places = is.few_places;
   small = is.small;
 }
 
-shortest_from_front : (number front tail up down k : ℕ) (fraction : Fraction) → number ≡ front * 10 ^ tail → IsShortest front (tail + up) down k fraction → IsShortest number up down k fraction
-shortest_from_front number front tail up down k fraction is_number is = record {
-  value = is.value ∙ sym (zeros_raise number front tail up k is_number);
-  least = λ n j same. is.least n j (same ∙ zeros_raise number front tail up j is_number);
+shortest_from_prefix : (number prefix tail up down k : ℕ) (fraction : Fraction) → number ≡ prefix * 10 ^ tail → IsShortest prefix (tail + up) down k fraction → IsShortest number up down k fraction
+shortest_from_prefix number prefix tail up down k fraction is_number is = record {
+  value = is.value ∙ sym (zeros_raise number prefix tail up k is_number);
+  least = λ n j same. is.least n j (same ∙ zeros_raise number prefix tail up j is_number);
   resolution = is.resolution;
   few_places = is.few_places;
   small = is.small;
@@ -92,30 +92,30 @@ same_shortest number up down number' up' down' k fraction lasts nothing_too agre
 -- ---- the number of a text as it is read
 
 -- a number with zeros at its end, its places and its power, and the prefix and the power as they are read
-pub record IsRead (number front tail places power front' power' : ℕ) : Type 0 where
-  pub number_is : number ≡ front * 10 ^ tail
-  pub lasts : HasNoZeros front
+pub record IsRead (number prefix tail places power prefix' power' : ℕ) : Type 0 where
+  pub number_is : number ≡ prefix * 10 ^ tail
+  pub lasts : HasNoZeros prefix
   pub few_zeros : tail < 2 ^ 65
   pub few_places : places < 2 ^ 64
-  pub front_is : front' ≡ min front (2 ^ 100)
+  pub prefix_is : prefix' ≡ min prefix (2 ^ 100)
   pub power_is : power' ≡ min power (2 ^ 100)
 
 -- a prefix that is cut off doesn't end in a zero either
-pub cut_lasts : (front front' : ℕ) → HasNoZeros front → front' ≡ min front (2 ^ 100) → HasNoZeros front'
-cut_lasts front front' lasts is some =
-    elim (cases_lt (2 ^ 100) front) [
-      | inl above ↦ λ none. absurd (omega (arith, (let cut : front' ≡ 2 ^ 100 = omega arith in ap (λ x. x % 10) cut)))
+pub cut_lasts : (prefix prefix' : ℕ) → HasNoZeros prefix → prefix' ≡ min prefix (2 ^ 100) → HasNoZeros prefix'
+cut_lasts prefix prefix' lasts is some =
+    elim (cases_lt (2 ^ 100) prefix) [
+      | inl above ↦ λ none. absurd (omega (arith, (let cut : prefix' ≡ 2 ^ 100 = omega arith in ap (λ x. x % 10) cut)))
       | inr within ↦
-          let same : front' ≡ front = omega arith in
+          let same : prefix' ≡ prefix = omega arith in
           λ none. lasts (omega arith) (ap (λ x. x % 10) (sym same) ∙ none)
     ]
 
-agree_minus : (number front tail places power front' power' : ℕ) → IsRead number front tail places power front' power' → Agree front (tail + 0) (places + power) front' tail (places + power')
-agree_minus number front tail places power front' power' read =
-    let front_is = read.front_is in
+agree_minus : (number prefix tail places power prefix' power' : ℕ) → IsRead number prefix tail places power prefix' power' → Agree prefix (tail + 0) (places + power) prefix' tail (places + power')
+agree_minus number prefix tail places power prefix' power' read =
+    let prefix_is = read.prefix_is in
     let power_is = read.power_is in
     let few_zeros = read.few_zeros in
-    elim (cases_lt (2 ^ 100) front) [
+    elim (cases_lt (2 ^ 100) prefix) [
       | inl above ↦ inr (inl (omega arith), inl (omega arith))
       | inr within ↦ elim (cases_lt (2 ^ 100) power) [
         | inl far ↦ inr (inr (inr (omega arith)), inr (inr (omega arith)))
@@ -123,12 +123,12 @@ agree_minus number front tail places power front' power' read =
       ]
     ]
 
-agree_plus : (number front tail places power front' power' : ℕ) → IsRead number front tail places power front' power' → Agree front (tail + power) (places + 0) front' (tail + power') places
-agree_plus number front tail places power front' power' read =
-    let front_is = read.front_is in
+agree_plus : (number prefix tail places power prefix' power' : ℕ) → IsRead number prefix tail places power prefix' power' → Agree prefix (tail + power) (places + 0) prefix' (tail + power') places
+agree_plus number prefix tail places power prefix' power' read =
+    let prefix_is = read.prefix_is in
     let power_is = read.power_is in
     let few_places = read.few_places in
-    elim (cases_lt (2 ^ 100) front) [
+    elim (cases_lt (2 ^ 100) prefix) [
       | inl above ↦ inr (inl (omega arith), inl (omega arith))
       | inr within ↦ elim (cases_lt (2 ^ 100) power) [
         | inl far ↦ inr (inr (inl (omega arith)), inr (inl (omega arith)))
@@ -136,37 +136,37 @@ agree_plus number front tail places power front' power' read =
       ]
     ]
 
-cut_zero : (front front' : ℕ) → front' ≡ min front (2 ^ 100) → front ≡ 0 → front' ≡ 0
-cut_zero front front' is nothing = omega arith
+cut_zero : (prefix prefix' : ℕ) → prefix' ≡ min prefix (2 ^ 100) → prefix ≡ 0 → prefix' ≡ 0
+cut_zero prefix prefix' is nothing = omega arith
 
-zero_cut : (front front' : ℕ) → front' ≡ min front (2 ^ 100) → front' ≡ 0 → front ≡ 0
-zero_cut front front' is nothing = omega arith
+zero_cut : (prefix prefix' : ℕ) → prefix' ≡ min prefix (2 ^ 100) → prefix' ≡ 0 → prefix ≡ 0
+zero_cut prefix prefix' is nothing = omega arith
 
 -- with a negative exponent
-minus_from_read : (number front tail places power front' power' k : ℕ) (fraction : Fraction) → IsRead number front tail places power front' power' → IsShortest front' tail (places + power') k fraction → IsShortest number 0 (places + power) k fraction
-minus_from_read number front tail places power front' power' k fraction read is =
-    shortest_from_front number front tail 0 (places + power) k fraction read.number_is (same_shortest front' tail (places + power') front (tail + 0) (places + power) k fraction (cut_lasts front front' read.lasts read.front_is) (zero_cut front front' read.front_is) (turned _ _ _ _ _ _ (agree_minus number front tail places power front' power' read)) is)
+minus_from_read : (number prefix tail places power prefix' power' k : ℕ) (fraction : Fraction) → IsRead number prefix tail places power prefix' power' → IsShortest prefix' tail (places + power') k fraction → IsShortest number 0 (places + power) k fraction
+minus_from_read number prefix tail places power prefix' power' k fraction read is =
+    shortest_from_prefix number prefix tail 0 (places + power) k fraction read.number_is (same_shortest prefix' tail (places + power') prefix (tail + 0) (places + power) k fraction (cut_lasts prefix prefix' read.lasts read.prefix_is) (zero_cut prefix prefix' read.prefix_is) (turned _ _ _ _ _ _ (agree_minus number prefix tail places power prefix' power' read)) is)
 
-pub minus_to_read : (number front tail places power front' power' k : ℕ) (fraction : Fraction) → IsRead number front tail places power front' power' → IsShortest number 0 (places + power) k fraction → IsShortest front' tail (places + power') k fraction
-minus_to_read number front tail places power front' power' k fraction read is =
-    same_shortest front (tail + 0) (places + power) front' tail (places + power') k fraction read.lasts (cut_zero front front' read.front_is) (agree_minus number front tail places power front' power' read) (shortest_to_front number front tail 0 (places + power) k fraction read.number_is is)
+pub minus_to_read : (number prefix tail places power prefix' power' k : ℕ) (fraction : Fraction) → IsRead number prefix tail places power prefix' power' → IsShortest number 0 (places + power) k fraction → IsShortest prefix' tail (places + power') k fraction
+minus_to_read number prefix tail places power prefix' power' k fraction read is =
+    same_shortest prefix (tail + 0) (places + power) prefix' tail (places + power') k fraction read.lasts (cut_zero prefix prefix' read.prefix_is) (agree_minus number prefix tail places power prefix' power' read) (shortest_to_prefix number prefix tail 0 (places + power) k fraction read.number_is is)
 
 -- with a positive one
-plus_from_read : (number front tail places power front' power' k : ℕ) (fraction : Fraction) → IsRead number front tail places power front' power' → IsShortest front' (tail + power') places k fraction → IsShortest number power (places + 0) k fraction
-plus_from_read number front tail places power front' power' k fraction read is =
-    shortest_from_front number front tail power (places + 0) k fraction read.number_is (same_shortest front' (tail + power') places front (tail + power) (places + 0) k fraction (cut_lasts front front' read.lasts read.front_is) (zero_cut front front' read.front_is) (turned _ _ _ _ _ _ (agree_plus number front tail places power front' power' read)) is)
+plus_from_read : (number prefix tail places power prefix' power' k : ℕ) (fraction : Fraction) → IsRead number prefix tail places power prefix' power' → IsShortest prefix' (tail + power') places k fraction → IsShortest number power (places + 0) k fraction
+plus_from_read number prefix tail places power prefix' power' k fraction read is =
+    shortest_from_prefix number prefix tail power (places + 0) k fraction read.number_is (same_shortest prefix' (tail + power') places prefix (tail + power) (places + 0) k fraction (cut_lasts prefix prefix' read.lasts read.prefix_is) (zero_cut prefix prefix' read.prefix_is) (turned _ _ _ _ _ _ (agree_plus number prefix tail places power prefix' power' read)) is)
 
-pub plus_to_read : (number front tail places power front' power' k : ℕ) (fraction : Fraction) → IsRead number front tail places power front' power' → IsShortest number power (places + 0) k fraction → IsShortest front' (tail + power') places k fraction
-plus_to_read number front tail places power front' power' k fraction read is =
-    same_shortest front (tail + power) (places + 0) front' (tail + power') places k fraction read.lasts (cut_zero front front' read.front_is) (agree_plus number front tail places power front' power' read) (shortest_to_front number front tail power (places + 0) k fraction read.number_is is)
+pub plus_to_read : (number prefix tail places power prefix' power' k : ℕ) (fraction : Fraction) → IsRead number prefix tail places power prefix' power' → IsShortest number power (places + 0) k fraction → IsShortest prefix' (tail + power') places k fraction
+plus_to_read number prefix tail places power prefix' power' k fraction read is =
+    same_shortest prefix (tail + power) (places + 0) prefix' (tail + power') places k fraction read.lasts (cut_zero prefix prefix' read.prefix_is) (agree_plus number prefix tail places power prefix' power' read) (shortest_to_prefix number prefix tail power (places + 0) k fraction read.number_is is)
 
 -- what is found of them is the fraction of the text
-pub minus_found : (number front tail places power front' power' : ℕ) → IsRead number front tail places power front' power' → (found : Option Fraction) → IfSome found (λ fraction. (k : ℕ) × IsShortest front' tail (places + power') k fraction) → IfSome found (λ fraction. (k : ℕ) × IsShortest number 0 (places + power) k fraction)
-minus_found number front tail places power front' power' read None is = tt
-minus_found number front tail places power front' power' read (Some fraction) (k, is) =
-    (k, minus_from_read number front tail places power front' power' k fraction read is)
+pub minus_found : (number prefix tail places power prefix' power' : ℕ) → IsRead number prefix tail places power prefix' power' → (found : Option Fraction) → IfSome found (λ fraction. (k : ℕ) × IsShortest prefix' tail (places + power') k fraction) → IfSome found (λ fraction. (k : ℕ) × IsShortest number 0 (places + power) k fraction)
+minus_found number prefix tail places power prefix' power' read None is = tt
+minus_found number prefix tail places power prefix' power' read (Some fraction) (k, is) =
+    (k, minus_from_read number prefix tail places power prefix' power' k fraction read is)
 
-pub plus_found : (number front tail places power front' power' : ℕ) → IsRead number front tail places power front' power' → (found : Option Fraction) → IfSome found (λ fraction. (k : ℕ) × IsShortest front' (tail + power') places k fraction) → IfSome found (λ fraction. (k : ℕ) × IsShortest number power (places + 0) k fraction)
-plus_found number front tail places power front' power' read None is = tt
-plus_found number front tail places power front' power' read (Some fraction) (k, is) =
-    (k, plus_from_read number front tail places power front' power' k fraction read is)
+pub plus_found : (number prefix tail places power prefix' power' : ℕ) → IsRead number prefix tail places power prefix' power' → (found : Option Fraction) → IfSome found (λ fraction. (k : ℕ) × IsShortest prefix' (tail + power') places k fraction) → IfSome found (λ fraction. (k : ℕ) × IsShortest number power (places + 0) k fraction)
+plus_found number prefix tail places power prefix' power' read None is = tt
+plus_found number prefix tail places power prefix' power' read (Some fraction) (k, is) =
+    (k, plus_from_read number prefix tail places power prefix' power' k fraction read is)

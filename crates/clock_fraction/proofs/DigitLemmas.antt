@@ -29,10 +29,10 @@ digit_value-at ds i digits within = let range = digit_at ds i digits within in g
 pub zeros_more : (n : ℕ) (ds : List ℕ) (len : ℕ) → 0 < len → len ≤ length ds → get_or ds (len - 1) 0 ≡ 48 → digits_value_after 10 n (take len ds) * 10 ^ (length ds - len) ≡ digits_value_after 10 n (take (len - 1) ds) * 10 ^ (length ds - (len - 1))
 zeros_more n ds len some within is_zero =
     let rest = digits_value_after 10 n (take (len - 1) ds) in
-    let front : len - 1 + 1 ≡ len = omega arith in
+    let prefix : len - 1 + 1 ≡ len = omega arith in
     let zero : digit_value (get_or ds (len - 1) 0) ≡ 0 = ap digit_value is_zero in
     let last : digits_value_after 10 n (take len ds) ≡ rest * 10 =
-    ap (λ k. digits_value_after 10 n (take k ds)) (sym front) ∙ digits_value_after-more n ds (len - 1) (omega arith) ∙ ap (λ x. rest * 10 + x) zero ∙ omega arith in
+    ap (λ k. digits_value_after 10 n (take k ds)) (sym prefix) ∙ digits_value_after-more n ds (len - 1) (omega arith) ∙ ap (λ x. rest * 10 + x) zero ∙ omega arith in
     let tens : 10 ^ (length ds - (len - 1)) ≡ 10 * 10 ^ (length ds - len) =
     ap (λ k. 10 ^ k) (let more : length ds - (len - 1) ≡ 1 + (length ds - len) = omega arith in more) ∙ pow-add 10 1 (length ds - len) in
     ap (λ x. x * 10 ^ (length ds - len)) last ∙ sym (ap (λ x. rest * x) tens ∙ omega arith)
@@ -61,12 +61,12 @@ digits_value_after-append n [] ys = refl
 digits_value_after-append n (x ∷ xs) ys = digits_value_after-append (n * 10 + digit_value x) xs ys
 
 pub AllDigits-append : (xs ys : List ℕ) → AllDigits 10 xs → AllDigits 10 ys → AllDigits 10 (xs ++ ys)
-AllDigits-append [] ys front back = back
-AllDigits-append (x ∷ xs) ys front back = (front.0, AllDigits-append xs ys front.1 back)
+AllDigits-append [] ys prefix back = back
+AllDigits-append (x ∷ xs) ys prefix back = (prefix.0, AllDigits-append xs ys prefix.1 back)
 
-pub AllDigits-front : (xs ys : List ℕ) → AllDigits 10 (xs ++ ys) → AllDigits 10 xs
-AllDigits-front [] ys both = tt
-AllDigits-front (x ∷ xs) ys both = (both.0, AllDigits-front xs ys both.1)
+pub AllDigits-prefix : (xs ys : List ℕ) → AllDigits 10 (xs ++ ys) → AllDigits 10 xs
+AllDigits-prefix [] ys both = tt
+AllDigits-prefix (x ∷ xs) ys both = (both.0, AllDigits-prefix xs ys both.1)
 
 pub AllDigits-back : (xs ys : List ℕ) → AllDigits 10 (xs ++ ys) → AllDigits 10 ys
 AllDigits-back [] ys both = both
@@ -80,21 +80,21 @@ AllDigits-take (suc n) (d ∷ ds) digits = (digits.0, AllDigits-take n ds digits
 -- a number whose last digit isn't `0` is no multiple of ten
 pub last-nonzero : (n : ℕ) (ds : List ℕ) (len : ℕ) → AllDigits 10 ds → 0 < len → len ≤ length ds → get_or ds (len - 1) 0 ≢ 48 → digits_value_after 10 n (take len ds) % 10 ≢ 0
 last-nonzero n ds len digits some within other = λ none.
-    let front : len - 1 + 1 ≡ len = omega arith in
+    let prefix : len - 1 + 1 ≡ len = omega arith in
     let value = digit_value-at ds (len - 1) digits (omega arith) in
     let range = digit_at ds (len - 1) digits (omega arith) in
     let last : digits_value_after 10 n (take len ds) ≡ digits_value_after 10 n (take (len - 1) ds) * 10 + digit_value (get_or ds (len - 1) 0) =
-    ap (λ k. digits_value_after 10 n (take k ds)) (sym front) ∙ digits_value_after-more n ds (len - 1) (omega arith) in
+    ap (λ k. digits_value_after 10 n (take k ds)) (sym prefix) ∙ digits_value_after-more n ds (len - 1) (omega arith) in
     omega arith
 
 -- the digits of two lists in one
-pub ruleset appends = (AllDigits-append, AllDigits-front, AllDigits-back)
+pub ruleset appends = (AllDigits-append, AllDigits-prefix, AllDigits-back)
 
 -- where no place is kept, the zeros of the places come after those of the whole part
-pub zeros_of_both : (whole places : List ℕ) (front : ℕ) → ((n : ℕ) → digits_value_after 10 n places ≡ digits_value_after 10 n (take 0 places) * 10 ^ (length places - 0)) → ((n : ℕ) → digits_value_after 10 n whole ≡ digits_value_after 10 n (take front whole) * 10 ^ (length whole - front)) → digits_value_after 10 0 (whole ++ places) ≡ digits_value_after 10 0 (take front whole) * 10 ^ (length places - 0 + (length whole - front))
-zeros_of_both whole places front no_places zeros =
-    let number = digits_value_after 10 0 (take front whole) in
-    let tens : 10 ^ (length places - 0 + (length whole - front)) ≡ 10 ^ (length places - 0) * 10 ^ (length whole - front) = pow-add 10 (length places - 0) (length whole - front) in
+pub zeros_of_both : (whole places : List ℕ) (prefix : ℕ) → ((n : ℕ) → digits_value_after 10 n places ≡ digits_value_after 10 n (take 0 places) * 10 ^ (length places - 0)) → ((n : ℕ) → digits_value_after 10 n whole ≡ digits_value_after 10 n (take prefix whole) * 10 ^ (length whole - prefix)) → digits_value_after 10 0 (whole ++ places) ≡ digits_value_after 10 0 (take prefix whole) * 10 ^ (length places - 0 + (length whole - prefix))
+zeros_of_both whole places prefix no_places zeros =
+    let number = digits_value_after 10 0 (take prefix whole) in
+    let tens : 10 ^ (length places - 0 + (length whole - prefix)) ≡ 10 ^ (length places - 0) * 10 ^ (length whole - prefix) = pow-add 10 (length places - 0) (length whole - prefix) in
     digits_value_after-append 0 whole places ∙ no_places (digits_value_after 10 0 whole) ∙ ap (λ x. x * 10 ^ (length places - 0)) (zeros 0) ∙ sym (ap (λ x. number * x) tens ∙ omega arith)
 
 -- otherwise the whole part is kept
@@ -107,8 +107,8 @@ zeros_of_places whole places kept zeros =
     ∙ ap (λ k. digits_value_after 10 (digits_value_after 10 0 whole) (take kept places) * 10 ^ k) no_more)
 
 -- no digit writes 0, and any digits end in one that isn't `0`
-pub last-of_front : (ds : List ℕ) (len : ℕ) → AllDigits 10 ds → len ≤ length ds → (0 < len → get_or ds (len - 1) 0 ≢ 48) → digits_value_after 10 0 (take len ds) ≢ 0 → digits_value_after 10 0 (take len ds) % 10 ≢ 0
-last-of_front ds len digits within other some =
+pub last-of_prefix : (ds : List ℕ) (len : ℕ) → AllDigits 10 ds → len ≤ length ds → (0 < len → get_or ds (len - 1) 0 ≢ 48) → digits_value_after 10 0 (take len ds) ≢ 0 → digits_value_after 10 0 (take len ds) % 10 ≢ 0
+last-of_prefix ds len digits within other some =
     elim (cases_lt 0 len) [
       | inl above ↦ last-nonzero 0 ds len digits above within (other above)
       | inr none ↦ absurd (some (ap (λ k. digits_value_after 10 0 (take k ds)) (let nothing : len ≡ 0 = omega arith in nothing)))

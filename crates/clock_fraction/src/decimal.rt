@@ -61,9 +61,9 @@ fn fraction_of(whole: &[u8], places: &[u8], power: &[u8], has_minus: bool) -> Op
         (length places.now + (if has_minus then digits_value 10 power.now else 0)) k fraction
         → result ≡ Some fraction }
 {
-    let (front, kept) = significant_parts(whole, places);
-    let number = read_digits(read_digits(0, &whole[..front]), &places[..kept]);
-    let zeros = (places.len() - kept) as u128 + (whole.len() - front) as u128;
+    let (prefix, kept) = significant_parts(whole, places);
+    let number = read_digits(read_digits(0, &whole[..prefix]), &places[..kept]);
+    let zeros = (places.len() - kept) as u128 + (whole.len() - prefix) as u128;
     let tens = read_digits(0, power);
     if has_minus {
         shortest_fraction(number, zeros, places.len() as u128 + tens)
@@ -94,14 +94,14 @@ fn significant_parts(whole: &[u8], places: &[u8]) -> (usize, usize)
 
 fn split_at_mark(body: &[u8]) -> (&[u8], &[u8])
     ensures before { result.0.now ≡ before_first is_mark body.now }
-    ensures behind { result.1.now ≡ after_first is_mark body.now }
+    ensures after { result.1.now ≡ after_first is_mark body.now }
 {
     split_at(body, place_of_mark(body))
 }
 
 fn split_at_point(mantissa: &[u8]) -> (&[u8], &[u8])
     ensures before { result.0.now ≡ before_first is_point mantissa.now }
-    ensures behind { result.1.now ≡ after_first is_point mantissa.now }
+    ensures after { result.1.now ≡ after_first is_point mantissa.now }
 {
     split_at(mantissa, place_of_point(mantissa))
 }
@@ -136,7 +136,7 @@ fn find_point(mantissa: &[u8]) -> Option<usize>
 fn split_at(bytes: &[u8], place: usize) -> (&[u8], &[u8])
     requires { place ≤ length bytes.now }
     ensures before { result.0.now ≡ take place bytes.now }
-    ensures behind { result.1.now ≡ drop (place + 1) bytes.now }
+    ensures after { result.1.now ≡ drop (place + 1) bytes.now }
 {
     if place < bytes.len() {
         (&bytes[..place], &bytes[place + 1..])

@@ -28,7 +28,7 @@ use Rattle.system_model.specs.declared.system.Role.TheVariants.{TimeClock}
 use Rattle.system_model.specs.declared.system.System.{System}
 use Rattle.system_model.specs.declared.system.Timing.{Timing}
 use Rattle.system_model.specs.declared.system.Timing.TheVariants.{Answered, Changing, Countdown}
-use Rattle.system_model.specs.Ports.{is_clock_role, numbers}
+use Rattle.system_model.specs.Ports.{is_clock_role, port_numbers}
 use Rattle.system_model.specs.Sound.{IsSound}
 use Rattle.system_model.proofs.CallerLemmas.{Placed, events_of, place_of}
 use Rattle.run_model.specs.Equations.{timer_of}
@@ -42,7 +42,7 @@ use Rattle.slot_calls.proofs.CallerLemmas.{part_append, part_own}
 use Rattle.event_iteration.specs.Clocks.{AreTicks}
 use Rattle.event_iteration.specs.Explains.{Explains, all_said, call_at, said}
 use Rattle.event_iteration.specs.Instants.{in_instant, takes_in_instant, tick_value}
-use Rattle.event_iteration.specs.Intervals.{Rearms, asks_interval, first_told, first_told_by, first_told_in, interval_by, intervals, is_some_armed, log_behind, shift_by, timer_behind, timers_behind_from}
+use Rattle.event_iteration.specs.Intervals.{Rearms, asks_interval, first_told, first_told_by, first_told_in, interval_by, intervals, is_some_armed, log_after, shift_by, timer_after, timers_after_from}
 use Rattle.event_iteration.specs.Settings.{port_order}
 use Rattle.event_iteration.specs.Turns.{IsPaired, sent_of}
 use Rattle.event_iteration.specs.WalkCalls.{has_events_at}
@@ -89,7 +89,7 @@ told_armable role per_second start log point h = absurd (cc)
 armable_in : (per_second start : ℕ) (ports : List Port) (log : List Sent) (p point : ℕ) (port : Port) → slice_get ports p ≡ Some port → slice_get (first_told_in per_second start ports log) p ≡ Some (Once point) → IsArmable port.role
 armable_in per_second start [] log p point port is h = absurd (cc)
 armable_in per_second start (x ∷ ports) log zero point port is h = subst (λ (y : Port). IsArmable y.role) (same_Some _ _ is) (told_armable x.role per_second start log point (same_Some _ _ h))
-armable_in per_second start (x ∷ ports) log (suc p) point port is h = armable_in per_second start ports (log_behind x.role log) p point port is h
+armable_in per_second start (x ∷ ports) log (suc p) point port is h = armable_in per_second start ports (log_after x.role log) p point port is h
 
 pub first_armable : (system : System) (per_second start : ℕ) (log : List Sent) → AreArmable system (first_told per_second start system log)
 first_armable system per_second start log p port point at_port at = armable_in per_second start system.ports log p point port at_port at
@@ -97,7 +97,7 @@ first_armable system per_second start log p port point at_port at = armable_in p
 -- ---- in an instant
 
 pub instant_takes : (system : System) (sound : IsSound system) (start t n : ℕ) (timers : List Timer) (ticks : ℕ → Bool) (before values : List (Option ℤ)) (log : List Sent) → AreTicks system start timers t n ticks →
-    Explains system (in_instant ticks (n == 0)) before (numbers system.instant_order) values log → AreTaken system t values timers
+    Explains system (in_instant ticks (n == 0)) before (port_numbers system.instant_order) values log → AreTaken system t values timers
 instant_takes system sound start t n timers ticks before values log are explains p port at sort armed = by sort where
   by_timing : (timing : Timing) → port.role ≡ TimeClock timing → is_active (value values p) ≡ true
   by_timing timing role =
@@ -147,7 +147,7 @@ some_once t (Once point ∷ timers) h = by (point == t) refl h (some_once t time
   by true same h more = (0, ap (λ (x : ℕ). Some (Once x)) (is_equal point t same))
   by false other h more = let m = more h in (suc m.0, m.1)
 
-armable_or : (role : Role) (per_second t : ℕ) (v : Option ℤ) (reply : Option Reply) (timer old : Timer) → timer ≡ timer_behind role per_second t v reply old → IsArmable role ⊎ (timer ≡ old)
+armable_or : (role : Role) (per_second t : ℕ) (v : Option ℤ) (reply : Option Reply) (timer old : Timer) → timer ≡ timer_after role per_second t v reply old → IsArmable role ⊎ (timer ≡ old)
 armable_or (TimeClock Countdown) per_second t v reply timer old h = inl (inl refl)
 armable_or (TimeClock Changing) per_second t v reply timer old h = inl (inr refl)
 armable_or role per_second t v reply timer old h = inr h
@@ -172,37 +172,37 @@ module _ (system : System) (sound : IsSound system) (per_second t : ℕ) (values
   replies = rearms.explains.replies
 
   -- the timer of a port, by that before it
-  record IsBehind (p : ℕ) (ports : List Port) (before : List Timer) (j : ℕ) (timer : Timer) : Type 0 where
+  record IsAfter (p : ℕ) (ports : List Port) (before : List Timer) (j : ℕ) (timer : Timer) : Type 0 where
     port : Port
     old : Timer
     port_at : slice_get ports j ≡ Some port
     old_at : slice_get before j ≡ Some old
-    is : timer ≡ timer_behind port.role per_second t (value values (p + j)) (replies (p + j)) old
+    is : timer ≡ timer_after port.role per_second t (value values (p + j)) (replies (p + j)) old
 
-  behind_at : (p : ℕ) (ports : List Port) (olds : List Timer) (j : ℕ) (timer : Timer) → slice_get (timers_behind_from per_second t values replies p ports olds) j ≡ Some timer → IsBehind p ports olds j timer
-  behind_at p [] olds j timer h = absurd (cc)
-  behind_at p (port ∷ ports) [] j timer h = absurd (cc)
-  behind_at p (port ∷ ports) (old ∷ olds) zero timer h = record {
+  after_at : (p : ℕ) (ports : List Port) (olds : List Timer) (j : ℕ) (timer : Timer) → slice_get (timers_after_from per_second t values replies p ports olds) j ≡ Some timer → IsAfter p ports olds j timer
+  after_at p [] olds j timer h = absurd (cc)
+  after_at p (port ∷ ports) [] j timer h = absurd (cc)
+  after_at p (port ∷ ports) (old ∷ olds) zero timer h = record {
     port = port;
     old = old;
     port_at = refl;
     old_at = refl;
-    is = subst (λ (q : ℕ). timer ≡ timer_behind port.role per_second t (value values q) (replies q) old) (omega arith) (sym (same_Some _ _ h));
+    is = subst (λ (q : ℕ). timer ≡ timer_after port.role per_second t (value values q) (replies q) old) (omega arith) (sym (same_Some _ _ h));
   }
-  behind_at p (port ∷ ports) (old ∷ olds) (suc j) timer h =
-      let b = behind_at (suc p) ports olds j timer h in
+  after_at p (port ∷ ports) (old ∷ olds) (suc j) timer h =
+      let b = after_at (suc p) ports olds j timer h in
       record {
         port = b.port;
         old = b.old;
         port_at = b.port_at;
         old_at = b.old_at;
-        is = subst (λ (q : ℕ). timer ≡ timer_behind b.port.role per_second t (value values q) (replies q) b.old) (let e : suc p + j ≡ p + suc j = omega arith in e) b.is;
+        is = subst (λ (q : ℕ). timer ≡ timer_after b.port.role per_second t (value values q) (replies q) b.old) (let e : suc p + j ≡ p + suc j = omega arith in e) b.is;
       }
 
-  here_behind : (p : ℕ) (timer : Timer) → slice_get news p ≡ Some timer → IsBehind 0 system.ports olds p timer
-  here_behind p timer at = behind_at 0 system.ports olds p timer (ap (λ (l : List Timer). slice_get l p) (sym rearms.timers_are) ∙ at)
+  here_after : (p : ℕ) (timer : Timer) → slice_get news p ≡ Some timer → IsAfter 0 system.ports olds p timer
+  here_after p timer at = after_at 0 system.ports olds p timer (ap (λ (l : List Timer). slice_get l p) (sym rearms.timers_are) ∙ at)
 
-  is_armable : (p point : ℕ) (b : IsBehind 0 system.ports olds p (Once point)) → IsArmable b.port.role
+  is_armable : (p point : ℕ) (b : IsAfter 0 system.ports olds p (Once point)) → IsArmable b.port.role
   is_armable p point b = by (armable_or b.port.role per_second t (value values (0 + p)) (replies (0 + p)) (Once point) b.old b.is) where
     by : IsArmable b.port.role ⊎ (Once point ≡ b.old) → IsArmable b.port.role
     by (inl is) = is
@@ -210,7 +210,7 @@ module _ (system : System) (sound : IsSound system) (per_second t : ℕ) (values
 
   pub rearmed_armable : AreArmable system news
   rearmed_armable p port point at_port at =
-      let b = here_behind p (Once point) at in
+      let b = here_after p (Once point) at in
       subst (λ (x : Port). IsArmable x.role) (same_Some _ _ (sym b.port_at ∙ at_port)) (is_armable p point b)
 
   -- what is said for one of the ports is among what is said for all
@@ -285,11 +285,11 @@ module _ (system : System) (sound : IsSound system) (per_second t : ℕ) (values
         let among_order = (in_order system).each p (slice_get_within system.ports p port at) in
         by_reply (replies p) (subst (λ (o : Option Call). IsPaired changing_placed.component.shape o (replies p)) (asks_when true active) (rearms.explains.paired p port changing_placed.component at changing_placed.is.of among_order)) h
 
-  timer_here : (p : ℕ) (b : IsBehind 0 system.ports olds p (Once t)) (r : Role) → b.port.role ≡ r → Once t ≡ timer_behind r per_second t (value values p) (replies p) b.old
-  timer_here p b r role = subst (λ (x : Role). Once t ≡ timer_behind x per_second t (value values p) (replies p) b.old) role
-      (subst (λ (q : ℕ). Once t ≡ timer_behind b.port.role per_second t (value values q) (replies q) b.old) (let e : 0 + p ≡ p = omega arith in e) b.is)
+  timer_here : (p : ℕ) (b : IsAfter 0 system.ports olds p (Once t)) (r : Role) → b.port.role ≡ r → Once t ≡ timer_after r per_second t (value values p) (replies p) b.old
+  timer_here p b r role = subst (λ (x : Role). Once t ≡ timer_after x per_second t (value values p) (replies p) b.old) role
+      (subst (λ (q : ℕ). Once t ≡ timer_after b.port.role per_second t (value values q) (replies q) b.old) (let e : 0 + p ≡ p = omega arith in e) b.is)
 
-  armed_by : ((i : ℕ) (c : Component) → slice_get system.components i ≡ Some c → 0 < per_second) → ((i : ℕ) (c : Component) → slice_get system.components i ≡ Some c → c.shape.resolution ≡ per_second) → AreTaken system t values olds → (p : ℕ) (b : IsBehind 0 system.ports olds p (Once t)) →
+  armed_by : ((i : ℕ) (c : Component) → slice_get system.components i ≡ Some c → 0 < per_second) → ((i : ℕ) (c : Component) → slice_get system.components i ≡ Some c → c.shape.resolution ≡ per_second) → AreTaken system t values olds → (p : ℕ) (b : IsAfter 0 system.ports olds p (Once t)) →
       IsArmable b.port.role → IsArmed system log
   armed_by above counts taken p b (inl role) = by_interval above taken p b.port b.port_at role (interval_by (replies p)) refl b.old b.old_at (timer_here p b (TimeClock Countdown) role)
   armed_by above counts taken p b (inr role) = absurd (by_tick counts taken p b.port b.port_at role (is_active (value values p)) refl b.old b.old_at (timer_here p b (TimeClock Changing) role))
@@ -298,5 +298,5 @@ module _ (system : System) (sound : IsSound system) (per_second t : ℕ) (values
       IsArmed system log
   rearmed_armed above counts taken h =
       let some = some_once t news h in
-      let b = here_behind some.0 (Once t) some.1 in
+      let b = here_after some.0 (Once t) some.1 in
       armed_by above counts taken some.0 b (is_armable some.0 t b)

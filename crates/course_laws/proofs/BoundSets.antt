@@ -5,7 +5,7 @@ use Rattle.std.specs.List.{AllByRecursion, AllZip, IsDistinct}
 use Rattle.std.proofs.lemmas.Bool.Decides.{nat_tests}
 use Rattle.std.proofs.lemmas.List.Elements.{All-cons, All-head, All-map, All-nil, All-tail, All-weaker}
 use Rattle.fmi_calls.specs.declared.call.Call.{Call}
-use Rattle.fmu_peer.specs.Lean.{NoneTwiceBehind, without_value}
+use Rattle.fmu_peer.specs.Lean.{NoneTwiceAfter, without_value}
 use Rattle.system_model.specs.declared.bound.Bound.{Bound}
 use Rattle.system_model.specs.declared.bound.BoundValue.{BoundValue}
 use Rattle.system_model.specs.declared.system.Component.{Component}
@@ -38,7 +38,7 @@ free_more b (x ∷ values) seen distinct all =
     All-cons (IsFree (set_call b ∷ seen)) x values (All-cons (λ (c : Call). without_value c ≡ without_value (set_call x) → ⊥) (set_call b) seen (differ b x distinct.0) (All-head (IsFree seen) x values all))
     (free_more b values seen distinct.1 (All-tail (IsFree seen) x values all))
 
-sets_once : (values : List BoundValue) (seen : List Call) → IsDistinct nat_eq (map (λ (b : BoundValue). b.reference) values) → All (IsFree seen) values → NoneTwiceBehind seen (map set_call values)
+sets_once : (values : List BoundValue) (seen : List Call) → IsDistinct nat_eq (map (λ (b : BoundValue). b.reference) values) → All (IsFree seen) values → NoneTwiceAfter seen (map set_call values)
 unfolding IsDistinct
 sets_once [] seen distinct all = tt
 sets_once (b ∷ values) seen distinct all = ((λ once. All-head (IsFree seen) b values all), sets_once values (set_call b ∷ seen) distinct.1 (free_more b values seen distinct.0 (All-tail (IsFree seen) b values all)))

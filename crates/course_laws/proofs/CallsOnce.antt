@@ -24,10 +24,10 @@ use Rattle.system_model.specs.Text.{Instant}
 use Rattle.system_model.specs.EarlyReturn.{early_count}
 use Rattle.run_model.specs.Stepping.{asked_first}
 use Rattle.slot_calls.specs.declared.bad_answer.BadAnswer.{BadAnswer}
-use Rattle.slot_calls.specs.Log.{Asking, Sent, askings, part}
+use Rattle.slot_calls.specs.Log.{ComponentCall, Sent, component_calls, part}
 use Rattle.slot_calls.specs.Stage.{IsAnswered, StopsAt, everyone, has_events, shapes_of, to_each, to_those}
 use Rattle.slot_calls.proofs.CallerLemmas.{other}
-use Rattle.event_iteration.specs.WalkCalls.{Front, UsesAre, WalksBy, Whole, has_events_at, initial_span, instant_span, interval_span, own, step_span, timing_span}
+use Rattle.event_iteration.specs.WalkCalls.{Prefix, UsesAre, WalksBy, Whole, has_events_at, initial_span, instant_span, interval_span, own, step_span, timing_span}
 use Rattle.event_iteration.proofs.ByLog.{Differ, each_call_once, own_append}
 use Rattle.step_agreement.specs.Agreement.{Fails, Meets, Outcome, Stand, Unfit, are_at, stand_by, stands_by}
 use Rattle.fmu_peer.specs.Talk.{calls_in}
@@ -35,15 +35,15 @@ use Rattle.step_agreement.specs.Saving.{is_saved}
 use Rattle.step_agreement.proofs.CallerLemmas.{Alternates, all_there, alternates_from}
 use Rattle.rollback.specs.StepsBy.{all_at}
 use Rattle.calling_sequence.specs.Calls.{entering_step, keeping, leaving, making, restoring}
-use Rattle.calling_sequence.specs.Course.{Again, Agreed, Agreeing, Before, Configured, Course, CourseIn, Departing, Entered, Exits, Extent, Found, FromHeld, GoesOn, LeadsTo, Leaves, Leaving, Left, Made, Place, Read, Rearmed, Restored, Resumes, Saved, Saves, Seen, Sets, Short, Spot, Stepped, Stopping, Timed, Way, Whole, first_of, part_at}
+use Rattle.calling_sequence.specs.Course.{Again, Agreed, Agreeing, Before, Configured, Course, CourseIn, Departing, Entered, Exits, Extent, Found, FromHeld, GoesOn, InstantDone, LeadsTo, Leaves, Leaving, Left, Made, Place, Read, Rearmed, Restored, Resumes, Saved, Saves, Sets, Short, Spot, Stepped, Stopping, Timed, Way, Whole, first_of, part_at}
 use Rattle.calling_sequence.specs.Holding.{holding}
 use Rattle.calling_sequence.specs.Parts.{Agreement, AllAgree, Calls, Does, Falls, Part, Round, Walk}
-use Rattle.calling_sequence.proofs.Along.{along}
+use Rattle.calling_sequence.proofs.CourseInduction.{along}
 use Rattle.course_laws.specs.Laws.{AreNeeded, NoCallTwice}
 use Rattle.course_laws.specs.Runs.{BackBadly, BackFalling, BackStands, Comes, ComesAnyhow, Falling, Holding, HoldingBadly, MayBack, Stands, Unmade, Wholly}
 use Rattle.course_laws.proofs.BoundSets.{binding_new, setting_span}
-use Rattle.course_laws.proofs.LastSteps.{ends_from, falls_from, stand_behind}
-use Rattle.course_laws.proofs.Once.{IsBefore, IsBelow, IsSeen, IsSo, Keep, Limit, NamesNone, NamesPort, called, differ_by, named, needed, needed_front, open_by, Open, switched, weaker}
+use Rattle.course_laws.proofs.LastSteps.{ends_from, falls_from, stand_after}
+use Rattle.course_laws.proofs.Once.{IsBefore, IsBelow, IsSeen, CallsSince, Keep, Limit, NamesNone, NamesPort, called, differ_by, named, needed, needed_prefix, open_by, Open, switched, weaker}
 use Rattle.course_laws.proofs.OwnCalls.{own_calls, own_log, own_there}
 use Rattle.course_laws.proofs.Triples.{own_keeping, own_restoring}
 use Rattle.course_laws.proofs.RoundCalls.{IsSomehow, free_runs, freed_kept, rounds_so, save_runs}
@@ -159,7 +159,7 @@ limit_at e (Timed timers) = limit initial_kinds 0 4
 limit_at e (Before s ticks) = limit point_kinds s.t (instant_span (s.n == 0) e.events).from
 limit_at e (Read s) = limit point_kinds s.t (instant_span (s.n == 0) e.events).below
 limit_at e (Rearmed s) = limit point_kinds s.t (interval_span e.events).below
-limit_at e (Seen s again asked) = limit point_kinds s.t (below_seen e.events)
+limit_at e (InstantDone s again asked) = limit point_kinds s.t (below_seen e.events)
 limit_at e (Leaving w) = limit point_kinds w.s.t (below_seen e.events)
 limit_at e (Left w) = limit leaving_kinds w.s.t (below_seen e.events)
 limit_at e (Departing w) = limit leaving_kinds w.s.t (step_span e.events).below
@@ -170,24 +170,24 @@ limit_at e (Stepped s asked) = limit stepped_kinds s.t 1
 limit_at e (Restored s) = limit leaving_kinds s.t (below_seen e.events)
 
 -- and after what is sent from there
-abbrev limit_behind : Traits → Plan → Place → Limit
-limit_behind e plan Made = limit_at e Configured
-limit_behind e plan Configured = limit_at e Entered
-limit_behind e plan Entered = limit_at e (Found [])
-limit_behind e plan (Found values) = limit initial_kinds 0 4
-limit_behind e plan (Timed timers) = limit point_kinds plan.start (instant_span true e.events).from
-limit_behind e plan (Before s ticks) = limit_at e (Read s)
-limit_behind e plan (Read s) = limit_at e (Rearmed s)
-limit_behind e plan (Rearmed s) = limit point_kinds s.t (below_seen e.events)
-limit_behind e plan (Seen s again asked) = limit point_kinds s.t (below_seen e.events)
-limit_behind e plan (Leaving w) = limit_at e (Left w)
-limit_behind e plan (Left w) = limit_at e (Departing w)
-limit_behind e plan (Departing w) = limit_at e (Saved w)
-limit_behind e plan (Saved w) = limit saved_kinds (suc w.s.t) (step_span e.events).below
-limit_behind e plan (Short w component end) = limit_at e (Short w component end)
-limit_behind e plan (Agreed w point asked) = limit stepped_kinds point 1
-limit_behind e plan (Stepped s asked) = limit point_kinds s.t (instant_span true e.events).from
-limit_behind e plan (Restored s) = limit_at e (Restored s)
+abbrev limit_after : Traits → Plan → Place → Limit
+limit_after e plan Made = limit_at e Configured
+limit_after e plan Configured = limit_at e Entered
+limit_after e plan Entered = limit_at e (Found [])
+limit_after e plan (Found values) = limit initial_kinds 0 4
+limit_after e plan (Timed timers) = limit point_kinds plan.start (instant_span true e.events).from
+limit_after e plan (Before s ticks) = limit_at e (Read s)
+limit_after e plan (Read s) = limit_at e (Rearmed s)
+limit_after e plan (Rearmed s) = limit point_kinds s.t (below_seen e.events)
+limit_after e plan (InstantDone s again asked) = limit point_kinds s.t (below_seen e.events)
+limit_after e plan (Leaving w) = limit_at e (Left w)
+limit_after e plan (Left w) = limit_at e (Departing w)
+limit_after e plan (Departing w) = limit_at e (Saved w)
+limit_after e plan (Saved w) = limit saved_kinds (suc w.s.t) (step_span e.events).below
+limit_after e plan (Short w component end) = limit_at e (Short w component end)
+limit_after e plan (Agreed w point asked) = limit stepped_kinds point 1
+limit_after e plan (Stepped s asked) = limit point_kinds s.t (instant_span true e.events).from
+limit_after e plan (Restored s) = limit_at e (Restored s)
 
 -- the bound of a step is a later point
 abbrev pub IsLater : Place → Type 0
@@ -249,15 +249,15 @@ module _ (system : System) (sound : IsSound system) (k : ℕ) (c : Component) (o
   uses = each_call_once system sound
 
   abbrev mine : List Sent → List Call
-  mine log = own k (askings log)
+  mine log = own k (component_calls log)
 
   own_each : (call : Shape → Call) → own k (to_each call (shapes_of system)) ≡ call c.shape ∷ []
   own_each call = own_there everyone call system k c of
 
-  made_so : (link : ℕ) → IsSo (limit_at e Made) (own k (making link system))
+  made_so : (link : ℕ) → CallsSince (limit_at e Made) (own k (making link system))
   made_so link =
       let call = instantiate_of link c.shape in
-      subst (IsSo (limit_at e Made)) (sym (own_each (instantiate_of link))) (record {
+      subst (CallsSince (limit_at e Made)) (sym (own_each (instantiate_of link))) (record {
         runs = All-cons IsRunCall call [] refl (All-nil IsRunCall);
         once = ((λ once. All-nil _), tt);
         seen = All-cons (IsSeen (limit_at e Made)) call [] (NamesNone refl refl tt) (All-nil (IsSeen (limit_at e Made)));
@@ -267,21 +267,21 @@ module _ (system : System) (sound : IsSound system) (k : ℕ) (c : Component) (o
 
   -- what a part adds to the calls
   abbrev Adds : Part → List Call → Limit → Type 0
-  Adds (Calls cs) calls l = IsSo l (calls ++ own k cs)
-  Adds (Round cs) calls l = IsSo l (calls ++ own k cs)
-  Adds (Walk rules before order) calls l = (log : List Sent) → WalksBy system rules before order log → IsSo l (calls ++ mine log)
+  Adds (Calls cs) calls l = CallsSince l (calls ++ own k cs)
+  Adds (Round cs) calls l = CallsSince l (calls ++ own k cs)
+  Adds (Walk rules before order) calls l = (log : List Sent) → WalksBy system rules before order log → CallsSince l (calls ++ mine log)
   Adds (Agreement t step b) calls l = (log : List Sent) (o : Outcome) → AllAgree system t step b log o → AreNeeded (calls ++ mine log)
 
   -- and what then holds of them
   abbrev AddedBy : Part → List Call → Limit → Type 0
   AddedBy (Agreement t step b) calls l = Unit {0}
-  AddedBy part calls l = IsSo l calls
+  AddedBy part calls l = CallsSince l calls
 
   -- the calls up to a place; in a step some size may be kept
   abbrev AtPlace : Place → List Call → Type 0
   AtPlace (Short w component end) calls = IsSomehow (limit_at e (Saved w)) (limit_at e (Short w component end)) calls
   AtPlace (Agreed w point asked) calls = IsSomehow (limit_at e (Saved w)) (limit_at e (Agreed w point asked)) calls
-  AtPlace p calls = IsSo (limit_at e p) calls
+  AtPlace p calls = CallsSince (limit_at e p) calls
 
   -- those of an agreement
   module _ (t step b : ℕ) (later : t < b) (log : List Sent) (o : Outcome) (agrees : AllAgree system t step b log o) where
@@ -300,7 +300,7 @@ module _ (system : System) (sound : IsSound system) (k : ℕ) (c : Component) (o
     begun : (m : ℕ) → are_at m (stands_by t (all_at t (shapes_of system)) log) ≡ true → t < m → mine log ≡ [] → ⊥
     begun m there after none =
         let empty : part k log ≡ [] = no_exchange (part k log) (own_calls k log ∙ none) in
-        let now : (stand_by t stand.0 (part k log)).point ≡ m = all_there m (stands_by t (all_at t (shapes_of system)) log) there k (stand_by t stand.0 (part k log)) (stand_behind t (all_at t (shapes_of system)) log k stand.0 stand.1) in
+        let now : (stand_by t stand.0 (part k log)).point ≡ m = all_there m (stands_by t (all_at t (shapes_of system)) log) there k (stand_by t stand.0 (part k log)) (stand_after t (all_at t (shapes_of system)) log k stand.0 stand.1) in
         let still : (stand_by t stand.0 (part k log)).point ≡ stand.0.point = ap (λ (es : List Exchange). (stand_by t stand.0 es).point) empty in
         let home = stand.2 in
         absurd (omega (arith, now, still, home, after)) where
@@ -308,7 +308,7 @@ module _ (system : System) (sound : IsSound system) (k : ℕ) (c : Component) (o
           no_exchange [] h = refl
           no_exchange (x ∷ es) h = absurd (cc)
 
-    module _ (calls : List Call) (w : Way) (at : w.s.t ≡ t) (so : IsSo (limit_at e (Saved w)) calls) where
+    module _ (calls : List Call) (w : Way) (at : w.s.t ≡ t) (so : CallsSince (limit_at e (Saved w)) calls) where
       kept_is : (x : Bool) → e.saved ≡ x → ((limit_at e (Saved w)).kept ≡ None) ⊎ ((limit_at e (Saved w)).kept ≡ Some None)
       kept_is true is = inr (ap kept_by is)
       kept_is false is = inl (ap kept_by is)
@@ -327,14 +327,14 @@ module _ (system : System) (sound : IsSound system) (k : ℕ) (c : Component) (o
 
   module _ (bound : Bound) (plan : Plan) (binds : BindsParameters system bound) where
     -- one call to those whose shape passes a test
-    to_some : (test : Shape → Bool) (l m : Limit) (calls : List Call) → IsSo l calls → (call : Call) → IsRunCall call → (may_repeat call ≡ false → (c : Call) → IsSeen l c → Differ c call) → IsSeen m call → (moves_on call ≡ false → Keep l m) →
-        IsBelow call l.kept → (test c.shape ≡ false → Keep l m) → (if test c.shape then open_by call l.kept else l.kept) ≡ m.kept → IsSo m (calls ++ own k (to_those test (λ (shape : Shape). call) (shapes_of system)))
+    to_some : (test : Shape → Bool) (l m : Limit) (calls : List Call) → CallsSince l calls → (call : Call) → IsRunCall call → (may_repeat call ≡ false → (c : Call) → IsSeen l c → Differ c call) → IsSeen m call → (moves_on call ≡ false → Keep l m) →
+        IsBelow call l.kept → (test c.shape ≡ false → Keep l m) → (if test c.shape then open_by call l.kept else l.kept) ≡ m.kept → CallsSince m (calls ++ own k (to_those test (λ (shape : Shape). call) (shapes_of system)))
     to_some test l m calls so call run other is stays below h kept =
-        subst (λ (cs : List Call). IsSo m (calls ++ cs)) (sym (own_there test (λ (shape : Shape). call) system k c of)) (switched l m calls so (test c.shape) call run other is stays below h kept)
+        subst (λ (cs : List Call). CallsSince m (calls ++ cs)) (sym (own_there test (λ (shape : Shape). call) system k c of)) (switched l m calls so (test c.shape) call run other is stays below h kept)
 
     -- to each one that moves it on
-    to_all : (l m : Limit) (calls : List Call) → IsSo l calls → (call : Call) → IsRunCall call → ((c : Call) → IsSeen l c → Differ c call) → moves_on call ≡ true → IsSeen m call → IsBelow call l.kept → open_by call l.kept ≡ m.kept →
-        IsSo m (calls ++ own k (to_each (λ (shape : Shape). call) (shapes_of system)))
+    to_all : (l m : Limit) (calls : List Call) → CallsSince l calls → (call : Call) → IsRunCall call → ((c : Call) → IsSeen l c → Differ c call) → moves_on call ≡ true → IsSeen m call → IsBelow call l.kept → open_by call l.kept ≡ m.kept →
+        CallsSince m (calls ++ own k (to_each (λ (shape : Shape). call) (shapes_of system)))
     to_all l m calls so call run other moves is below kept = to_some everyone l m calls so call run (λ once. other) is (λ none. absurd (let wrong : true ≡ false = sym moves ∙ none in cc)) below (λ none. absurd (cc)) kept
 
     has_its : has_events_at system k ≡ c.shape.has_event_mode
@@ -345,8 +345,8 @@ module _ (system : System) (sound : IsSound system) (k : ℕ) (c : Component) (o
     same_open false o = refl
 
     -- or to those with event mode
-    to_events : (l m : Limit) (calls : List Call) → IsSo l calls → (call : Call) → IsRunCall call → (may_repeat call ≡ false → (c : Call) → IsSeen l c → Differ c call) → moves_on call ≡ true → IsSeen m call → (e.events ≡ false → Keep l m) →
-        IsBelow call l.kept → open_by call l.kept ≡ l.kept → l.kept ≡ m.kept → IsSo m (calls ++ own k (to_those has_events (λ (shape : Shape). call) (shapes_of system)))
+    to_events : (l m : Limit) (calls : List Call) → CallsSince l calls → (call : Call) → IsRunCall call → (may_repeat call ≡ false → (c : Call) → IsSeen l c → Differ c call) → moves_on call ≡ true → IsSeen m call → (e.events ≡ false → Keep l m) →
+        IsBelow call l.kept → open_by call l.kept ≡ l.kept → l.kept ≡ m.kept → CallsSince m (calls ++ own k (to_those has_events (λ (shape : Shape). call) (shapes_of system)))
     to_events l m calls so call run other moves is h below same kept =
         to_some has_events l m calls so call run other is (λ none. absurd (let wrong : true ≡ false = sym moves ∙ none in cc)) below (λ none. h (has_its ∙ none))
         (ap (λ (o : Open). if c.shape.has_event_mode then o else l.kept) same ∙ same_open c.shape.has_event_mode l.kept ∙ kept)
@@ -354,7 +354,7 @@ module _ (system : System) (sound : IsSound system) (k : ℕ) (c : Component) (o
     -- from before an end that nothing is sent from there is nothing to say
     abbrev AddsAt : Place → List Call → Type 0
     AddsAt (Short w component end) calls = Unit {0}
-    AddsAt p calls = Adds (part_at system bound plan p) calls (limit_behind e plan p)
+    AddsAt p calls = Adds (part_at system bound plan p) calls (limit_after e plan p)
 
     adds : (p : Place) (calls : List Call) → IsLater p → AtPlace p calls → AddsAt p calls
     adds Made calls later so = named (limit_at e Made) setting_span calls _ so (omega arith) (omega arith) (binding_new system bound k binds)
@@ -365,15 +365,15 @@ module _ (system : System) (sound : IsSound system) (k : ℕ) (c : Component) (o
     adds (Found values) calls later so = named (limit_at e (Found values)) timing_span calls _ so (omega arith) (omega arith) (uses.timing k)
     adds (Timed timers) calls later so =
         let l = limit_at e (Timed timers) in
-        to_all l (limit_behind e plan (Timed timers)) calls so C.ExitInitialization refl (differ_by l C.ExitInitialization refl refl) refl (NamesNone refl refl tt) tt refl
+        to_all l (limit_after e plan (Timed timers)) calls so C.ExitInitialization refl (differ_by l C.ExitInitialization refl refl) refl (NamesNone refl refl tt) tt refl
     adds (Before s ticks) calls later so = λ log walks.
         named (limit_at e (Before s ticks)) (instant_span (s.n == 0) e.events) calls (mine log) so (omega arith) (instant_on (s.n == 0) e.events) (uses.instant ticks (s.n == 0) _ log walks k)
     adds (Read s) calls later so = λ log walks. let r = read_asked (s.n == 0) e.events in named (limit_at e (Read s)) (interval_span e.events) calls (mine log) so r.0 r.1 (uses.interval s.values _ log walks k)
     adds (Rearmed s) calls later so =
         let l = limit_at e (Rearmed s) in
-        let m = limit_behind e plan (Rearmed s) in
+        let m = limit_after e plan (Rearmed s) in
         to_events l m calls so C.Update refl (λ once. absurd (let wrong : true ≡ false = once in cc)) refl (NamesNone refl refl tt) (λ none. more_seen l m (λ kind is. is) refl (asked_seen e.events none)) tt refl refl
-    adds (Seen s again asked) calls later so = subst (IsSo (limit_at e (Seen s again asked))) (sym (append-nil calls)) so
+    adds (InstantDone s again asked) calls later so = subst (CallsSince (limit_at e (InstantDone s again asked))) (sym (append-nil calls)) so
     adds (Leaving w) calls later so =
         let l = limit_at e (Leaving w) in
         let m = limit_at e (Left w) in
@@ -393,71 +393,71 @@ module _ (system : System) (sound : IsSound system) (k : ℕ) (c : Component) (o
         to_some (is_saved (early_count (shapes_of system))) l n calls some.so C.Free free_runs (λ once. absurd (let wrong : true ≡ false = once in cc)) (NamesNone refl refl tt) (λ stays. more_seen l n (λ kind is. is) refl (omega arith)) tt (λ none. more_seen l n (λ kind is. is) refl (omega arith)) (freed_kept e.saved some.kept some.kept_so)
     adds (Stepped s true) calls later so =
         let l = limit_at e (Stepped s true) in
-        let m = limit_behind e plan (Stepped s true) in
-        subst (IsSo m) (sym (append-nil calls)) (weaker l m calls so (more_seen l m stepped_at_point refl (stepped_seen e.events)) refl)
+        let m = limit_after e plan (Stepped s true) in
+        subst (CallsSince m) (sym (append-nil calls)) (weaker l m calls so (more_seen l m stepped_at_point refl (stepped_seen e.events)) refl)
     adds (Stepped s false) calls later so =
         let l = limit_at e (Stepped s false) in
-        let m = limit_behind e plan (Stepped s false) in
+        let m = limit_after e plan (Stepped s false) in
         to_events l m calls so C.EnterEvent refl (λ once. differ_by l C.EnterEvent refl refl) refl (NamesNone refl refl tt) (λ none. more_seen l m stepped_at_point refl (stepped_seen e.events)) tt refl refl
-    adds (Restored s) calls later so = subst (IsSo (limit_at e (Restored s))) (sym (append-nil calls)) so
+    adds (Restored s) calls later so = subst (CallsSince (limit_at e (Restored s))) (sym (append-nil calls)) so
 
     added : (part : Part) (l : Limit) (calls : List Call) → Adds part calls l → (values : List (Option ℤ)) (log : List Sent) → Does system part values log → AddedBy part (calls ++ mine log) l
-    added (Calls cs) l calls a values log does = subst (λ (x : List Call). IsSo l (calls ++ x)) (sym (ap (own k) does.calls_are)) a
-    added (Round cs) l calls a values log does = subst (λ (x : List Call). IsSo l (calls ++ x)) (sym (ap (own k) does.calls_are)) a
+    added (Calls cs) l calls a values log does = subst (λ (x : List Call). CallsSince l (calls ++ x)) (sym (ap (own k) does.calls_are)) a
+    added (Round cs) l calls a values log does = subst (λ (x : List Call). CallsSince l (calls ++ x)) (sym (ap (own k) does.calls_are)) a
     added (Walk rules before order) l calls a values log does = a log (Whole values log does)
     added (Agreement t step b) l calls a values log does = tt
 
     -- up to one of the calls
-    stopped : (l : Limit) (calls : List Call) (cs : List Asking) (bad : BadAnswer) (log : List Sent) → IsSo l (calls ++ own k cs) → StopsAt (shapes_of system) cs bad log → AreNeeded (calls ++ mine log)
+    stopped : (l : Limit) (calls : List Call) (cs : List ComponentCall) (bad : BadAnswer) (log : List Sent) → CallsSince l (calls ++ own k cs) → StopsAt (shapes_of system) cs bad log → AreNeeded (calls ++ mine log)
     stopped l calls cs bad log so stops =
-        needed_front l calls (mine log) (own k stops.left) (subst (λ (x : List Call). IsSo l (calls ++ x)) (ap (own k) stops.calls_are ∙ own_append k (askings log) stops.left) so)
+        needed_prefix l calls (mine log) (own k stops.left) (subst (λ (x : List Call). CallsSince l (calls ++ x)) (ap (own k) stops.calls_are ∙ own_append k (component_calls log) stops.left) so)
 
     fallen : (part : Part) (l : Limit) (calls : List Call) → Adds part calls l → (bad : BadAnswer) (log : List Sent) → Falls system part bad log → AreNeeded (calls ++ mine log)
     fallen (Calls cs) l calls a bad log falls = stopped l calls cs bad log a falls
-    fallen (Round cs) l calls a bad log falls = needed l (calls ++ mine log) (subst (λ (x : List Call). IsSo l (calls ++ x)) (sym (ap (own k) falls.calls_are)) a)
-    fallen (Walk rules before order) l calls a bad log (values, falls) = needed l (calls ++ mine log) (a log (Front bad values log falls))
+    fallen (Round cs) l calls a bad log falls = needed l (calls ++ mine log) (subst (λ (x : List Call). CallsSince l (calls ++ x)) (sym (ap (own k) falls.calls_are)) a)
+    fallen (Walk rules before order) l calls a bad log (values, falls) = needed l (calls ++ mine log) (a log (Prefix bad values log falls))
     fallen (Agreement t step b) l calls a bad log agrees = a log (Fails bad) agrees
 
     none_stops : (bad : BadAnswer) (log : List Sent) → StopsAt (shapes_of system) [] bad log → ⊥
-    none_stops bad log stops = by stops.front (stops.calls_are ∙ ap (λ (l : List Sent). askings l ++ stops.left) stops.log_is) where
-      by : (front : List Sent) → [] ≡ askings (front ++ stops.last ∷ []) ++ stops.left → ⊥
+    none_stops bad log stops = by stops.prefix (stops.calls_are ∙ ap (λ (l : List Sent). component_calls l ++ stops.left) stops.log_is) where
+      by : (prefix : List Sent) → [] ≡ component_calls (prefix ++ stops.last ∷ []) ++ stops.left → ⊥
       by [] is = absurd (cc)
-      by (s ∷ front) is = absurd (cc)
+      by (s ∷ prefix) is = absurd (cc)
 
     fallen_at : (p : Place) (calls : List Call) → AddsAt p calls → (bad : BadAnswer) (log : List Sent) → Falls system (part_at system bound plan p) bad log → AreNeeded (calls ++ mine log)
     fallen_at (Short w i x) calls a bad log falls = absurd (none_stops bad log falls)
-    fallen_at p calls a bad log falls = fallen (part_at system bound plan p) (limit_behind e plan p) calls a bad log falls
+    fallen_at p calls a bad log falls = fallen (part_at system bound plan p) (limit_after e plan p) calls a bad log falls
 
     leads_so : (calls : List Call) (p q : Place) (values : List (Option ℤ)) (log : List Sent) → LeadsTo system plan p values log q → IsLater p → AtPlace p calls → AddsAt p calls → Does system (part_at system bound plan p) values log → AtPlace q (calls ++ mine log)
     leads_so calls _ _ _ _ (Exits timers values log s ticks is begins) later at a does =
-        subst (λ (z : Spot). IsSo (limit_at e (Before z ticks)) (calls ++ mine log)) (sym is) (added (Calls (leaving system)) (limit_behind e plan (Timed timers)) calls a values log does)
+        subst (λ (z : Spot). CallsSince (limit_at e (Before z ticks)) (calls ++ mine log)) (sym is) (added (Calls (leaving system)) (limit_after e plan (Timed timers)) calls a values log does)
     leads_so calls _ _ _ _ (Again s values log ticks below begins) later at a does =
-        subst (λ (b : Bool). IsSo (limit point_kinds s.t (instant_span b e.events).from) (calls ++ mine log)) (sym (other (suc s.n) 0 (λ same. absurd (omega (arith, same))))) (added (Calls []) (limit_behind e plan (Seen s true false)) calls a values log does)
+        subst (λ (b : Bool). CallsSince (limit point_kinds s.t (instant_span b e.events).from) (calls ++ mine log)) (sym (other (suc s.n) 0 (λ same. absurd (omega (arith, same))))) (added (Calls []) (limit_after e plan (InstantDone s true false)) calls a values log does)
     leads_so calls _ _ _ _ (Agreeing w values log m asked agrees is) later at a does =
         let ends = ends_from w.s.t plan.step (shapes_of system) w.to later log (Meets m) agrees in
         met w.s.t plan.step w.to later log (Meets m) agrees calls w refl at m ends.2 (begun w.s.t plan.step w.to later log (Meets m) agrees m ends.1 ends.2)
     leads_so calls _ _ _ _ (Stopping w values log i x agrees) later at a does = anyhow w.s.t plan.step w.to later log (Unfit i x) agrees calls w refl at
-    leads_so calls p q values log leads later at a does = added (part_at system bound plan p) (limit_behind e plan p) calls a values log does
+    leads_so calls p q values log leads later at a does = added (part_at system bound plan p) (limit_after e plan p) calls a values log does
 
     -- from the first place of a course on, after these calls
     module _ (extent : Extent) (base : List Call) (start : IsLater (first_of extent) × AtPlace (first_of extent) base) where
-      abbrev upto : List Sent → List Call
-      upto log = base ++ mine log
+      abbrev up_to : List Sent → List Call
+      up_to log = base ++ mine log
 
-      upto_on : (a b : List Sent) → upto a ++ mine b ≡ upto (a ++ b)
-      upto_on a b = append_assoc base (mine a) (mine b) ∙ ap (λ (l : List Call). base ++ l) (sym (own_log k a b))
+      up_to_on : (a b : List Sent) → up_to a ++ mine b ≡ up_to (a ++ b)
+      up_to_on a b = append_assoc base (mine a) (mine b) ∙ ap (λ (l : List Call). base ++ l) (sym (own_log k a b))
 
-      course_so : (p : Place) (log : List Sent) (is : List Instant) → CourseIn system bound plan extent p log is → IsLater p × AtPlace p (upto log)
-      course_so = along system bound plan extent (λ p log is. IsLater p × AtPlace p (upto log)) (start.0, subst (AtPlace (first_of extent)) (sym (append-nil base)) start.1)
-          (λ p q values front more is course so does leads within. (
+      course_so : (p : Place) (log : List Sent) (is : List Instant) → CourseIn system bound plan extent p log is → IsLater p × AtPlace p (up_to log)
+      course_so = along system bound plan extent (λ p log is. IsLater p × AtPlace p (up_to log)) (start.0, subst (AtPlace (first_of extent)) (sym (append-nil base)) start.1)
+          (λ p q values prefix more is course so does leads within. (
             later_on system plan p q values more leads so.0,
-            subst (AtPlace q) (upto_on front more) (leads_so (upto front) p q values more leads so.0 so.1 (adds p (upto front) so.0 so.1) does),
+            subst (AtPlace q) (up_to_on prefix more) (leads_so (up_to prefix) p q values more leads so.0 so.1 (adds p (up_to prefix) so.0 so.1) does),
           ))
 
-      falls_needed : (p : Place) (front more : List Sent) (is : List Instant) (bad : BadAnswer) → CourseIn system bound plan extent p front is → Falls system (part_at system bound plan p) bad more → AreNeeded (upto (front ++ more))
-      falls_needed p front more is bad course falls =
-          let so = course_so p front is course in
-          subst AreNeeded (upto_on front more) (fallen_at p (upto front) (adds p (upto front) so.0 so.1) bad more falls)
+      falls_needed : (p : Place) (prefix more : List Sent) (is : List Instant) (bad : BadAnswer) → CourseIn system bound plan extent p prefix is → Falls system (part_at system bound plan p) bad more → AreNeeded (up_to (prefix ++ more))
+      falls_needed p prefix more is bad course falls =
+          let so = course_so p prefix is course in
+          subst AreNeeded (up_to_on prefix more) (fallen_at p (up_to prefix) (adds p (up_to prefix) so.0 so.1) bad more falls)
 
     needed_at : (p : Place) (calls : List Call) → AtPlace p calls → AreNeeded calls
     needed_at (Short w i x) calls some = needed _ calls some.so
@@ -470,29 +470,29 @@ module _ (system : System) (sound : IsSound system) (k : ℕ) (c : Component) (o
 
     -- ---- where the state is kept
 
-    module _ (s : Spot) (calls : List Call) (so : IsSo (limit_at e (Seen s false false)) calls) where
+    module _ (s : Spot) (calls : List Call) (so : CallsSince (limit_at e (InstantDone s false false)) calls) where
       abbrev under : (Kind → Bool) → Open → Limit
       under kinds kept = record (limit kinds s.t (below_seen e.events)) { kept = kept }
 
-      kept_so : IsSo (under kept_kinds None) (((calls ++ own k (entering_step system)) ++ C.Save ∷ C.Serialize ∷ []) ++ C.Free ∷ [])
+      kept_so : CallsSince (under kept_kinds None) (((calls ++ own k (entering_step system)) ++ C.Save ∷ C.Serialize ∷ []) ++ C.Free ∷ [])
       kept_so =
-          let entered = to_events (limit_at e (Seen s false false)) (under leaving_kinds None) calls so C.EnterStep refl (λ once. differ_by (limit_at e (Seen s false false)) C.EnterStep refl refl) refl (NamesNone refl refl tt)
-          (λ none. more_seen (limit_at e (Seen s false false)) (under leaving_kinds None) point_leaving refl (omega arith)) tt refl refl in
+          let entered = to_events (limit_at e (InstantDone s false false)) (under leaving_kinds None) calls so C.EnterStep refl (λ once. differ_by (limit_at e (InstantDone s false false)) C.EnterStep refl refl) refl (NamesNone refl refl tt)
+          (λ none. more_seen (limit_at e (InstantDone s false false)) (under leaving_kinds None) point_leaving refl (omega arith)) tt refl refl in
           let there = calls ++ own k (entering_step system) in
           let saved = called (under leaving_kinds None) (under saved_kinds (Some None)) there entered C.Save refl (λ once. differ_by (under leaving_kinds None) C.Save refl refl) (NamesNone refl refl tt)
           (λ stays. more_seen (under leaving_kinds None) (under saved_kinds (Some None)) leaving_saved refl (omega arith)) tt refl in
           let packed = called (under saved_kinds (Some None)) (under kept_kinds (Some None)) (there ++ C.Save ∷ []) saved C.Serialize refl (λ once. differ_by (under saved_kinds (Some None)) C.Serialize refl refl) (NamesNone refl refl tt)
           (λ stays. more_seen (under saved_kinds (Some None)) (under kept_kinds (Some None)) saved_kept refl (omega arith)) tt refl in
           called (under kept_kinds (Some None)) (under kept_kinds None) (there ++ C.Save ∷ C.Serialize ∷ [])
-          (subst (IsSo (under kept_kinds (Some None))) (append_assoc there (C.Save ∷ []) (C.Serialize ∷ [])) packed) C.Free refl
+          (subst (CallsSince (under kept_kinds (Some None))) (append_assoc there (C.Save ∷ []) (C.Serialize ∷ [])) packed) C.Free refl
           (λ once. absurd (let wrong : true ≡ false = once in cc)) (NamesNone refl refl tt) (λ stays. more_seen (under kept_kinds (Some None)) (under kept_kinds None) (λ kind is. is) refl (omega arith)) tt refl
 
-      holding_so : IsSo (under kept_kinds None) (calls ++ own k (holding system))
+      holding_so : CallsSince (under kept_kinds None) (calls ++ own k (holding system))
       holding_so =
           let there = own k (entering_step system) in
           let three = C.Save ∷ C.Serialize ∷ C.Free ∷ [] in
           let within = slice_get_within system.components k c of in
-          subst (IsSo (under kept_kinds None))
+          subst (CallsSince (under kept_kinds None))
           (append_assoc (calls ++ there) (C.Save ∷ C.Serialize ∷ []) (C.Free ∷ []) ∙ append_assoc calls there three
           ∙ ap (λ (l : List Call). calls ++ l) (ap (λ (l : List Call). there ++ l) (sym (own_keeping system k within)) ∙ sym (own_append k (entering_step system) (keeping system)))) kept_so
 
@@ -502,7 +502,7 @@ module _ (system : System) (sound : IsSound system) (k : ℕ) (c : Component) (o
       abbrev on_way : (Kind → Bool) → Limit
       on_way kinds = limit kinds s.t (below_seen e.events)
 
-      back_so : IsSo (limit_at e (Restored s)) (own k (making plan.link system) ++ own k (restoring s.t plan.stop sizes))
+      back_so : CallsSince (limit_at e (Restored s)) (own k (making plan.link system) ++ own k (restoring s.t plan.stop sizes))
       back_so =
           let made = own k (making plan.link system) in
           let inside : k < length sizes = (let many = may.each in let within = slice_get_within system.components k c of in omega (arith, many, within)) in
@@ -513,49 +513,49 @@ module _ (system : System) (sound : IsSound system) (k : ℕ) (c : Component) (o
           (λ stays. more_by (limit_at e Made) (on_way back_kinds) made_back (omega arith) low) tt refl in
           let back = called (on_way back_kinds) (on_way leaving_kinds) (made ++ take ∷ []) taken C.Restore refl (λ once. differ_by (on_way back_kinds) C.Restore refl refl) (NamesNone refl refl tt)
           (λ stays. more_seen (on_way back_kinds) (on_way leaving_kinds) back_leaving refl (omega arith)) tt refl in
-          let freed = called (on_way leaving_kinds) (on_way leaving_kinds) (made ++ take ∷ C.Restore ∷ []) (subst (IsSo (on_way leaving_kinds)) (append_assoc made (take ∷ []) (C.Restore ∷ [])) back) C.Free refl
+          let freed = called (on_way leaving_kinds) (on_way leaving_kinds) (made ++ take ∷ C.Restore ∷ []) (subst (CallsSince (on_way leaving_kinds)) (append_assoc made (take ∷ []) (C.Restore ∷ [])) back) C.Free refl
           (λ once. absurd (let wrong : true ≡ false = once in cc)) (NamesNone refl refl tt) (λ stays. more_seen (on_way leaving_kinds) (on_way leaving_kinds) (λ kind is. is) refl (omega arith)) tt refl in
-          subst (IsSo (limit_at e (Restored s))) (append_assoc made (take ∷ C.Restore ∷ []) (C.Free ∷ []) ∙ ap (λ (l : List Call). made ++ l) (sym one.1)) freed
+          subst (CallsSince (limit_at e (Restored s))) (append_assoc made (take ∷ C.Restore ∷ []) (C.Free ∷ []) ∙ ap (λ (l : List Call). made ++ l) (sym one.1)) freed
 
 module _ (system : System) (sound : IsSound system) (k : ℕ) (c : Component) (of : slice_get system.components k ≡ Some c) where
   -- the calls from the first on
   abbrev all : List Sent → List Call
-  all log = own k (askings log)
+  all log = own k (component_calls log)
 
-  behind_made : (link : ℕ) (made log : List Sent) → IsAnswered (shapes_of system) (making link system) made → AreNeeded (own k (making link system) ++ all log) → AreNeeded (all (made ++ log))
-  behind_made link made log answered so = subst AreNeeded (ap (λ (cs : List Call). cs ++ all log) (sym (ap (own k) answered.calls_are)) ∙ sym (own_log k made log)) so
+  after_made : (link : ℕ) (made log : List Sent) → IsAnswered (shapes_of system) (making link system) made → AreNeeded (own k (making link system) ++ all log) → AreNeeded (all (made ++ log))
+  after_made link made log answered so = subst AreNeeded (ap (λ (cs : List Call). cs ++ all log) (sym (ap (own k) answered.calls_are)) ∙ sym (own_log k made log)) so
 
   whole_needed : (bad : Option BadAnswer) (log : List Sent) → Comes system bad log → AreNeeded (all log)
   whole_needed _ _ (Unmade link bad log stops) =
       let l = limit_at (e system sound k c of) Made in
-      needed_front l [] (all log) (own k stops.left) (subst (IsSo l) (ap (own k) stops.calls_are ∙ own_append k (askings log) stops.left) (made_so system sound k c of link))
+      needed_prefix l [] (all log) (own k stops.left) (subst (CallsSince l) (ap (own k) stops.calls_are ∙ own_append k (component_calls log) stops.left) (made_so system sound k c of link))
   whole_needed _ _ (Stands bound plan p made log is binds counts answered course halts) =
-      behind_made plan.link made log answered
+      after_made plan.link made log answered
       (needed_at system sound k c of bound plan binds p _ (course_so system sound k c of bound plan binds Whole (own k (making plan.link system)) (begins system sound k c of bound plan binds) p log is course).1)
-  whole_needed _ _ (Falling bound plan p bad made front more is binds counts answered course falls) =
-      behind_made plan.link made (front ++ more) answered
-      (falls_needed system sound k c of bound plan binds Whole (own k (making plan.link system)) (begins system sound k c of bound plan binds) p front more is bad course falls)
+  whole_needed _ _ (Falling bound plan p bad made prefix more is binds counts answered course falls) =
+      after_made plan.link made (prefix ++ more) answered
+      (falls_needed system sound k c of bound plan binds Whole (own k (making plan.link system)) (begins system sound k c of bound plan binds) p prefix more is bad course falls)
 
   -- what is sent after a course is the calls of a list, or a prefix of them
-  module _ (l : Limit) (calls : List Call) (cs : List Asking) (so : IsSo l (calls ++ own k cs)) (log : List Sent) where
+  module _ (l : Limit) (calls : List Call) (cs : List ComponentCall) (so : CallsSince l (calls ++ own k cs)) (log : List Sent) where
     whole_list : IsAnswered (shapes_of system) cs log → AreNeeded (calls ++ all log)
-    whole_list answered = needed l (calls ++ all log) (subst (λ (x : List Call). IsSo l (calls ++ x)) (sym (ap (own k) answered.calls_are)) so)
+    whole_list answered = needed l (calls ++ all log) (subst (λ (x : List Call). CallsSince l (calls ++ x)) (sym (ap (own k) answered.calls_are)) so)
 
-    front_list : (bad : BadAnswer) → StopsAt (shapes_of system) cs bad log → AreNeeded (calls ++ all log)
-    front_list bad stops = needed_front l calls (all log) (own k stops.left) (subst (λ (x : List Call). IsSo l (calls ++ x)) (ap (own k) stops.calls_are ∙ own_append k (askings log) stops.left) so)
+    prefix_list : (bad : BadAnswer) → StopsAt (shapes_of system) cs bad log → AreNeeded (calls ++ all log)
+    prefix_list bad stops = needed_prefix l calls (all log) (own k stops.left) (subst (λ (x : List Call). CallsSince l (calls ++ x)) (ap (own k) stops.calls_are ∙ own_append k (component_calls log) stops.left) so)
 
   module _ (bound : Bound) (plan : Plan) (binds : BindsParameters system bound) where
     abbrev made_calls : List Call
     made_calls = own k (making plan.link system)
 
-    seen_so : (s : Spot) (front : List Sent) (is : List Instant) → Course system bound plan (Seen s false false) front is → IsSo (limit_at (e system sound k c of) (Seen s false false)) (made_calls ++ all front)
-    seen_so s front is course = (course_so system sound k c of bound plan binds Whole made_calls (begins system sound k c of bound plan binds) (Seen s false false) front is course).1
+    seen_so : (s : Spot) (prefix : List Sent) (is : List Instant) → Course system bound plan (InstantDone s false false) prefix is → CallsSince (limit_at (e system sound k c of) (InstantDone s false false)) (made_calls ++ all prefix)
+    seen_so s prefix is course = (course_so system sound k c of bound plan binds Whole made_calls (begins system sound k c of bound plan binds) (InstantDone s false false) prefix is course).1
 
     -- after the calls of a point that is done
-    behind_front : (made front kept : List Sent) → IsAnswered (shapes_of system) (making plan.link system) made → AreNeeded ((made_calls ++ all front) ++ all kept) → AreNeeded (all (made ++ (front ++ kept)))
-    behind_front made front kept answered so =
-        behind_made plan.link made (front ++ kept) answered
-        (subst AreNeeded (append_assoc made_calls (all front) (all kept) ∙ ap (λ (l : List Call). made_calls ++ l) (sym (own_log k front kept))) so)
+    after_prefix : (made prefix kept : List Sent) → IsAnswered (shapes_of system) (making plan.link system) made → AreNeeded ((made_calls ++ all prefix) ++ all kept) → AreNeeded (all (made ++ (prefix ++ kept)))
+    after_prefix made prefix kept answered so =
+        after_made plan.link made (prefix ++ kept) answered
+        (subst AreNeeded (append_assoc made_calls (all prefix) (all kept) ∙ ap (λ (l : List Call). made_calls ++ l) (sym (own_log k prefix kept))) so)
 
     -- from the states on that were gone back to
     module _ (s : Spot) (sizes : List ℕ) (may : MayBack system s sizes) (made back : List Sent) (answered : IsAnswered (shapes_of system) (making plan.link system) made) (went : IsAnswered (shapes_of system) (restoring s.t plan.stop sizes) back) where
@@ -565,32 +565,32 @@ module _ (system : System) (sound : IsSound system) (k : ℕ) (c : Component) (o
       resumes_so : IsLater (Restored s) × AtPlace system sound k c of (Restored s) back_calls
       resumes_so = (tt, back_so system sound k c of bound plan binds s sizes may)
 
-      behind_back : (log : List Sent) → AreNeeded (back_calls ++ all log) → AreNeeded (all (made ++ (back ++ log)))
-      behind_back log so =
-          behind_made plan.link made (back ++ log) answered
+      after_back : (log : List Sent) → AreNeeded (back_calls ++ all log) → AreNeeded (all (made ++ (back ++ log)))
+      after_back log so =
+          after_made plan.link made (back ++ log) answered
           (subst AreNeeded (append_assoc made_calls (own k (restoring s.t plan.stop sizes)) (all log)
           ∙ ap (λ (l : List Call). made_calls ++ l) (ap (λ (l : List Call). l ++ all log) (sym (ap (own k) went.calls_are)) ∙ sym (own_log k back log))) so)
 
   comes_needed : (bad : Option BadAnswer) (log : List Sent) → ComesAnyhow system bad log → AreNeeded (all log)
   comes_needed _ _ (Wholly bad log comes) = whole_needed bad log comes
-  comes_needed _ _ (Holding bound plan s made front kept is binds counts answered course keeps) =
-      let calls = own k (making plan.link system) ++ all front in
-      let so = holding_so system sound k c of bound plan binds s calls (seen_so bound plan binds s front is course) in
-      behind_front bound plan binds made front kept answered (whole_list _ calls (holding system) so kept keeps)
-  comes_needed _ _ (HoldingBadly bound plan s bad made front kept is binds counts answered course stops) =
-      let calls = own k (making plan.link system) ++ all front in
-      let so = holding_so system sound k c of bound plan binds s calls (seen_so bound plan binds s front is course) in
-      behind_front bound plan binds made front kept answered (front_list _ calls (holding system) so kept bad stops)
+  comes_needed _ _ (Holding bound plan s made prefix kept is binds counts answered course keeps) =
+      let calls = own k (making plan.link system) ++ all prefix in
+      let so = holding_so system sound k c of bound plan binds s calls (seen_so bound plan binds s prefix is course) in
+      after_prefix bound plan binds made prefix kept answered (whole_list _ calls (holding system) so kept keeps)
+  comes_needed _ _ (HoldingBadly bound plan s bad made prefix kept is binds counts answered course stops) =
+      let calls = own k (making plan.link system) ++ all prefix in
+      let so = holding_so system sound k c of bound plan binds s calls (seen_so bound plan binds s prefix is course) in
+      after_prefix bound plan binds made prefix kept answered (prefix_list _ calls (holding system) so kept bad stops)
   comes_needed _ _ (BackBadly bound plan s sizes bad made back binds counts may answered stops) =
-      behind_made plan.link made back answered (front_list _ (own k (making plan.link system)) (restoring s.t plan.stop sizes) (back_so system sound k c of bound plan binds s sizes may) back bad stops)
+      after_made plan.link made back answered (prefix_list _ (own k (making plan.link system)) (restoring s.t plan.stop sizes) (back_so system sound k c of bound plan binds s sizes may) back bad stops)
   comes_needed _ _ (BackStands bound plan s sizes p made back log is binds counts may answered went course halts) =
       let start = resumes_so bound plan binds s sizes may made back answered went in
-      behind_back bound plan binds s sizes may made back answered went log
+      after_back bound plan binds s sizes may made back answered went log
       (needed_at system sound k c of bound plan binds p _ (course_so system sound k c of bound plan binds (FromHeld s) _ start p log is course).1)
-  comes_needed _ _ (BackFalling bound plan s sizes p bad made back front more is binds counts may answered went course falls) =
+  comes_needed _ _ (BackFalling bound plan s sizes p bad made back prefix more is binds counts may answered went course falls) =
       let start = resumes_so bound plan binds s sizes may made back answered went in
-      behind_back bound plan binds s sizes may made back answered went (front ++ more)
-      (falls_needed system sound k c of bound plan binds (FromHeld s) _ start p front more is bad course falls)
+      after_back bound plan binds s sizes may made back answered went (prefix ++ more)
+      (falls_needed system sound k c of bound plan binds (FromHeld s) _ start p prefix more is bad course falls)
 
 pub no_call_twice : NoCallTwice
 no_call_twice system bad log sound comes k within =

@@ -37,11 +37,11 @@ use Rattle.rollback.specs.StepsBy.{all_at}
 use Rattle.event_iteration.specs.Intervals.{timing_calls_in, timing_calls_of}
 use Rattle.event_iteration.proofs.ByLog.{last_alone_is_bad}
 use Rattle.calling_sequence.specs.Calls.{binding_from, entering_step, keeping, making, restoring, sets_of}
-use Rattle.calling_sequence.specs.Course.{Agreed, Before, Configured, CourseIn, Departing, Entered, Extent, Found, FromHeld, Left, Leaving, Made, Place, Read, Rearmed, Restored, Saved, Seen, Short, Spot, Stepped, Timed, Whole, part_at}
+use Rattle.calling_sequence.specs.Course.{Agreed, Before, Configured, CourseIn, Departing, Entered, Extent, Found, FromHeld, Left, Leaving, Made, Place, Read, Rearmed, Restored, Saved, InstantDone, Short, Spot, Stepped, Timed, Whole, part_at}
 use Rattle.calling_sequence.specs.Holding.{holding}
 use Rattle.calling_sequence.proofs.Sizes.{shapes_all}
 use Rattle.calling_sequence.specs.Parts.{Agreement, AllAgree, Calls, Does, EndsBadly, Falls, Part, Round, Walk}
-use Rattle.calling_sequence.proofs.Along.{along}
+use Rattle.calling_sequence.proofs.CourseInduction.{along}
 use Rattle.course_laws.specs.Laws.{AnswersAre, FirstBadAnswer}
 use Rattle.course_laws.specs.Runs.{BackBadly, BackFalling, BackStands, Comes, Falling, Holding, HoldingBadly, MayBack, Stands, Unmade, Wholly}
 use Rattle.course_laws.proofs.Triples.{keeping_to, restoring_to}
@@ -94,8 +94,8 @@ module _ (system : System) where
   along_steps : (t : ℕ) → IsAlong t ss Good (λ (bad : BadAnswer) (log : List Sent). EndsBadly ss bad log)
   along_steps t = record {
     none = All-nil (IsGoodOf ss);
-    joined = λ front back f b. All-append (IsGoodOf ss) front back f b;
-    behind = λ bad front back f b. more_badly ss bad front back f b;
+    joined = λ prefix back f b. All-append (IsGoodOf ss) prefix back f b;
+    after = λ bad prefix back f b. more_badly ss bad prefix back f b;
     well = λ test call stands log is same a. a.good;
     badly = λ test call stands bad log is same f.
         let len = length-map stands (λ (s : Stand). s.shape) in
@@ -117,11 +117,11 @@ module _ (system : System) where
   part_good (Walk rules before order) values log does = (last_alone_is_bad system rules before order values log).good does
   part_good (Agreement t step b) values log (o, is, agrees) = agreement_good log o is (agreement_has t step b log o agrees)
 
-  part_badly : (part : Part) (bad : BadAnswer) (front more : List Sent) → IsPlaced part → Good front → Falls system part bad more → EndsBadly ss bad (front ++ more)
-  part_badly (Calls calls) bad front more placed good falls = stops_badly ss bad front more good calls placed falls
-  part_badly (Round calls) bad front more placed good falls = fails_badly ss bad front more good calls placed.0 placed.1 falls
-  part_badly (Walk rules before order) bad front more placed good (values, falls) = walks_badly ss bad front more good ((last_alone_is_bad system rules before order values more).bad bad falls)
-  part_badly (Agreement t step b) bad front more placed good agrees = more_badly ss bad front more good (agreement_has t step b more (Fails bad) agrees)
+  part_badly : (part : Part) (bad : BadAnswer) (prefix more : List Sent) → IsPlaced part → Good prefix → Falls system part bad more → EndsBadly ss bad (prefix ++ more)
+  part_badly (Calls calls) bad prefix more placed good falls = stops_badly ss bad prefix more good calls placed falls
+  part_badly (Round calls) bad prefix more placed good falls = fails_badly ss bad prefix more good calls placed.0 placed.1 falls
+  part_badly (Walk rules before order) bad prefix more placed good (values, falls) = walks_badly ss bad prefix more good ((last_alone_is_bad system rules before order values more).bad bad falls)
+  part_badly (Agreement t step b) bad prefix more placed good agrees = more_badly ss bad prefix more good (agreement_has t step b more (Fails bad) agrees)
 
   module _ (bound : Bound) (plan : Plan) (sound : IsSound system) (binds : BindsParameters system bound) where
     part_placed : (p : Place) → IsPlaced (part_at system bound plan p)
@@ -138,7 +138,7 @@ module _ (system : System) where
     part_placed (Before s ticks) = tt
     part_placed (Read s) = tt
     part_placed (Rearmed s) = those _ _
-    part_placed (Seen s again asked) = All-nil (IsToOne (length ss))
+    part_placed (InstantDone s again asked) = All-nil (IsToOne (length ss))
     part_placed (Leaving w) = those _ _
     part_placed (Left w) = tt
     part_placed (Departing w) = (those _ _, in_order_from _ _ 0 0 ss (omega arith))
@@ -151,17 +151,17 @@ module _ (system : System) where
 
     pub course_good : (extent : Extent) (p : Place) (log : List Sent) (is : List Instant) → CourseIn system bound plan extent p log is → Good log
     course_good extent = along system bound plan extent (λ p log is. Good log) (All-nil (IsGoodOf ss))
-        (λ p q values front more is course good does leads within. All-append (IsGoodOf ss) front more good (part_good (part_at system bound plan p) values more does))
+        (λ p q values prefix more is course good does leads within. All-append (IsGoodOf ss) prefix more good (part_good (part_at system bound plan p) values more does))
 
 whole_answers : (system : System) (bad : Option BadAnswer) (log : List Sent) → IsSound system → Comes system bad log → AnswersAre (shapes_of system) bad log
 whole_answers system _ _ sound (Unmade link bad log stops) =
     first_of_parts (shapes_of system) bad log (stops_badly (shapes_of system) bad [] log (All-nil (IsGoodOf (shapes_of system))) (making link system) (those system everyone (instantiate_of link)) stops)
 whole_answers system _ _ sound (Stands bound plan p made log is binds counts answered course halts) =
     good_part (shapes_of system) (made ++ log) (All-append (IsGoodOf (shapes_of system)) made log answered.good (course_good system bound plan sound binds Whole p log is course))
-whole_answers system _ _ sound (Falling bound plan p bad made front more is binds counts answered course falls) =
-    first_of_parts (shapes_of system) bad (made ++ (front ++ more)) (subst (EndsBadly (shapes_of system) bad) (append_assoc made front more)
-    (part_badly system (part_at system bound plan p) bad (made ++ front) more (part_placed system bound plan sound binds p)
-    (All-append (IsGoodOf (shapes_of system)) made front answered.good (course_good system bound plan sound binds Whole p front is course)) falls))
+whole_answers system _ _ sound (Falling bound plan p bad made prefix more is binds counts answered course falls) =
+    first_of_parts (shapes_of system) bad (made ++ (prefix ++ more)) (subst (EndsBadly (shapes_of system) bad) (append_assoc made prefix more)
+    (part_badly system (part_at system bound plan p) bad (made ++ prefix) more (part_placed system bound plan sound binds p)
+    (All-append (IsGoodOf (shapes_of system)) made prefix answered.good (course_good system bound plan sound binds Whole p prefix is course)) falls))
 
 -- where a state is kept, and where one is gone back to
 pub holding_placed : (system : System) → All (IsToOne (length (shapes_of system))) (holding system)
@@ -172,22 +172,22 @@ back_placed system s stop sizes may = restoring_to (length (shapes_of system)) s
 
 pub first_bad_answer : FirstBadAnswer
 first_bad_answer system _ _ sound (Wholly bad log comes) = whole_answers system bad log sound comes
-first_bad_answer system _ _ sound (Holding bound plan s made front kept is binds counts answered course keeps) =
+first_bad_answer system _ _ sound (Holding bound plan s made prefix kept is binds counts answered course keeps) =
     let G = IsGoodOf (shapes_of system) in
-    good_part (shapes_of system) (made ++ (front ++ kept)) (All-append G made (front ++ kept) answered.good (All-append G front kept (course_good system bound plan sound binds Whole (Seen s false false) front is course) keeps.good))
-first_bad_answer system _ _ sound (HoldingBadly bound plan s bad made front kept is binds counts answered course stops) =
-    first_of_parts (shapes_of system) bad (made ++ (front ++ kept)) (subst (EndsBadly (shapes_of system) bad) (append_assoc made front kept)
-    (stops_badly (shapes_of system) bad (made ++ front) kept
-    (All-append (IsGoodOf (shapes_of system)) made front answered.good (course_good system bound plan sound binds Whole (Seen s false false) front is course)) (holding system) (holding_placed system) stops))
+    good_part (shapes_of system) (made ++ (prefix ++ kept)) (All-append G made (prefix ++ kept) answered.good (All-append G prefix kept (course_good system bound plan sound binds Whole (InstantDone s false false) prefix is course) keeps.good))
+first_bad_answer system _ _ sound (HoldingBadly bound plan s bad made prefix kept is binds counts answered course stops) =
+    first_of_parts (shapes_of system) bad (made ++ (prefix ++ kept)) (subst (EndsBadly (shapes_of system) bad) (append_assoc made prefix kept)
+    (stops_badly (shapes_of system) bad (made ++ prefix) kept
+    (All-append (IsGoodOf (shapes_of system)) made prefix answered.good (course_good system bound plan sound binds Whole (InstantDone s false false) prefix is course)) (holding system) (holding_placed system) stops))
 first_bad_answer system _ _ sound (BackBadly bound plan s sizes bad made back binds counts may answered stops) =
     first_of_parts (shapes_of system) bad (made ++ back) (stops_badly (shapes_of system) bad made back answered.good (restoring s.t plan.stop sizes) (back_placed system s plan.stop sizes may) stops)
 first_bad_answer system _ _ sound (BackStands bound plan s sizes p made back log is binds counts may answered went course halts) =
     let G = IsGoodOf (shapes_of system) in
     good_part (shapes_of system) (made ++ (back ++ log)) (All-append G made (back ++ log) answered.good (All-append G back log went.good (course_good system bound plan sound binds (FromHeld s) p log is course)))
-first_bad_answer system _ _ sound (BackFalling bound plan s sizes p bad made back front more is binds counts may answered went course falls) =
+first_bad_answer system _ _ sound (BackFalling bound plan s sizes p bad made back prefix more is binds counts may answered went course falls) =
     let G = IsGoodOf (shapes_of system) in
     let before = All-append G made back answered.good went.good in
-    let all = All-append G (made ++ back) front before (course_good system bound plan sound binds (FromHeld s) p front is course) in
-    first_of_parts (shapes_of system) bad (made ++ (back ++ (front ++ more)))
-    (subst (EndsBadly (shapes_of system) bad) (append_assoc (made ++ back) front more ∙ append_assoc made back (front ++ more))
-    (part_badly system (part_at system bound plan p) bad ((made ++ back) ++ front) more (part_placed system bound plan sound binds p) all falls))
+    let all = All-append G (made ++ back) prefix before (course_good system bound plan sound binds (FromHeld s) p prefix is course) in
+    first_of_parts (shapes_of system) bad (made ++ (back ++ (prefix ++ more)))
+    (subst (EndsBadly (shapes_of system) bad) (append_assoc (made ++ back) prefix more ∙ append_assoc made back (prefix ++ more))
+    (part_badly system (part_at system bound plan p) bad ((made ++ back) ++ prefix) more (part_placed system bound plan sound binds p) all falls))

@@ -23,7 +23,7 @@ use Rattle.fmu_peer.specs.Lean.{SizesFall}
 use Rattle.fmu_peer.specs.Talk.{IsGood}
 use Rattle.system_model.specs.EarlyReturn.{early_count}
 use Rattle.run_model.specs.Stepping.{asked_first}
-use Rattle.slot_calls.specs.Log.{Asking, Sent, askings, part}
+use Rattle.slot_calls.specs.Log.{ComponentCall, Sent, component_calls, part}
 use Rattle.slot_calls.specs.SavedStates.{EndsAt, has_stepped, last_step, saved_after, saved_by, step_or, steps}
 use Rattle.slot_calls.specs.Stage.{everyone, to_those, to_those_from}
 use Rattle.slot_calls.specs.declared.bad_answer.BadAnswer.{BadAnswer}
@@ -102,8 +102,8 @@ stand_in t log s i (x ∷ ss) zero is = let place : i ≡ i + 0 = omega arith in
 stand_in t log s i (x ∷ ss) (suc j) is = let place : suc i + j ≡ i + suc j = omega arith in stand_in t log s (suc i) ss j is ∙ ap (λ (n : ℕ). Some (stand_by t s (part n log))) place
 
 -- one after a log
-pub stand_behind : (t : ℕ) (stands : List Stand) (log : List Sent) (k : ℕ) (s : Stand) → slice_get stands k ≡ Some s → slice_get (stands_by t stands log) k ≡ Some (stand_by t s (part k log))
-stand_behind t stands log k s is = let place : 0 + k ≡ k = omega arith in stand_in t log s 0 stands k is ∙ ap (λ (n : ℕ). Some (stand_by t s (part n log))) place
+pub stand_after : (t : ℕ) (stands : List Stand) (log : List Sent) (k : ℕ) (s : Stand) → slice_get stands k ≡ Some s → slice_get (stands_by t stands log) k ≡ Some (stand_by t s (part k log))
+stand_after t stands log k s is = let place : 0 + k ≡ k = omega arith in stand_in t log s 0 stands k is ∙ ap (λ (n : ℕ). Some (stand_by t s (part n log))) place
 
 each_from : (P : Stand → Type 0) (t : ℕ) (log : List Sent) (i : ℕ) (ss : List Stand) → ((k : ℕ) (s : Stand) → slice_get ss k ≡ Some s → P (stand_by t s (part (i + k) log))) → (j : ℕ) (y : Stand) → slice_get (stands_from t i ss log) j ≡ Some y → P y
 each_from P t log i [] h j y is = absurd (none_some y is)
@@ -112,8 +112,8 @@ each_from P t log i (s ∷ ss) h (suc j) y is =
     each_from P t log (suc i) ss (λ k x at. let place : i + suc k ≡ suc i + k = omega arith in subst (λ (n : ℕ). P (stand_by t x (part n log))) place (h (suc k) x at)) j y is
 
 -- what holds of each after a log
-pub each_behind : (P : Stand → Type 0) (t : ℕ) (stands : List Stand) (log : List Sent) → ((k : ℕ) (s : Stand) → slice_get stands k ≡ Some s → P (stand_by t s (part k log))) → (j : ℕ) (y : Stand) → slice_get (stands_by t stands log) j ≡ Some y → P y
-each_behind P t stands log h j y is = each_from P t log 0 stands (λ k s at. let place : k ≡ 0 + k = omega arith in subst (λ (n : ℕ). P (stand_by t s (part n log))) place (h k s at)) j y is
+pub each_after : (P : Stand → Type 0) (t : ℕ) (stands : List Stand) (log : List Sent) → ((k : ℕ) (s : Stand) → slice_get stands k ≡ Some s → P (stand_by t s (part k log))) → (j : ℕ) (y : Stand) → slice_get (stands_by t stands log) j ≡ Some y → P y
+each_after P t stands log h j y is = each_from P t log 0 stands (λ k s at. let place : k ≡ 0 + k = omega arith in subst (λ (n : ℕ). P (stand_by t s (part n log))) place (h k s at)) j y is
 
 pub all_home : (t : ℕ) (ss : List Shape) (j : ℕ) (y : Stand) → slice_get (all_at t ss) j ≡ Some y → y.point ≡ t
 all_home t [] j y is = absurd (none_some y is)
@@ -123,7 +123,7 @@ all_home t (s ∷ ss) (suc j) y is = all_home t ss j y is
 -- a call to each of those that stand is one to each component
 pub to_each_stand : (t k : ℕ) (call : Call) (ss : List Shape) → to_some_from k (comes_first (λ (shape : Shape). true)) call (all_at t ss) ≡ to_those_from k everyone (λ (shape : Shape). call) ss
 to_each_stand t k call [] = refl
-to_each_stand t k call (s ∷ ss) = ap (λ (cs : List Asking). record { component = k; call = call } ∷ cs) (to_each_stand t (k + 1) call ss)
+to_each_stand t k call (s ∷ ss) = ap (λ (cs : List ComponentCall). record { component = k; call = call } ∷ cs) (to_each_stand t (k + 1) call ss)
 
 -- how an agreement ends, from where all stand at t
 pub ends_from : (t step : ℕ) (ss : List Shape) (b : ℕ) → t < b → (log : List Sent) (outcome : Outcome) → Agrees t step (asked_first (early_count ss)) b (all_at t ss) log outcome → EndsSo t step ss (all_at t ss) log outcome
@@ -161,14 +161,14 @@ pub record BeginsAll (t : ℕ) (ss : List Shape) (log : List Sent) : Type 0 wher
   pub steps : List Sent
   pub rest : List Sent
   pub log_is : log ≡ (backs ++ steps) ++ rest
-  pub asked : askings steps ≡ to_those everyone (λ (shape : Shape). C.DoStep t size) ss
+  pub asked : component_calls steps ≡ to_those everyone (λ (shape : Shape). C.DoStep t size) ss
 
 module _ (t step : ℕ) (ss : List Shape) where
   abbrev home : List Stand
   home = all_at t ss
 
-  by_asks : (sized : Stand → Bool) (e : ℕ) (front : List Sent) → Asks t step sized (comes_first (λ (shape : Shape). true)) e (all_at t ss) front → (rest log : List Sent) → log ≡ front ++ rest → BeginsAll t ss log
-  by_asks sized e front asks rest log is = record {
+  by_asks : (sized : Stand → Bool) (e : ℕ) (prefix : List Sent) → Asks t step sized (comes_first (λ (shape : Shape). true)) e (all_at t ss) prefix → (rest log : List Sent) → log ≡ prefix ++ rest → BeginsAll t ss log
+  by_asks sized e prefix asks rest log is = record {
     size = e - t;
     backs = asks.backs;
     steps = asks.steps;
@@ -183,15 +183,15 @@ module _ (t step : ℕ) (ss : List Shape) where
       ap (λ (b : Bool). if not b then record { component = k; call = C.Restore } ∷ to_some_from (k + 1) (is_away t (comes_first (λ (shape : Shape). true))) C.Restore (all_at t xs) else to_some_from (k + 1) (is_away t (comes_first (λ (shape : Shape). true))) C.Restore (all_at t xs)) (same_number t t refl)
       ∙ away_none (k + 1) xs
 
-  never : (front : List Sent) (last : Sent) (back : List Sent) → [] ≡ askings (front ++ last ∷ back) → ⊥
+  never : (prefix : List Sent) (last : Sent) (back : List Sent) → [] ≡ component_calls (prefix ++ last ∷ back) → ⊥
   never [] last back e = absurd (cc)
-  never (s ∷ front) last back e = absurd (cc)
+  never (s ∷ prefix) last back e = absurd (cc)
 
   -- one with a bad answer does
   pub begins_all : (b : ℕ) (log : List Sent) (bad : BadAnswer) (stands : List Stand) → stands ≡ all_at t ss → Agrees t step (λ (shape : Shape). true) b stands log (Fails bad) → BeginsAll t ss log
   begins_all _ _ bad _ at (FirstStops b stands log _ (IsUnfit i unfit none is)) = absurd (cc)
   begins_all _ _ bad _ at (FirstStops b stands log _ (InBack other fits fails is)) =
-      absurd (never fails.front fails.last fails.back (sym (away_none 0 ss) ∙ ap (λ (xs : List Stand). to_some (is_away t (comes_first (λ (shape : Shape). true))) C.Restore xs) (sym at) ∙ sym fails.calls_are ∙ ap askings fails.log_is))
+      absurd (never fails.prefix fails.last fails.back (sym (away_none 0 ss) ∙ ap (λ (xs : List Stand). to_some (is_away t (comes_first (λ (shape : Shape). true))) C.Restore xs) (sym at) ∙ sym fails.calls_are ∙ ap component_calls fails.log_is))
   begins_all _ _ bad _ at (FirstStops b stands log _ (InStep other backs steps fits back fails log_is is)) = record {
     size = b - t;
     backs = backs;
@@ -201,10 +201,10 @@ module _ (t step : ℕ) (ss : List Shape) where
     asked = fails.calls_are ∙ ap (λ (xs : List Stand). to_some (comes_first (λ (shape : Shape). true)) (C.DoStep t (b - t)) xs) at ∙ to_each_stand t 0 (C.DoStep t (b - t)) ss;
   }
   begins_all _ _ bad _ at (FirstMeet b stands log _ m asks m_is there is) = absurd (cc)
-  begins_all _ _ bad _ at (NextStops b stands log _ m front back mids asks mids_is m_is apart stops log_is) = by_asks everyone_stands b front (subst (λ (xs : List Stand). Asks t step everyone_stands (comes_first (λ (shape : Shape). true)) b xs front) at asks) back log log_is
-  begins_all _ _ bad _ at (NextMeet b stands log _ m front back mids asks mids_is m_is apart next there is log_is) = absurd (cc)
-  begins_all _ _ bad _ at (GoesAnew b stands log _ m c front back rest mids ends asks mids_is m_is apart next ends_is behind c_is more log_is) =
-      by_asks everyone_stands b front (subst (λ (xs : List Stand). Asks t step everyone_stands (comes_first (λ (shape : Shape). true)) b xs front) at asks) (back ++ rest) log log_is
+  begins_all _ _ bad _ at (NextStops b stands log _ m prefix back mids asks mids_is m_is apart stops log_is) = by_asks everyone_stands b prefix (subst (λ (xs : List Stand). Asks t step everyone_stands (comes_first (λ (shape : Shape). true)) b xs prefix) at asks) back log log_is
+  begins_all _ _ bad _ at (NextMeet b stands log _ m prefix back mids asks mids_is m_is apart next there is log_is) = absurd (cc)
+  begins_all _ _ bad _ at (GoesAnew b stands log _ m c prefix back rest mids ends asks mids_is m_is apart next ends_is after c_is more log_is) =
+      by_asks everyone_stands b prefix (subst (λ (xs : List Stand). Asks t step everyone_stands (comes_first (λ (shape : Shape). true)) b xs prefix) at asks) (back ++ rest) log log_is
 
 pub none_both : {X : Type 0} (a b : List X) → a ++ b ≡ [] → (a ≡ []) × (b ≡ [])
 none_both [] b e = (refl, e)

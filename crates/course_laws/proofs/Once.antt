@@ -7,31 +7,31 @@ use Rattle.fmi_calls.specs.declared.call.Call.TheVariants as C
 use Rattle.fmi_calls.specs.declared.call.Kind.{Kind}
 use Rattle.fmi_calls.specs.KindFacts.{IsRunCall, may_repeat, moves_on}
 use Rattle.fmi_calls.specs.Kinds.{kind_of}
-use Rattle.fmu_peer.specs.Lean.{NoneTwiceBehind, SizesFall, StepsFall, seen_after, without_value}
+use Rattle.fmu_peer.specs.Lean.{NoneTwiceAfter, SizesFall, StepsFall, seen_after, without_value}
 use Rattle.event_iteration.specs.WalkCalls.{AreNew, IsUse, Span, use_in}
-use Rattle.event_iteration.proofs.ByLog.{Differ, seen_behind, twice_on, use_kept, use_stays}
+use Rattle.event_iteration.proofs.ByLog.{Differ, seen_after_all, twice_on, use_kept, use_stays}
 use Rattle.course_laws.specs.Laws.{AreNeeded}
 
 -- ---- lists
 
-pub seen_append : (seen a b : List Call) → seen_behind seen (a ++ b) ≡ seen_behind (seen_behind seen a) b
+pub seen_append : (seen a b : List Call) → seen_after_all seen (a ++ b) ≡ seen_after_all (seen_after_all seen a) b
 seen_append seen [] b = refl
 seen_append seen (c ∷ a) b = seen_append (seen_after seen c) a b
 
-twice_front : (seen a b : List Call) → NoneTwiceBehind seen (a ++ b) → NoneTwiceBehind seen a
-twice_front seen [] b h = tt
-twice_front seen (c ∷ a) b h = (h.0, twice_front (seen_after seen c) a b h.1)
+twice_prefix : (seen a b : List Call) → NoneTwiceAfter seen (a ++ b) → NoneTwiceAfter seen a
+twice_prefix seen [] b h = tt
+twice_prefix seen (c ∷ a) b h = (h.0, twice_prefix (seen_after seen c) a b h.1)
 
 -- calls that leave the FMU where it is are seen beside those before them
-seen_staying : (P : Call → Type 0) (cs seen : List Call) → All (λ (c : Call). moves_on c ≡ false) cs → All P cs → All P seen → All P (seen_behind seen cs)
+seen_staying : (P : Call → Type 0) (cs seen : List Call) → All (λ (c : Call). moves_on c ≡ false) cs → All P cs → All P seen → All P (seen_after_all seen cs)
 seen_staying P [] seen stay mine all = all
 seen_staying P (c ∷ cs) seen stay mine all =
     seen_staying P cs (seen_after seen c) (All-tail (λ (d : Call). moves_on d ≡ false) c cs stay) (All-tail P c cs mine)
     (subst (All P) (sym (ap (λ (b : Bool). if b then c ∷ [] else c ∷ seen) (All-head (λ (d : Call). moves_on d ≡ false) c cs stay))) (All-cons P c seen (All-head P c cs mine) all))
 
-pub front_all : (P : Call → Type 0) (a b : List Call) → All P (a ++ b) → All P a
-front_all P [] b all = All-nil P
-front_all P (c ∷ a) b all = All-cons P c a (All-head P c (a ++ b) all) (front_all P a b (All-tail P c (a ++ b) all))
+pub prefix_all : (P : Call → Type 0) (a b : List Call) → All P (a ++ b) → All P a
+prefix_all P [] b all = All-nil P
+prefix_all P (c ∷ a) b all = All-cons P c a (All-head P c (a ++ b) all) (prefix_all P a b (All-tail P c (a ++ b) all))
 
 -- ---- the sizes of steps after a Save
 
@@ -50,9 +50,9 @@ IsBelow (C.DoStep at size) (Some bound) = IfSome bound (λ b. size < b)
 IsBelow call kept = Unit {0}
 
 -- after calls, and each step of them is below
-abbrev pub open_behind : Open → List Call → Open
-open_behind kept [] = kept
-open_behind kept (c ∷ cs) = open_behind (open_by c kept) cs
+abbrev pub open_after : Open → List Call → Open
+open_after kept [] = kept
+open_after kept (c ∷ cs) = open_after (open_by c kept) cs
 
 abbrev pub AreBelow : Open → List Call → Type 0
 AreBelow kept [] = Unit {0}
@@ -70,17 +70,17 @@ steps_fall kept [] below = tt
 steps_fall kept (C.Save ∷ cs) below = (sizes_fall None cs below.1, steps_fall (Some None) cs below.1)
 steps_fall kept (c ∷ cs) below = steps_fall (open_by c kept) cs below.1
 
-pub open_append : (kept : Open) (a b : List Call) → open_behind kept (a ++ b) ≡ open_behind (open_behind kept a) b
+pub open_append : (kept : Open) (a b : List Call) → open_after kept (a ++ b) ≡ open_after (open_after kept a) b
 open_append kept [] b = refl
 open_append kept (c ∷ a) b = open_append (open_by c kept) a b
 
-pub below_append : (kept : Open) (a b : List Call) → AreBelow kept a → AreBelow (open_behind kept a) b → AreBelow kept (a ++ b)
+pub below_append : (kept : Open) (a b : List Call) → AreBelow kept a → AreBelow (open_after kept a) b → AreBelow kept (a ++ b)
 below_append kept [] b below more = more
 below_append kept (c ∷ a) b below more = (below.0, below_append (open_by c kept) a b below.1 more)
 
-below_front : (kept : Open) (a b : List Call) → AreBelow kept (a ++ b) → AreBelow kept a
-below_front kept [] b below = tt
-below_front kept (c ∷ a) b below = (below.0, below_front (open_by c kept) a b below.1)
+below_prefix : (kept : Open) (a b : List Call) → AreBelow kept (a ++ b) → AreBelow kept a
+below_prefix kept [] b below = tt
+below_prefix kept (c ∷ a) b below = (below.0, below_prefix (open_by c kept) a b below.1)
 
 -- a call that names a port leaves that
 use_open : (c : Call) (kept : Open) → 0 < use_in c → IsBelow c kept × (open_by c kept ≡ kept)
@@ -89,12 +89,12 @@ use_open C.Free kept h = absurd (omega (arith, h))
 use_open (C.DoStep at size) kept h = absurd (omega (arith, h))
 use_open c kept h = (tt, refl)
 
-uses_open : (cs : List Call) (kept : Open) → All (λ (c : Call). 0 < use_in c) cs → AreBelow kept cs × (open_behind kept cs ≡ kept)
+uses_open : (cs : List Call) (kept : Open) → All (λ (c : Call). 0 < use_in c) cs → AreBelow kept cs × (open_after kept cs ≡ kept)
 uses_open [] kept all = (tt, refl)
 uses_open (c ∷ cs) kept all =
     let own = use_open c kept (All-head (λ (d : Call). 0 < use_in d) c cs all) in
     let more = uses_open cs kept (All-tail (λ (d : Call). 0 < use_in d) c cs all) in
-    ((own.0, subst (λ (o : Open). AreBelow o cs) (sym own.1) more.0), ap (λ (o : Open). open_behind o cs) own.1 ∙ more.1)
+    ((own.0, subst (λ (o : Open). AreBelow o cs) (sym own.1) more.0), ap (λ (o : Open). open_after o cs) own.1 ∙ more.1)
 
 -- ---- what stands since the last call that moved the FMU on
 
@@ -118,20 +118,20 @@ abbrev pub Keep : Limit → Limit → Type 0
 Keep l m = (c : Call) → IsSeen l c → IsSeen m c
 
 -- calls of a run, none of which stands twice where it isn't needed; these hold of those since the last that moved the FMU on
-pub record IsSo (l : Limit) (calls : List Call) : Type 0 where
+pub record CallsSince (l : Limit) (calls : List Call) : Type 0 where
   pub runs : All IsRunCall calls
-  pub once : NoneTwiceBehind [] calls
-  pub seen : All (IsSeen l) (seen_behind [] calls)
+  pub once : NoneTwiceAfter [] calls
+  pub seen : All (IsSeen l) (seen_after_all [] calls)
   pub below : AreBelow None calls
-  pub kept : open_behind None calls ≡ l.kept
+  pub kept : open_after None calls ≡ l.kept
 
-pub needed_front : (l : Limit) (front log left : List Call) → IsSo l (front ++ (log ++ left)) → AreNeeded (front ++ log)
-needed_front l front log left so =
-    let same : front ++ (log ++ left) ≡ (front ++ log) ++ left = sym (append_assoc front log left) in
-    let runs : All IsRunCall (front ++ log) = front_all IsRunCall (front ++ log) left (subst (All IsRunCall) same so.runs) in
-    record { runs = runs; lean = (twice_front [] (front ++ log) left (subst (NoneTwiceBehind []) same so.once), steps_fall None (front ++ log) (below_front None (front ++ log) left (subst (AreBelow None) same so.below))) }
+pub needed_prefix : (l : Limit) (prefix log left : List Call) → CallsSince l (prefix ++ (log ++ left)) → AreNeeded (prefix ++ log)
+needed_prefix l prefix log left so =
+    let same : prefix ++ (log ++ left) ≡ (prefix ++ log) ++ left = sym (append_assoc prefix log left) in
+    let runs : All IsRunCall (prefix ++ log) = prefix_all IsRunCall (prefix ++ log) left (subst (All IsRunCall) same so.runs) in
+    record { runs = runs; lean = (twice_prefix [] (prefix ++ log) left (subst (NoneTwiceAfter []) same so.once), steps_fall None (prefix ++ log) (below_prefix None (prefix ++ log) left (subst (AreBelow None) same so.below))) }
 
-pub needed : (l : Limit) (calls : List Call) → IsSo l calls → AreNeeded calls
+pub needed : (l : Limit) (calls : List Call) → CallsSince l calls → AreNeeded calls
 needed l calls so = record { runs = so.runs; lean = (so.once, steps_fall None calls so.below) }
 
 kind_kept : (c : Call) → kind_of (without_value c) ≡ kind_of c
@@ -168,39 +168,39 @@ use_runs c h = absurd (omega (arith, h))
 
 -- ---- one part after others
 
-module _ (l m : Limit) (calls : List Call) (so : IsSo l calls) where
-  pub weaker : Keep l m → l.kept ≡ m.kept → IsSo m calls
-  weaker h same = record { runs = so.runs; once = so.once; seen = All-weaker (IsSeen l) (IsSeen m) h (seen_behind [] calls) so.seen; below = so.below; kept = so.kept ∙ same }
+module _ (l m : Limit) (calls : List Call) (so : CallsSince l calls) where
+  pub weaker : Keep l m → l.kept ≡ m.kept → CallsSince m calls
+  weaker h same = record { runs = so.runs; once = so.once; seen = All-weaker (IsSeen l) (IsSeen m) h (seen_after_all [] calls) so.seen; below = so.below; kept = so.kept ∙ same }
 
   -- one call
-  pub called : (call : Call) → IsRunCall call → (may_repeat call ≡ false → (c : Call) → IsSeen l c → Differ c call) → IsSeen m call → (moves_on call ≡ false → Keep l m) → IsBelow call l.kept → open_by call l.kept ≡ m.kept → IsSo m (calls ++ call ∷ [])
+  pub called : (call : Call) → IsRunCall call → (may_repeat call ≡ false → (c : Call) → IsSeen l c → Differ c call) → IsSeen m call → (moves_on call ≡ false → Keep l m) → IsBelow call l.kept → open_by call l.kept ≡ m.kept → CallsSince m (calls ++ call ∷ [])
   called call run other is stays below kept = record {
     runs = All-append IsRunCall calls (call ∷ []) so.runs (All-cons IsRunCall call [] run (All-nil IsRunCall));
-    once = twice_on [] calls (call ∷ []) so.once ((λ once. All-weaker (IsSeen l) (λ (c : Call). Differ c call) (other once) (seen_behind [] calls) so.seen), tt);
+    once = twice_on [] calls (call ∷ []) so.once ((λ once. All-weaker (IsSeen l) (λ (c : Call). Differ c call) (other once) (seen_after_all [] calls) so.seen), tt);
     seen = subst (All (IsSeen m)) (sym (seen_append [] calls (call ∷ []))) (last (moves_on call) refl);
     below = below_append None calls (call ∷ []) so.below (subst (IsBelow call) (sym so.kept) below, tt);
     kept = open_append None calls (call ∷ []) ∙ ap (open_by call) so.kept ∙ kept;
   } where
-    last : (b : Bool) → moves_on call ≡ b → All (IsSeen m) (if b then call ∷ [] else call ∷ seen_behind [] calls)
+    last : (b : Bool) → moves_on call ≡ b → All (IsSeen m) (if b then call ∷ [] else call ∷ seen_after_all [] calls)
     last true moves = All-cons (IsSeen m) call [] is (All-nil (IsSeen m))
-    last false moves = All-cons (IsSeen m) call (seen_behind [] calls) is (All-weaker (IsSeen l) (IsSeen m) (stays moves) (seen_behind [] calls) so.seen)
+    last false moves = All-cons (IsSeen m) call (seen_after_all [] calls) is (All-weaker (IsSeen l) (IsSeen m) (stays moves) (seen_after_all [] calls) so.seen)
 
   -- or none
   pub switched : (b : Bool) (call : Call) → IsRunCall call → (may_repeat call ≡ false → (c : Call) → IsSeen l c → Differ c call) → IsSeen m call → (moves_on call ≡ false → Keep l m) → IsBelow call l.kept → (b ≡ false → Keep l m) →
-      (if b then open_by call l.kept else l.kept) ≡ m.kept → IsSo m (calls ++ (if b then call ∷ [] else []))
+      (if b then open_by call l.kept else l.kept) ≡ m.kept → CallsSince m (calls ++ (if b then call ∷ [] else []))
   switched true call run other is stays below h kept = called call run other is stays below kept
-  switched false call run other is stays below h kept = subst (IsSo m) (sym (append-nil calls)) (weaker (h refl) kept)
+  switched false call run other is stays below h kept = subst (CallsSince m) (sym (append-nil calls)) (weaker (h refl) kept)
 
 -- calls that name ports
-pub named : (l : Limit) (span : Span) (calls cs : List Call) → IsSo l calls → l.below ≤ span.from → span.from ≤ span.below → AreNew span cs → IsSo (record l { below = span.below }) (calls ++ cs)
+pub named : (l : Limit) (span : Span) (calls cs : List Call) → CallsSince l calls → l.below ≤ span.from → span.from ≤ span.below → AreNew span cs → CallsSince (record l { below = span.below }) (calls ++ cs)
 named l span calls cs so low high new = record {
   runs = All-append IsRunCall calls cs so.runs (All-weaker (IsUse span) IsRunCall (λ c u. use_runs c (above c u)) cs new.uses);
-  once = twice_on [] calls cs so.once (new.once (seen_behind [] calls) (All-weaker (IsSeen l) (λ (c : Call). use_in c < span.from) early (seen_behind [] calls) so.seen));
+  once = twice_on [] calls cs so.once (new.once (seen_after_all [] calls) (All-weaker (IsSeen l) (λ (c : Call). use_in c < span.from) early (seen_after_all [] calls) so.seen));
   seen = subst (All (IsSeen (record l { below = span.below }))) (sym (seen_append [] calls cs))
-      (seen_staying (IsSeen (record l { below = span.below })) cs (seen_behind [] calls) (All-weaker (IsUse span) (λ (c : Call). moves_on c ≡ false) (λ c u. use_stays c (above c u)) cs new.uses)
-      (All-weaker (IsUse span) (IsSeen (record l { below = span.below })) (λ c u. NamesPort (above c u) u.below) cs new.uses) (All-weaker (IsSeen l) (IsSeen (record l { below = span.below })) later (seen_behind [] calls) so.seen));
-  below = below_append None calls cs so.below (uses_open cs (open_behind None calls) (All-weaker (IsUse span) (λ (c : Call). 0 < use_in c) above cs new.uses)).0;
-  kept = open_append None calls cs ∙ (uses_open cs (open_behind None calls) (All-weaker (IsUse span) (λ (c : Call). 0 < use_in c) above cs new.uses)).1 ∙ so.kept;
+      (seen_staying (IsSeen (record l { below = span.below })) cs (seen_after_all [] calls) (All-weaker (IsUse span) (λ (c : Call). moves_on c ≡ false) (λ c u. use_stays c (above c u)) cs new.uses)
+      (All-weaker (IsUse span) (IsSeen (record l { below = span.below })) (λ c u. NamesPort (above c u) u.below) cs new.uses) (All-weaker (IsSeen l) (IsSeen (record l { below = span.below })) later (seen_after_all [] calls) so.seen));
+  below = below_append None calls cs so.below (uses_open cs (open_after None calls) (All-weaker (IsUse span) (λ (c : Call). 0 < use_in c) above cs new.uses)).0;
+  kept = open_append None calls cs ∙ (uses_open cs (open_after None calls) (All-weaker (IsUse span) (λ (c : Call). 0 < use_in c) above cs new.uses)).1 ∙ so.kept;
 } where
   above : (c : Call) → IsUse span c → 0 < use_in c
   above c u = let n = new.names in let f = u.from in omega (arith, n, f)

@@ -16,14 +16,14 @@ use Rattle.system_model.specs.Bounds.{BindsParameters}
 use Rattle.system_model.specs.Sound.{IsSound}
 use Rattle.system_model.specs.Text.{Instant}
 use Rattle.slot_calls.specs.declared.bad_answer.BadAnswer.{BadAnswer}
-use Rattle.slot_calls.specs.Log.{Sent, askings, part}
+use Rattle.slot_calls.specs.Log.{Sent, component_calls, part}
 use Rattle.slot_calls.specs.Stage.{IsAnswered, everyone, shapes_of}
 use Rattle.event_iteration.specs.WalkCalls.{own}
 use Rattle.calling_sequence.specs.Calls.{making, restoring}
 use Rattle.calling_sequence.specs.Course.{Binds, Configured, CourseIn, Entered, Enters, Exits, Extent, Finds, Found, FromHeld, LeadsTo, Made, Place, Timed, Times, Whole, first_of, part_at}
 use Rattle.calling_sequence.specs.Holding.{holding}
 use Rattle.calling_sequence.specs.Parts.{Calls, Falls}
-use Rattle.calling_sequence.proofs.Along.{along}
+use Rattle.calling_sequence.proofs.CourseInduction.{along}
 use Rattle.course_laws.specs.Laws.{GoesOneWay, GoesWith}
 use Rattle.course_laws.specs.Runs.{BackBadly, BackFalling, BackStands, Comes, Falling, Holding, HoldingBadly, Stands, Unmade, Wholly}
 use Rattle.course_laws.proofs.OwnCalls.{own_calls, own_log}
@@ -56,34 +56,34 @@ goes_of resumed (Only kind) so c is = tt
 -- ---- along a course
 
 -- after Initialization Mode
-abbrev IsBehind : Place → Type 0
-IsBehind Made = ⊥
-IsBehind Configured = ⊥
-IsBehind Entered = ⊥
-IsBehind (Found values) = ⊥
-IsBehind (Timed timers) = ⊥
-IsBehind p = Unit {0}
+abbrev IsAfter : Place → Type 0
+IsAfter Made = ⊥
+IsAfter Configured = ⊥
+IsAfter Entered = ⊥
+IsAfter (Found values) = ⊥
+IsAfter (Timed timers) = ⊥
+IsAfter p = Unit {0}
 
-behind_on : (system : System) (plan : Plan) (p q : Place) (values : List (Option ℤ)) (log : List Sent) → LeadsTo system plan p values log q → IsBehind p → IsBehind q
-behind_on system plan _ _ _ _ (Binds values log) is = absurd is
-behind_on system plan _ _ _ _ (Enters values log) is = absurd is
-behind_on system plan _ _ _ _ (Finds values log) is = absurd is
-behind_on system plan _ _ _ _ (Times found values log timers kept told) is = absurd is
-behind_on system plan _ _ _ _ (Exits timers values log s ticks first begins) is = absurd is
-behind_on system plan _ _ _ _ leads is = tt
+after_on : (system : System) (plan : Plan) (p q : Place) (values : List (Option ℤ)) (log : List Sent) → LeadsTo system plan p values log q → IsAfter p → IsAfter q
+after_on system plan _ _ _ _ (Binds values log) is = absurd is
+after_on system plan _ _ _ _ (Enters values log) is = absurd is
+after_on system plan _ _ _ _ (Finds values log) is = absurd is
+after_on system plan _ _ _ _ (Times found values log timers kept told) is = absurd is
+after_on system plan _ _ _ _ (Exits timers values log s ticks first begins) is = absurd is
+after_on system plan _ _ _ _ leads is = tt
 
 whole_fits : (p : Place) → fits false (sort_at p) ≡ true
 whole_fits Configured = refl
 whole_fits p = refl
 
-behind_fits : (p : Place) → IsBehind p → fits true (sort_at p) ≡ true
-behind_fits Made is = absurd is
-behind_fits Configured is = absurd is
-behind_fits p is = refl
+after_fits : (p : Place) → IsAfter p → fits true (sort_at p) ≡ true
+after_fits Made is = absurd is
+after_fits Configured is = absurd is
+after_fits p is = refl
 
 module _ (system : System) (resumed : Bool) where
-  goes_on : (front more : List Sent) → Throughout system (GoesWith resumed) front → Throughout system (GoesWith resumed) more → Throughout system (GoesWith resumed) (front ++ more)
-  goes_on front more f m i = subst (All (GoesWith resumed)) (sym (own_log i front more)) (All-append (GoesWith resumed) (own i (askings front)) (own i (askings more)) (f i) (m i))
+  goes_on : (prefix more : List Sent) → Throughout system (GoesWith resumed) prefix → Throughout system (GoesWith resumed) more → Throughout system (GoesWith resumed) (prefix ++ more)
+  goes_on prefix more f m i = subst (All (GoesWith resumed)) (sym (own_log i prefix more)) (All-append (GoesWith resumed) (own i (component_calls prefix)) (own i (component_calls more)) (f i) (m i))
 
   made_goes : (link i : ℕ) → All (GoesWith resumed) (own i (making link system))
   made_goes link = those system (GoesWith resumed) everyone (instantiate_of link) (λ s. tt)
@@ -93,19 +93,19 @@ module _ (system : System) (resumed : Bool) where
 
   module _ (sound : IsSound system) (bound : Bound) (plan : Plan) (binds : BindsParameters system bound) (extent : Extent) (Is : Place → Type 0) (begins : Is (first_of extent)) (on : (p q : Place) (values : List (Option ℤ)) (log : List Sent) → LeadsTo system plan p values log q → Is p → Is q) (fit : (p : Place) → Is p → fits resumed (sort_at p) ≡ true) where
     goes_sort : (p : Place) → Is p → (log : List Sent) → Throughout system (IsOf (sort_at p)) log → Throughout system (GoesWith resumed) log
-    goes_sort p is log all i = All-weaker (IsOf (sort_at p)) (GoesWith resumed) (goes_of resumed (sort_at p) (fit p is)) (own i (askings log)) (all i)
+    goes_sort p is log all i = All-weaker (IsOf (sort_at p)) (GoesWith resumed) (goes_of resumed (sort_at p) (fit p is)) (own i (component_calls log)) (all i)
 
     course_goes : (p : Place) (log : List Sent) (is : List Instant) → CourseIn system bound plan extent p log is → Is p × Throughout system (GoesWith resumed) log
     course_goes = along system bound plan extent (λ p log is. Is p × Throughout system (GoesWith resumed) log) (begins, λ i. All-nil (GoesWith resumed))
-        (λ p q values front more is course at does leads within. (
+        (λ p q values prefix more is course at does leads within. (
           on p q values more leads at.0,
-          goes_on front more at.1 (goes_sort p at.0 more (does_all system (IsOf (sort_at p)) (part_at system bound plan p) (sorts_are system sound bound plan binds p) values more does)),
+          goes_on prefix more at.1 (goes_sort p at.0 more (does_all system (IsOf (sort_at p)) (part_at system bound plan p) (sorts_are system sound bound plan binds p) values more does)),
         ))
 
-    fallen_goes : (p : Place) (bad : BadAnswer) (front more : List Sent) (is : List Instant) → CourseIn system bound plan extent p front is → Falls system (part_at system bound plan p) bad more → Throughout system (GoesWith resumed) (front ++ more)
-    fallen_goes p bad front more is course falls =
-        let at = course_goes p front is course in
-        goes_on front more at.1 (goes_sort p at.0 more (falls_all system (IsOf (sort_at p)) (part_at system bound plan p) (sorts_are system sound bound plan binds p) bad more falls))
+    fallen_goes : (p : Place) (bad : BadAnswer) (prefix more : List Sent) (is : List Instant) → CourseIn system bound plan extent p prefix is → Falls system (part_at system bound plan p) bad more → Throughout system (GoesWith resumed) (prefix ++ more)
+    fallen_goes p bad prefix more is course falls =
+        let at = course_goes p prefix is course in
+        goes_on prefix more at.1 (goes_sort p at.0 more (falls_all system (IsOf (sort_at p)) (part_at system bound plan p) (sorts_are system sound bound plan binds p) bad more falls))
 
 -- ---- each run
 
@@ -119,9 +119,9 @@ module _ (system : System) (sound : IsSound system) where
   whole_goes : (bad : Option BadAnswer) (log : List Sent) → Comes system bad log → Throughout system (GoesWith false) log
   whole_goes _ _ (Unmade link bad log stops) = falls_all system (GoesWith false) (Calls (making link system)) (made_goes system false link) bad log stops
   whole_goes _ _ (Stands bound plan p made log is binds counts answered course halts) = goes_on system false made log (made_all system false plan.link made answered) (whole_course bound plan binds p log is course)
-  whole_goes _ _ (Falling bound plan p bad made front more is binds counts answered course falls) =
-      goes_on system false made (front ++ more) (made_all system false plan.link made answered)
-      (fallen_goes system false sound bound plan binds Whole Anywhere tt (λ p q values l leads at. tt) (λ p at. whole_fits p) p bad front more is course falls)
+  whole_goes _ _ (Falling bound plan p bad made prefix more is binds counts answered course falls) =
+      goes_on system false made (prefix ++ more) (made_all system false plan.link made answered)
+      (fallen_goes system false sound bound plan binds Whole Anywhere tt (λ p q values l leads at. tt) (λ p at. whole_fits p) p bad prefix more is course falls)
 
   by_parts : (resumed : Bool) (log : List Sent) → Throughout system (GoesWith resumed) log → (k : ℕ) → All (GoesWith resumed) (calls_in (part k log))
   by_parts resumed log all k = subst (All (GoesWith resumed)) (sym (own_calls k log)) (all k)
@@ -134,17 +134,17 @@ module _ (system : System) (sound : IsSound system) where
 
 pub goes_one_way : GoesOneWay
 goes_one_way system _ _ sound (Wholly bad log comes) = (false, by_parts system sound false log (whole_goes system sound bad log comes))
-goes_one_way system _ _ sound (Holding bound plan s made front kept is binds counts answered course keeps) = (
+goes_one_way system _ _ sound (Holding bound plan s made prefix kept is binds counts answered course keeps) = (
   false,
-  by_parts system sound false (made ++ (front ++ kept))
-      (goes_on system false made (front ++ kept) (made_all system false plan.link made answered)
-      (goes_on system false front kept (whole_course system sound bound plan binds _ front is course) (does_all system (GoesWith false) (Calls (holding system)) (holds_goes system sound) [] kept keeps))),
+  by_parts system sound false (made ++ (prefix ++ kept))
+      (goes_on system false made (prefix ++ kept) (made_all system false plan.link made answered)
+      (goes_on system false prefix kept (whole_course system sound bound plan binds _ prefix is course) (does_all system (GoesWith false) (Calls (holding system)) (holds_goes system sound) [] kept keeps))),
 )
-goes_one_way system _ _ sound (HoldingBadly bound plan s bad made front kept is binds counts answered course stops) = (
+goes_one_way system _ _ sound (HoldingBadly bound plan s bad made prefix kept is binds counts answered course stops) = (
   false,
-  by_parts system sound false (made ++ (front ++ kept))
-      (goes_on system false made (front ++ kept) (made_all system false plan.link made answered)
-      (goes_on system false front kept (whole_course system sound bound plan binds _ front is course) (falls_all system (GoesWith false) (Calls (holding system)) (holds_goes system sound) bad kept stops))),
+  by_parts system sound false (made ++ (prefix ++ kept))
+      (goes_on system false made (prefix ++ kept) (made_all system false plan.link made answered)
+      (goes_on system false prefix kept (whole_course system sound bound plan binds _ prefix is course) (falls_all system (GoesWith false) (Calls (holding system)) (holds_goes system sound) bad kept stops))),
 )
 goes_one_way system _ _ sound (BackBadly bound plan s sizes bad made back binds counts may answered stops) = (
   true,
@@ -156,12 +156,12 @@ goes_one_way system _ _ sound (BackStands bound plan s sizes p made back log is 
   by_parts system sound true (made ++ (back ++ log))
       (goes_on system true made (back ++ log) (made_all system true plan.link made answered)
       (goes_on system true back log (does_all system (GoesWith true) (Calls (restoring s.t plan.stop sizes)) (backs_goes system sound s.t plan.stop sizes) [] back went)
-      (course_goes system true sound bound plan binds (FromHeld s) IsBehind tt (behind_on system plan) behind_fits p log is course).1)),
+      (course_goes system true sound bound plan binds (FromHeld s) IsAfter tt (after_on system plan) after_fits p log is course).1)),
 )
-goes_one_way system _ _ sound (BackFalling bound plan s sizes p bad made back front more is binds counts may answered went course falls) = (
+goes_one_way system _ _ sound (BackFalling bound plan s sizes p bad made back prefix more is binds counts may answered went course falls) = (
   true,
-  by_parts system sound true (made ++ (back ++ (front ++ more)))
-      (goes_on system true made (back ++ (front ++ more)) (made_all system true plan.link made answered)
-      (goes_on system true back (front ++ more) (does_all system (GoesWith true) (Calls (restoring s.t plan.stop sizes)) (backs_goes system sound s.t plan.stop sizes) [] back went)
-      (fallen_goes system true sound bound plan binds (FromHeld s) IsBehind tt (behind_on system plan) behind_fits p bad front more is course falls))),
+  by_parts system sound true (made ++ (back ++ (prefix ++ more)))
+      (goes_on system true made (back ++ (prefix ++ more)) (made_all system true plan.link made answered)
+      (goes_on system true back (prefix ++ more) (does_all system (GoesWith true) (Calls (restoring s.t plan.stop sizes)) (backs_goes system sound s.t plan.stop sizes) [] back went)
+      (fallen_goes system true sound bound plan binds (FromHeld s) IsAfter tt (after_on system plan) after_fits p bad prefix more is course falls))),
 )

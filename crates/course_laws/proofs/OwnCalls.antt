@@ -9,7 +9,7 @@ use Rattle.system_model.specs.declared.bound.BoundValue.{BoundValue}
 use Rattle.system_model.specs.declared.system.Component.{Component}
 use Rattle.system_model.specs.declared.system.System.{System}
 use Rattle.run_model.specs.Initial.{set_call}
-use Rattle.slot_calls.specs.Log.{Asking, Sent, askings, part}
+use Rattle.slot_calls.specs.Log.{ComponentCall, Sent, component_calls, part}
 use Rattle.slot_calls.specs.Stage.{has_events, shapes_of, to_those, to_those_from}
 use Rattle.slot_calls.proofs.CallerLemmas.{askings_append, other, same}
 use Rattle.event_iteration.specs.WalkCalls.{has_events_at, own}
@@ -18,18 +18,18 @@ use Rattle.calling_sequence.specs.Calls.{binding_from, sets_of}
 use Rattle.fmu_peer.specs.Talk.{calls_in}
 
 -- they are the calls of its part of the log
-pub own_calls : (k : ℕ) (log : List Sent) → calls_in (part k log) ≡ own k (askings log)
+pub own_calls : (k : ℕ) (log : List Sent) → calls_in (part k log) ≡ own k (component_calls log)
 own_calls k [] = refl
 own_calls k (s ∷ log) = by (s.component == k) (own_calls k log) where
-  by : (b : Bool) → calls_in (part k log) ≡ own k (askings log) → calls_in (if b then s.exchange ∷ part k log else part k log) ≡ (if b then s.exchange.call ∷ own k (askings log) else own k (askings log))
+  by : (b : Bool) → calls_in (part k log) ≡ own k (component_calls log) → calls_in (if b then s.exchange ∷ part k log else part k log) ≡ (if b then s.exchange.call ∷ own k (component_calls log) else own k (component_calls log))
   by true e = ap (λ (cs : List Call). s.exchange.call ∷ cs) e
   by false e = e
 
-pub own_log : (k : ℕ) (a b : List Sent) → own k (askings (a ++ b)) ≡ own k (askings a) ++ own k (askings b)
-own_log k a b = ap (own k) (askings_append a b) ∙ own_append k (askings a) (askings b)
+pub own_log : (k : ℕ) (a b : List Sent) → own k (component_calls (a ++ b)) ≡ own k (component_calls a) ++ own k (component_calls b)
+own_log k a b = ap (own k) (askings_append a b) ∙ own_append k (component_calls a) (component_calls b)
 
 -- one call
-abbrev one : ℕ → Call → List Asking
+abbrev one : ℕ → Call → List ComponentCall
 one i c = record { component = i; call = c } ∷ []
 
 own_one : (i k : ℕ) (c : Call) → i ≡ k → own k (one i c) ≡ c ∷ []
@@ -41,18 +41,18 @@ own_none i k c is = ap (λ (b : Bool). if b then c ∷ [] else []) (other i k is
 -- ---- calls to those whose shape passes a test
 
 module _ (test : Shape → Bool) (call : Shape → Call) where
-  abbrev those_from : ℕ → List Component → List Asking
+  abbrev those_from : ℕ → List Component → List ComponentCall
   those_from i cs = to_those_from i test call (map (λ (c : Component). c.shape) cs)
 
   -- the one to a component
   abbrev to_one : Component → List Call
   to_one c = if test c.shape then call c.shape ∷ [] else []
 
-  first_there : (b : Bool) (i k : ℕ) (c : Call) (rest : List Asking) → i ≢ k → own k (if b then record { component = i; call = c } ∷ rest else rest) ≡ own k rest
+  first_there : (b : Bool) (i k : ℕ) (c : Call) (rest : List ComponentCall) → i ≢ k → own k (if b then record { component = i; call = c } ∷ rest else rest) ≡ own k rest
   first_there true i k c rest is = own_append k (one i c) rest ∙ ap (λ (cs : List Call). cs ++ own k rest) (own_none i k c is)
   first_there false i k c rest is = refl
 
-  first_here : (b : Bool) (i k : ℕ) (c : Call) (rest : List Asking) → i ≡ k → own k rest ≡ [] → own k (if b then record { component = i; call = c } ∷ rest else rest) ≡ (if b then c ∷ [] else [])
+  first_here : (b : Bool) (i k : ℕ) (c : Call) (rest : List ComponentCall) → i ≡ k → own k rest ≡ [] → own k (if b then record { component = i; call = c } ∷ rest else rest) ≡ (if b then c ∷ [] else [])
   first_here true i k c rest is none = own_append k (one i c) rest ∙ ap₂ ◌++◌ (own_one i k c is) none
   first_here false i k c rest is none = none
 

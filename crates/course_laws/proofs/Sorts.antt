@@ -16,23 +16,23 @@ use Rattle.system_model.specs.Sound.{IsSound}
 use Rattle.system_model.specs.EarlyReturn.{early_count}
 use Rattle.run_model.specs.Stepping.{asked_first}
 use Rattle.slot_calls.specs.declared.bad_answer.BadAnswer.{BadAnswer}
-use Rattle.slot_calls.specs.Log.{Asking, Sent, asking_of, askings}
+use Rattle.slot_calls.specs.Log.{ComponentCall, Sent, component_call, component_calls}
 use Rattle.slot_calls.specs.Stage.{has_events, shapes_of, to_those}
 use Rattle.slot_calls.proofs.CallerLemmas.{those_calls}
 use Rattle.step_agreement.specs.Agreement.{Fails, Meets, Outcome, Unfit}
 use Rattle.step_agreement.proofs.CallerLemmas.{HasAlong, IsAlong, IsOfRound, along_agreement, round_calls}
 use Rattle.rollback.specs.StepsBy.{all_at}
-use Rattle.event_iteration.specs.WalkCalls.{AreNew, Front, IsUse, Span, UsesAre, WalkUses, WalksBy, Whole, has_events_at, initial_span, instant_span, interval_span, own, step_span, use_in}
+use Rattle.event_iteration.specs.WalkCalls.{AreNew, IsUse, Prefix, Span, UsesAre, WalkUses, WalksBy, Whole, has_events_at, initial_span, instant_span, interval_span, own, step_span, use_in}
 use Rattle.event_iteration.specs.Turns.{Rules}
 use Rattle.event_iteration.proofs.ByLog.{each_call_once, own_append}
 use Rattle.calling_sequence.specs.Calls.{entering_step, keeping, restoring}
 use Rattle.calling_sequence.specs.Holding.{holding}
-use Rattle.calling_sequence.specs.Course.{Agreed, Before, Configured, Departing, Entered, Found, Left, Leaving, Made, Place, Read, Rearmed, Restored, Saved, Seen, Short, Stepped, Timed, part_at}
+use Rattle.calling_sequence.specs.Course.{Agreed, Before, Configured, Departing, Entered, Found, Left, Leaving, Made, Place, Read, Rearmed, Restored, Saved, InstantDone, Short, Stepped, Timed, part_at}
 use Rattle.calling_sequence.proofs.Sizes.{shapes_all}
 use Rattle.calling_sequence.specs.Parts.{Agreement, AllAgree, Calls, Does, Falls, Part, Round, Walk}
 use Rattle.course_laws.proofs.BoundSets.{binding_new, setting_span}
 use Rattle.course_laws.proofs.Triples.{keeping_all, restoring_all}
-use Rattle.course_laws.proofs.Once.{front_all}
+use Rattle.course_laws.proofs.Once.{prefix_all}
 use Rattle.course_laws.proofs.UpdatesNeeded.{Throughout}
 
 -- calls that name ports, those of one kind, or those of an agreement
@@ -64,11 +64,11 @@ sort_at (Stepped s asked) = Only K.EnterEvent
 sort_at p = Uses
 
 -- what holds of each call holds of those to one
-own_all : (P : Call → Type 0) (i : ℕ) (calls : List Asking) → All (λ (a : Asking). P a.call) calls → All P (own i calls)
+own_all : (P : Call → Type 0) (i : ℕ) (calls : List ComponentCall) → All (λ (a : ComponentCall). P a.call) calls → All P (own i calls)
 own_all P i [] all = All-nil P
-own_all P i (a ∷ calls) all = by (a.component == i) (own_all P i calls (All-tail (λ (x : Asking). P x.call) a calls all)) where
+own_all P i (a ∷ calls) all = by (a.component == i) (own_all P i calls (All-tail (λ (x : ComponentCall). P x.call) a calls all)) where
   by : (b : Bool) → All P (own i calls) → All P (if b then a.call ∷ own i calls else own i calls)
-  by true rest = All-cons P a.call (own i calls) (All-head (λ (x : Asking). P x.call) a calls all) rest
+  by true rest = All-cons P a.call (own i calls) (All-head (λ (x : ComponentCall). P x.call) a calls all) rest
   by false rest = rest
 
 -- this holds of each call of a part
@@ -93,8 +93,8 @@ module _ (system : System) (P : Call → Type 0) where
       (All-append P (own i (entering_step system)) (own i (keeping system)) (those has_events (λ (shape : Shape). C.EnterStep) (λ s. enter) i) (own_all P i (keeping system) (keeping_all P save serialize free system)))
 
   -- the calls of an agreement
-  pub own_sent : (log : List Sent) → All (λ (s : Sent). P s.exchange.call) log → (i : ℕ) → All P (own i (askings log))
-  own_sent log all i = own_all P i (askings log) (All-map (λ (a : Asking). P a.call) asking_of log all)
+  pub own_sent : (log : List Sent) → All (λ (s : Sent). P s.exchange.call) log → (i : ℕ) → All P (own i (component_calls log))
+  own_sent log all i = own_all P i (component_calls log) (All-map (λ (a : ComponentCall). P a.call) component_call log all)
 
   abbrev AllSo : List Sent → Type 0
   AllSo log = All (λ (s : Sent). P s.exchange.call) log
@@ -102,8 +102,8 @@ module _ (system : System) (P : Call → Type 0) where
   along_rounds : (t : ℕ) → ((call : Call) → IsOfRound t call → P call) → IsAlong t (shapes_of system) AllSo (λ (bad : BadAnswer). AllSo)
   along_rounds t all = record {
     none = All-nil (λ (s : Sent). P s.exchange.call);
-    joined = λ front back f b. All-append (λ (s : Sent). P s.exchange.call) front back f b;
-    behind = λ bad front back f b. All-append (λ (s : Sent). P s.exchange.call) front back f b;
+    joined = λ prefix back f b. All-append (λ (s : Sent). P s.exchange.call) prefix back f b;
+    after = λ bad prefix back f b. All-append (λ (s : Sent). P s.exchange.call) prefix back f b;
     well = λ test call stands l is same a. round_calls P test call (all call is) stands l a.calls_are;
     badly = λ test call stands bad l is same f. round_calls P test call (all call is) stands l f.calls_are;
   }
@@ -121,15 +121,15 @@ module _ (system : System) (P : Call → Type 0) where
   agreement_all t step b all log o agrees = own_sent log (agreement_so t step b all log o agrees)
 
   pub does_all : (part : Part) → IsThroughout system P part → (values : List (Option ℤ)) (log : List Sent) → Does system part values log → Throughout system P log
-  does_all (Calls calls) all values log does = λ i. subst (λ (l : List Asking). All P (own i l)) (sym does.calls_are) (all i)
-  does_all (Round calls) all values log does = λ i. subst (λ (l : List Asking). All P (own i l)) (sym does.calls_are) (all i)
+  does_all (Calls calls) all values log does = λ i. subst (λ (l : List ComponentCall). All P (own i l)) (sym does.calls_are) (all i)
+  does_all (Round calls) all values log does = λ i. subst (λ (l : List ComponentCall). All P (own i l)) (sym does.calls_are) (all i)
   does_all (Walk rules before order) all values log does = all log (Whole values log does)
   does_all (Agreement t step b) all values log (o, is, agrees) = agreement_all t step b all log o agrees
 
   pub falls_all : (part : Part) → IsThroughout system P part → (bad : BadAnswer) (log : List Sent) → Falls system part bad log → Throughout system P log
-  falls_all (Calls calls) all bad log falls = λ i. front_all P (own i (askings log)) (own i falls.left) (subst (All P) (ap (own i) falls.calls_are ∙ own_append i (askings log) falls.left) (all i))
-  falls_all (Round calls) all bad log falls = λ i. subst (λ (l : List Asking). All P (own i l)) (sym falls.calls_are) (all i)
-  falls_all (Walk rules before order) all bad log (values, falls) = all log (Front bad values log falls)
+  falls_all (Calls calls) all bad log falls = λ i. prefix_all P (own i (component_calls log)) (own i falls.left) (subst (All P) (ap (own i) falls.calls_are ∙ own_append i (component_calls log) falls.left) (all i))
+  falls_all (Round calls) all bad log falls = λ i. subst (λ (l : List ComponentCall). All P (own i l)) (sym falls.calls_are) (all i)
+  falls_all (Walk rules before order) all bad log (values, falls) = all log (Prefix bad values log falls)
   falls_all (Agreement t step b) all bad log agrees = agreement_all t step b all log (Fails bad) agrees
 
 module _ (system : System) (sound : IsSound system) (bound : Bound) (plan : Plan) (binds : BindsParameters system bound) where
@@ -140,7 +140,7 @@ module _ (system : System) (sound : IsSound system) (bound : Bound) (plan : Plan
   name_ports span calls new = All-weaker (IsUse span) (IsOf Uses) (λ c u. let n = new.names in let f = u.from in omega (arith, n, f)) calls new.uses
 
   walk_sort : (rules : Rules) (before : List (Option ℤ)) (order : List ℕ) (span : Bool → Span) → WalkUses system rules order span → IsThroughout system (IsOf Uses) (Walk rules before order)
-  walk_sort rules before order span are log walks i = name_ports (span (has_events_at system i)) (own i (askings log)) (are before log walks i)
+  walk_sort rules before order span are log walks i = name_ports (span (has_events_at system i)) (own i (component_calls log)) (are before log walks i)
 
   of_rounds : (t : ℕ) (call : Call) → IsOfRound t call → IsOf Rounds call
   of_rounds t call (inl is) = subst (IsOf Rounds) (sym is) refl
@@ -155,7 +155,7 @@ module _ (system : System) (sound : IsSound system) (bound : Bound) (plan : Plan
   sorts_are (Before s ticks) = walk_sort _ _ _ (instant_span (s.n == 0)) (uses.instant ticks (s.n == 0))
   sorts_are (Read s) = walk_sort _ _ _ interval_span (uses.interval s.values)
   sorts_are (Rearmed s) = those system (IsOf (Only K.Update)) _ _ (λ s. refl)
-  sorts_are (Seen s again asked) = λ i. All-nil (IsOf Uses)
+  sorts_are (InstantDone s again asked) = λ i. All-nil (IsOf Uses)
   sorts_are (Leaving w) = those system (IsOf (Only K.EnterStep)) _ _ (λ s. refl)
   sorts_are (Left w) = walk_sort _ _ _ step_span (uses.step w.s.values)
   sorts_are (Departing w) = those system (IsOf (Only K.Save)) _ _ (λ s. refl)

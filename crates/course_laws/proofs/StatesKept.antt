@@ -26,12 +26,12 @@ use Rattle.system_model.specs.EarlyReturn.{early_count}
 use Rattle.system_model.specs.Sound.{IsSound}
 use Rattle.system_model.specs.Text.{Instant}
 use Rattle.slot_calls.specs.declared.bad_answer.BadAnswer.{BadAnswer}
-use Rattle.slot_calls.specs.Log.{Asking, Sent, asking_of, askings, part}
+use Rattle.slot_calls.specs.Log.{ComponentCall, Sent, component_call, component_calls, part}
 use Rattle.slot_calls.specs.SavedStates.{LeavesState, Talk, has_served, has_stepped, if_good, is_good, saved_after, saved_by, serves, steps}
 use Rattle.slot_calls.specs.Stage.{IsAnswered, IsFirst, IsGoodOf, StopsAt, has_events, shapes_of}
 use Rattle.slot_calls.proofs.CallerLemmas.{first_same, other, part_append, rest_same, same, saved_on, served_on, skips, stepped_on, takes}
 use Rattle.calling_sequence.specs.Calls.{entering_step, keeping, making, restoring}
-use Rattle.calling_sequence.specs.Course.{CourseIn, FromHeld, Seen, Spot, Whole}
+use Rattle.calling_sequence.specs.Course.{CourseIn, FromHeld, InstantDone, Spot, Whole}
 use Rattle.calling_sequence.specs.Holding.{holding}
 use Rattle.event_iteration.specs.WalkCalls.{own}
 use Rattle.calling_sequence.specs.Parts.{Calls}
@@ -47,22 +47,22 @@ use Rattle.course_laws.proofs.Unsaved.{course_stateless, fallen_stateless, made_
 
 -- ---- lists
 
-abbrev front_of : {A : Type 0} → List A → List A
-front_of [] = []
-front_of (x ∷ []) = []
-front_of (x ∷ (y ∷ ys)) = x ∷ front_of (y ∷ ys)
+abbrev prefix_of : {A : Type 0} → List A → List A
+prefix_of [] = []
+prefix_of (x ∷ []) = []
+prefix_of (x ∷ (y ∷ ys)) = x ∷ prefix_of (y ∷ ys)
 
-front_is : {A : Type 0} (xs : List A) (x : A) → front_of (xs ++ x ∷ []) ≡ xs
-front_is [] x = refl
-front_is (y ∷ []) x = refl
-front_is (y ∷ (z ∷ zs)) x = ap (λ (l : List _). y ∷ l) (front_is (z ∷ zs) x)
+prefix_is : {A : Type 0} (xs : List A) (x : A) → prefix_of (xs ++ x ∷ []) ≡ xs
+prefix_is [] x = refl
+prefix_is (y ∷ []) x = refl
+prefix_is (y ∷ (z ∷ zs)) x = ap (λ (l : List _). y ∷ l) (prefix_is (z ∷ zs) x)
 
-same_front : {A : Type 0} (xs ys : List A) (x y : A) → xs ++ x ∷ [] ≡ ys ++ y ∷ [] → xs ≡ ys
-same_front xs ys x y e = sym (front_is xs x) ∙ ap front_of e ∙ front_is ys y
+same_prefix : {A : Type 0} (xs ys : List A) (x y : A) → xs ++ x ∷ [] ≡ ys ++ y ∷ [] → xs ≡ ys
+same_prefix xs ys x y e = sym (prefix_is xs x) ∙ ap prefix_of e ∙ prefix_is ys y
 
-all_front : {A : Type 0} (P : A → Type 0) (xs ys : List A) → All P (xs ++ ys) → All P xs
-all_front P [] ys all = All-nil P
-all_front P (x ∷ xs) ys all = All-cons P x xs (All-head P x (xs ++ ys) all) (all_front P xs ys (All-tail P x (xs ++ ys) all))
+all_prefix : {A : Type 0} (P : A → Type 0) (xs ys : List A) → All P (xs ++ ys) → All P xs
+all_prefix P [] ys all = All-nil P
+all_prefix P (x ∷ xs) ys all = All-cons P x xs (All-head P x (xs ++ ys) all) (all_prefix P xs ys (All-tail P x (xs ++ ys) all))
 
 all_back : {A : Type 0} (P : A → Type 0) (xs ys : List A) → All P (xs ++ ys) → All P ys
 all_back P [] ys all = all
@@ -320,27 +320,27 @@ module _ (system : System) where
     freed_now k d w = same_or_not x.component k
         (λ is. subst (λ (j : ℕ). IsPast system (log ++ x ∷ []) j d) is (record {
           unheld = saved_here log x C.Free call d ∙ ap (λ (c : Call). saved_by (get_or ss x.component d) c x.exchange.result (saved_after (get_or ss x.component d) false (part x.component log))) call;
-          freed = λ front e last frees.
-              inl (ap (has_served (get_or ss x.component d) false false) (sym (same_front (part x.component log) front x.exchange e (sym (here log x x.component refl) ∙ last))) ∙ holding.served_is d);
+          freed = λ prefix e last frees.
+              inl (ap (has_served (get_or ss x.component d) false false) (sym (same_prefix (part x.component log) prefix x.exchange e (sym (here log x x.component refl) ∙ last))) ∙ holding.served_is d);
         }))
         (λ away. past_away log x still_free k d away (holding.others k d away w))
 
   -- ---- three calls to each
 
   module _ {X : Type 0} (f : X → Call) (g : Call) (opens : (x : X) → IsOpening (f x)) (uses : IsServing g) where
-    abbrev three : ℕ → List X → List Asking
+    abbrev three : ℕ → List X → List ComponentCall
     three i xs = triples_from i f g C.Free xs
 
     -- a call of a list is that of an exchange
-    record IsNext (i : ℕ) (c : Call) (rest : List Asking) (x : Sent) (tail : List Asking) : Type 0 where
+    record IsNext (i : ℕ) (c : Call) (rest : List ComponentCall) (x : Sent) (tail : List ComponentCall) : Type 0 where
       component : x.component ≡ i
       call : x.exchange.call ≡ c
       more : rest ≡ tail
 
-    next_is : (i : ℕ) (c : Call) (rest : List Asking) (x : Sent) (tail : List Asking) → record { component = i; call = c } ∷ rest ≡ asking_of x ∷ tail → IsNext i c rest x tail
+    next_is : (i : ℕ) (c : Call) (rest : List ComponentCall) (x : Sent) (tail : List ComponentCall) → record { component = i; call = c } ∷ rest ≡ component_call x ∷ tail → IsNext i c rest x tail
     next_is i c rest x tail is =
-        let first = first_same (record { component = i; call = c }) (asking_of x) rest tail is in
-        record { component = sym (ap (λ (a : Asking). a.component) first); call = sym (ap (λ (a : Asking). a.call) first); more = rest_same (record { component = i; call = c }) (asking_of x) rest tail is }
+        let first = first_same (record { component = i; call = c }) (component_call x) rest tail is in
+        record { component = sym (ap (λ (a : ComponentCall). a.component) first); call = sym (ap (λ (a : ComponentCall). a.call) first); more = rest_same (record { component = i; call = c }) (component_call x) rest tail is }
 
     -- after the three of one component
     first_held : (i : ℕ) (x : X) → i < n → (before : List Sent) → ArePast system before → (a : Sent) → a.component ≡ i → a.exchange.call ≡ f x → IsGoodOf ss a → IsHolding i false (before ++ a ∷ [])
@@ -361,52 +361,52 @@ module _ (system : System) where
         append_assoc ((before ++ a ∷ []) ++ b ∷ []) (z ∷ []) log ∙ append_assoc (before ++ a ∷ []) (b ∷ []) (z ∷ log) ∙ append_assoc before (a ∷ []) (b ∷ z ∷ log)
 
     -- where all are answered well
-    all_past : (i : ℕ) (xs : List X) (before log : List Sent) → i + length xs ≡ n → ArePast system before → three i xs ≡ askings log → All (IsGoodOf ss) log → ArePast system (before ++ log)
+    all_past : (i : ℕ) (xs : List X) (before log : List Sent) → i + length xs ≡ n → ArePast system before → three i xs ≡ component_calls log → All (IsGoodOf ss) log → ArePast system (before ++ log)
     all_past i [] before [] w past is good = subst (ArePast system) (sym (append-nil before)) past
     all_past i [] before (a ∷ log) w past is good = absurd (cc)
     all_past i (x ∷ xs) before [] w past is good = absurd (cc)
     all_past i (x ∷ xs) before (a ∷ []) w past is good = absurd (cc)
     all_past i (x ∷ xs) before (a ∷ (b ∷ [])) w past is good = absurd (cc)
     all_past i (x ∷ xs) before (a ∷ (b ∷ (z ∷ log))) w past is good =
-        let p = next_is i (f x) _ a (askings (b ∷ z ∷ log)) is in
-        let q = next_is i g _ b (askings (z ∷ log)) p.more in
-        let r = next_is i C.Free _ z (askings log) q.more in
+        let p = next_is i (f x) _ a (component_calls (b ∷ z ∷ log)) is in
+        let q = next_is i g _ b (component_calls (z ∷ log)) p.more in
+        let r = next_is i C.Free _ z (component_calls log) q.more in
         let G = IsGoodOf ss in
         let tail = All-tail G a (b ∷ z ∷ log) good in
         let there = third_past i x (omega (arith, w)) before past a b z p.component p.call q.component q.call r.component r.call (All-head G a (b ∷ z ∷ log) good) (All-head G b (z ∷ log) tail) in
         subst (ArePast system) (three_on before a b z log) (all_past (i + 1) xs (((before ++ a ∷ []) ++ b ∷ []) ++ z ∷ []) log (omega (arith, w)) there r.more (All-tail G z log (All-tail G b (z ∷ log) tail)))
 
     -- or the last of a prefix isn't
-    short_left : (i : ℕ) (xs : List X) (bad : BadAnswer) (before front : List Sent) (last : Sent) (left : List Asking) → i + length xs ≡ n → ArePast system before → three i xs ≡ askings (front ++ last ∷ []) ++ left → IsFirst ss bad front last → AreLeft system (before ++ (front ++ last ∷ []))
+    short_left : (i : ℕ) (xs : List X) (bad : BadAnswer) (before prefix : List Sent) (last : Sent) (left : List ComponentCall) → i + length xs ≡ n → ArePast system before → three i xs ≡ component_calls (prefix ++ last ∷ []) ++ left → IsFirst ss bad prefix last → AreLeft system (before ++ (prefix ++ last ∷ []))
     short_left i [] bad before [] last left w past is first = absurd (cc)
-    short_left i [] bad before (a ∷ front) last left w past is first = absurd (cc)
+    short_left i [] bad before (a ∷ prefix) last left w past is first = absurd (cc)
     short_left i (x ∷ xs) bad before [] last left w past is first =
         let p = next_is i (f x) _ last left is in
         let at = p.component in
         past_left system (before ++ last ∷ []) (unopened before last (f x) p.call (opens x) past (omega (arith, at, w)) bad.why first.why)
     short_left i (x ∷ xs) bad before (a ∷ []) last left w past is first =
-        let p = next_is i (f x) _ a (asking_of last ∷ left) is in
+        let p = next_is i (f x) _ a (component_call last ∷ left) is in
         let q = next_is i g _ last left p.more in
         let held = first_held i x (omega (arith, w)) before past a p.component p.call (All-head (IsGoodOf ss) a [] first.good) in
         subst (AreLeft system) (append_assoc before (a ∷ []) (last ∷ []))
         (unused (before ++ a ∷ []) last g q.call uses (subst (λ (k : ℕ). IsHolding k false (before ++ a ∷ [])) (sym q.component) held) bad.why first.why)
     short_left i (x ∷ xs) bad before (a ∷ (b ∷ [])) last left w past is first =
         let G = IsGoodOf ss in
-        let p = next_is i (f x) _ a (asking_of b ∷ asking_of last ∷ left) is in
-        let q = next_is i g _ b (asking_of last ∷ left) p.more in
+        let p = next_is i (f x) _ a (component_call b ∷ component_call last ∷ left) is in
+        let q = next_is i g _ b (component_call last ∷ left) p.more in
         let r = next_is i C.Free _ last left q.more in
         let there = third_past i x (omega (arith, w)) before past a b last p.component p.call q.component q.call r.component r.call (All-head G a (b ∷ []) first.good) (All-head G b [] (All-tail G a (b ∷ []) first.good)) in
         subst (AreLeft system) (append_assoc (before ++ a ∷ []) (b ∷ []) (last ∷ []) ∙ append_assoc before (a ∷ []) (b ∷ last ∷ [])) (past_left system _ there)
-    short_left i (x ∷ xs) bad before (a ∷ (b ∷ (z ∷ front))) last left w past is first =
+    short_left i (x ∷ xs) bad before (a ∷ (b ∷ (z ∷ prefix))) last left w past is first =
         let G = IsGoodOf ss in
-        let p = next_is i (f x) _ a (askings (b ∷ z ∷ (front ++ last ∷ [])) ++ left) is in
-        let q = next_is i g _ b (askings (z ∷ (front ++ last ∷ [])) ++ left) p.more in
-        let r = next_is i C.Free _ z (askings (front ++ last ∷ []) ++ left) q.more in
-        let tail = All-tail G a (b ∷ z ∷ front) first.good in
-        let there = third_past i x (omega (arith, w)) before past a b z p.component p.call q.component q.call r.component r.call (All-head G a (b ∷ z ∷ front) first.good) (All-head G b (z ∷ front) tail) in
-        subst (AreLeft system) (three_on before a b z (front ++ last ∷ []))
-        (short_left (i + 1) xs bad (((before ++ a ∷ []) ++ b ∷ []) ++ z ∷ []) front last left (omega (arith, w)) there r.more
-        (record { good = All-tail G z front (All-tail G b (z ∷ front) tail); component = first.component; why = first.why }))
+        let p = next_is i (f x) _ a (component_calls (b ∷ z ∷ (prefix ++ last ∷ [])) ++ left) is in
+        let q = next_is i g _ b (component_calls (z ∷ (prefix ++ last ∷ [])) ++ left) p.more in
+        let r = next_is i C.Free _ z (component_calls (prefix ++ last ∷ []) ++ left) q.more in
+        let tail = All-tail G a (b ∷ z ∷ prefix) first.good in
+        let there = third_past i x (omega (arith, w)) before past a b z p.component p.call q.component q.call r.component r.call (All-head G a (b ∷ z ∷ prefix) first.good) (All-head G b (z ∷ prefix) tail) in
+        subst (AreLeft system) (three_on before a b z (prefix ++ last ∷ []))
+        (short_left (i + 1) xs bad (((before ++ a ∷ []) ++ b ∷ []) ++ z ∷ []) prefix last left (omega (arith, w)) there r.more
+        (record { good = All-tail G z prefix (All-tail G b (z ∷ prefix) tail); component = first.component; why = first.why }))
 
   -- ---- talks
 
@@ -417,10 +417,10 @@ module _ (system : System) where
         left_so system log talks ends (past_left system log past) k d w (λ f rest e is given. kept_last (part k log) f rest e (good_keeps system log good k d) is given)
 
     -- where all but the last are
-    bad_end : (front : List Sent) (last : Sent) → log ≡ front ++ last ∷ [] → AreLeft system log → All (IsGoodOf ss) front → LeavesState talks (get_or ss k d) (part k log)
-    bad_end front last log_is left good =
+    bad_end : (prefix : List Sent) (last : Sent) → log ≡ prefix ++ last ∷ [] → AreLeft system log → All (IsGoodOf ss) prefix → LeavesState talks (get_or ss k d) (part k log)
+    bad_end prefix last log_is left good =
         left_so system log talks ends left k d w
-        (λ f rest e is given. last_of (part k front) (part k (last ∷ [])) f rest e (good_keeps system front good k d) short (sym (ap (part k) log_is ∙ part_append k front (last ∷ [])) ∙ is) given) where
+        (λ f rest e is given. last_of (part k prefix) (part k (last ∷ [])) f rest e (good_keeps system prefix good k d) short (sym (ap (part k) log_is ∙ part_append k prefix (last ∷ [])) ∙ is) given) where
           short : (part k (last ∷ []) ≡ []) ⊎ ((x : Exchange) × (part k (last ∷ []) ≡ x ∷ []))
           short = by (last.component == k) where
             by : (b : Bool) → ((if b then last.exchange ∷ [] else []) ≡ []) ⊎ ((x : Exchange) × ((if b then last.exchange ∷ [] else []) ≡ x ∷ []))
@@ -430,53 +430,53 @@ module _ (system : System) where
   -- ---- lists of calls in a row
 
   -- a log of two lists is a log of the one and one of the other
-  record Halves (cs ds : List Asking) (log : List Sent) : Type 0 where
+  record Halves (cs ds : List ComponentCall) (log : List Sent) : Type 0 where
     one : List Sent
     two : List Sent
     is : log ≡ one ++ two
-    ones : askings one ≡ cs
-    twos : askings two ≡ ds
+    ones : component_calls one ≡ cs
+    twos : component_calls two ≡ ds
 
-  halves : (cs ds : List Asking) (log : List Sent) → askings log ≡ cs ++ ds → Halves cs ds log
+  halves : (cs ds : List ComponentCall) (log : List Sent) → component_calls log ≡ cs ++ ds → Halves cs ds log
   halves [] ds log is = record { one = []; two = log; is = refl; ones = refl; twos = is }
   halves (a ∷ cs) ds [] is = absurd (cc)
   halves (a ∷ cs) ds (x ∷ log) is =
-      let more = halves cs ds log (rest_same (asking_of x) a (askings log) (cs ++ ds) is) in
-      record { one = x ∷ more.one; two = more.two; is = ap (λ (l : List Sent). x ∷ l) more.is; ones = ap₂ ◌∷◌ (first_same (asking_of x) a (askings log) (cs ++ ds) is) more.ones; twos = more.twos }
+      let more = halves cs ds log (rest_same (component_call x) a (component_calls log) (cs ++ ds) is) in
+      record { one = x ∷ more.one; two = more.two; is = ap (λ (l : List Sent). x ∷ l) more.is; ones = ap₂ ◌∷◌ (first_same (component_call x) a (component_calls log) (cs ++ ds) is) more.ones; twos = more.twos }
 
   -- calls that stop, stop in the one, or after it in the other
-  data StopsIn (cs ds : List Asking) (bad : BadAnswer) (log : List Sent) : Type 0 where
+  data StopsIn (cs ds : List ComponentCall) (bad : BadAnswer) (log : List Sent) : Type 0 where
     InFirst : StopsAt ss cs bad log → StopsIn cs ds bad log
     InSecond : (one two : List Sent) → log ≡ one ++ two → IsAnswered ss cs one → StopsAt ss ds bad two → StopsIn cs ds bad log
 
-  one_more : (a : Asking) (cs ds : List Asking) (bad : BadAnswer) (x : Sent) (log : List Sent) → asking_of x ≡ a → IsGoodOf ss x → StopsIn cs ds bad log → StopsIn (a ∷ cs) ds bad (x ∷ log)
+  one_more : (a : ComponentCall) (cs ds : List ComponentCall) (bad : BadAnswer) (x : Sent) (log : List Sent) → component_call x ≡ a → IsGoodOf ss x → StopsIn cs ds bad log → StopsIn (a ∷ cs) ds bad (x ∷ log)
   one_more a cs ds bad x log is good (InFirst s) = InFirst (record {
-    front = x ∷ s.front;
+    prefix = x ∷ s.prefix;
     last = s.last;
     left = s.left;
     log_is = ap (λ (l : List Sent). x ∷ l) s.log_is;
     calls_are = ap₂ ◌∷◌ (sym is) s.calls_are;
-    first = record { good = All-cons (IsGoodOf ss) x s.front good s.first.good; component = s.first.component; why = s.first.why };
+    first = record { good = All-cons (IsGoodOf ss) x s.prefix good s.first.good; component = s.first.component; why = s.first.why };
   })
   one_more a cs ds bad x log is good (InSecond one two log_is ones twos) =
       InSecond (x ∷ one) two (ap (λ (l : List Sent). x ∷ l) log_is) (record { calls_are = ap₂ ◌∷◌ is ones.calls_are; good = All-cons (IsGoodOf ss) x one good ones.good }) twos
 
-  stops_in : (cs ds : List Asking) (bad : BadAnswer) (front : List Sent) (last : Sent) (left : List Asking) → cs ++ ds ≡ askings (front ++ last ∷ []) ++ left → IsFirst ss bad front last → StopsIn cs ds bad (front ++ last ∷ [])
-  stops_in [] ds bad front last left is first =
-      InSecond [] (front ++ last ∷ []) refl (record { calls_are = refl; good = All-nil (IsGoodOf ss) }) (record { front = front; last = last; left = left; log_is = refl; calls_are = is; first = first })
+  stops_in : (cs ds : List ComponentCall) (bad : BadAnswer) (prefix : List Sent) (last : Sent) (left : List ComponentCall) → cs ++ ds ≡ component_calls (prefix ++ last ∷ []) ++ left → IsFirst ss bad prefix last → StopsIn cs ds bad (prefix ++ last ∷ [])
+  stops_in [] ds bad prefix last left is first =
+      InSecond [] (prefix ++ last ∷ []) refl (record { calls_are = refl; good = All-nil (IsGoodOf ss) }) (record { prefix = prefix; last = last; left = left; log_is = refl; calls_are = is; first = first })
   stops_in (a ∷ cs) ds bad [] last left is first =
-      InFirst (record { front = []; last = last; left = cs; log_is = refl; calls_are = ap (λ (x : Asking). x ∷ cs) (first_same a (asking_of last) (cs ++ ds) left is); first = first })
-  stops_in (a ∷ cs) ds bad (x ∷ front) last left is first =
-      one_more a cs ds bad x (front ++ last ∷ []) (sym (first_same a (asking_of x) (cs ++ ds) (askings (front ++ last ∷ []) ++ left) is)) (All-head (IsGoodOf ss) x front first.good)
-      (stops_in cs ds bad front last left (rest_same a (asking_of x) (cs ++ ds) (askings (front ++ last ∷ []) ++ left) is)
-      (record { good = All-tail (IsGoodOf ss) x front first.good; component = first.component; why = first.why }))
+      InFirst (record { prefix = []; last = last; left = cs; log_is = refl; calls_are = ap (λ (x : ComponentCall). x ∷ cs) (first_same a (component_call last) (cs ++ ds) left is); first = first })
+  stops_in (a ∷ cs) ds bad (x ∷ prefix) last left is first =
+      one_more a cs ds bad x (prefix ++ last ∷ []) (sym (first_same a (component_call x) (cs ++ ds) (component_calls (prefix ++ last ∷ []) ++ left) is)) (All-head (IsGoodOf ss) x prefix first.good)
+      (stops_in cs ds bad prefix last left (rest_same a (component_call x) (cs ++ ds) (component_calls (prefix ++ last ∷ []) ++ left) is)
+      (record { good = All-tail (IsGoodOf ss) x prefix first.good; component = first.component; why = first.why }))
 
   -- ---- where the states are kept
 
   many : 0 + length ss ≡ n
   many = let same = length-map system.components (λ (c : Component). c.shape) in omega (arith, same)
 
-  others_by : (before log : List Sent) → ArePast system before → ((k : ℕ) → All IsOther (own k (askings log))) → ArePast system (before ++ log)
+  others_by : (before log : List Sent) → ArePast system before → ((k : ℕ) → All IsOther (own k (component_calls log))) → ArePast system (before ++ log)
   others_by before log past all = others_on system before log (λ k. subst (All IsOther) (sym (own_calls k log)) (all k)) past
 
   enters_other : (i : ℕ) → All IsOther (own i (entering_step system))
@@ -490,20 +490,20 @@ module _ (system : System) where
     kept_past answered =
         let h = halves (entering_step system) (keeping system) kept answered.calls_are in
         let parts = subst (All (IsGoodOf ss)) h.is answered.good in
-        let first : ArePast system (before ++ h.one) = entered_past h.one (record { calls_are = h.ones; good = all_front (IsGoodOf ss) h.one h.two parts }) in
+        let first : ArePast system (before ++ h.one) = entered_past h.one (record { calls_are = h.ones; good = all_prefix (IsGoodOf ss) h.one h.two parts }) in
         subst (ArePast system) (append_assoc before h.one h.two ∙ ap (λ (l : List Sent). before ++ l) (sym h.is))
         (all_past saves C.Serialize (λ shape. save_opens) pack_serves 0 ss (before ++ h.one) h.two many first (sym (h.twos ∙ keeping_are system)) (all_back (IsGoodOf ss) h.one h.two parts))
 
     kept_left : (bad : BadAnswer) → StopsAt ss (holding system) bad kept → AreLeft system (before ++ kept)
     kept_left bad stops = by (subst (StopsIn (entering_step system) (keeping system) bad) (sym stops.log_is)
-        (stops_in (entering_step system) (keeping system) bad stops.front stops.last stops.left (stops.calls_are ∙ ap (λ (l : List Sent). askings l ++ stops.left) stops.log_is) stops.first)) where
+        (stops_in (entering_step system) (keeping system) bad stops.prefix stops.last stops.left (stops.calls_are ∙ ap (λ (l : List Sent). component_calls l ++ stops.left) stops.log_is) stops.first)) where
           by : StopsIn (entering_step system) (keeping system) bad kept → AreLeft system (before ++ kept)
           by (InFirst s) = past_left system (before ++ kept) (others_by before kept past (falls_all system IsOther (Calls (entering_step system)) enters_other bad kept s))
           by (InSecond one two is ones s) =
               subst (AreLeft system) (append_assoc before one two ∙ ap (λ (l : List Sent). before ++ l) (sym is))
               (subst (λ (l : List Sent). AreLeft system ((before ++ one) ++ l)) (sym s.log_is)
-              (short_left saves C.Serialize (λ shape. save_opens) pack_serves 0 ss bad (before ++ one) s.front s.last s.left many (entered_past one ones)
-              (sym (keeping_are system) ∙ s.calls_are ∙ ap (λ (l : List Sent). askings l ++ s.left) s.log_is) s.first))
+              (short_left saves C.Serialize (λ shape. save_opens) pack_serves 0 ss bad (before ++ one) s.prefix s.last s.left many (entered_past one ones)
+              (sym (keeping_are system) ∙ s.calls_are ∙ ap (λ (l : List Sent). component_calls l ++ s.left) s.log_is) s.first))
 
   -- ---- where they are gone back to
 
@@ -518,8 +518,8 @@ module _ (system : System) where
     restored_left : (bad : BadAnswer) → StopsAt ss (restoring s.t stop sizes) bad back → AreLeft system (made ++ back)
     restored_left bad stops =
         subst (λ (l : List Sent). AreLeft system (made ++ l)) (sym stops.log_is)
-        (short_left (takes_in s.t stop) C.Restore (λ size. take_opens size s.t stop) back_serves 0 sizes bad made stops.front stops.last stops.left all_there past
-        (sym (restoring_are s.t stop sizes) ∙ stops.calls_are ∙ ap (λ (l : List Sent). askings l ++ stops.left) stops.log_is) stops.first)
+        (short_left (takes_in s.t stop) C.Restore (λ size. take_opens size s.t stop) back_serves 0 sizes bad made stops.prefix stops.last stops.left all_there past
+        (sym (restoring_are s.t stop sizes) ∙ stops.calls_are ∙ ap (λ (l : List Sent). component_calls l ++ stops.left) stops.log_is) stops.first)
 
     -- a talk that ends there ends where the state has served
     module _ (answered : IsAnswered ss (restoring s.t stop sizes) back) (k : ℕ) (d : Shape) (w : k < n) where
@@ -531,29 +531,29 @@ module _ (system : System) where
           let mine = own_restoring s.t stop sizes k (let m = may.each in omega (arith, m, w)) in
           (mine.0, own_calls k back ∙ ap (own k) answered.calls_are ∙ mine.1)
 
-      served_by_two : (was : List Exchange) (es : List Exchange) (size : ℕ) → calls_in es ≡ C.Deserialize size s.t stop ∷ C.Restore ∷ C.Free ∷ [] → All (IsGood shape) es → (front : List Exchange) (e : Exchange) → was ++ es ≡ front ++ e ∷ [] → has_served shape false false front ≡ true
-      served_by_two was (x ∷ (y ∷ (z ∷ []))) size calls good front e is =
+      served_by_two : (was : List Exchange) (es : List Exchange) (size : ℕ) → calls_in es ≡ C.Deserialize size s.t stop ∷ C.Restore ∷ C.Free ∷ [] → All (IsGood shape) es → (prefix : List Exchange) (e : Exchange) → was ++ es ≡ prefix ++ e ∷ [] → has_served shape false false prefix ≡ true
+      served_by_two was (x ∷ (y ∷ (z ∷ []))) size calls good prefix e is =
           let xc : x.call ≡ C.Deserialize size s.t stop = first_same x.call (C.Deserialize size s.t stop) (y.call ∷ z.call ∷ []) (C.Restore ∷ C.Free ∷ []) calls in
           let yc : y.call ≡ C.Restore = first_same y.call C.Restore (z.call ∷ []) (C.Free ∷ []) (rest_same x.call (C.Deserialize size s.t stop) (y.call ∷ z.call ∷ []) (C.Restore ∷ C.Free ∷ []) calls) in
-          let same : was ++ x ∷ y ∷ [] ≡ front = same_front (was ++ x ∷ y ∷ []) front z e (append_assoc was (x ∷ y ∷ []) (z ∷ []) ∙ is) in
+          let same : was ++ x ∷ y ∷ [] ≡ prefix = same_prefix (was ++ x ∷ y ∷ []) prefix z e (append_assoc was (x ∷ y ∷ []) (z ∷ []) ∙ is) in
           ap (has_served shape false false) (sym same) ∙ served_on shape false false was (x ∷ y ∷ [])
           ∙ ap (λ (c : Call). serves shape y.call y.result (steps c (has_stepped false was)) (serves shape c x.result (has_stepped false was) (has_served shape false false was))) xc
           ∙ ap (λ (c : Call). serves shape c y.result false false) yc
           ∙ good_is shape C.Restore y yc (All-head (IsGood shape) y (z ∷ []) (All-tail (IsGood shape) x (y ∷ z ∷ []) good))
-      served_by_two was [] size calls good front e is = absurd (cc)
-      served_by_two was (x ∷ []) size calls good front e is = absurd (cc)
-      served_by_two was (x ∷ (y ∷ [])) size calls good front e is = absurd (cc)
-      served_by_two was (x ∷ (y ∷ (z ∷ (u ∷ es)))) size calls good front e is = absurd (cc)
+      served_by_two was [] size calls good prefix e is = absurd (cc)
+      served_by_two was (x ∷ []) size calls good prefix e is = absurd (cc)
+      served_by_two was (x ∷ (y ∷ [])) size calls good prefix e is = absurd (cc)
+      served_by_two was (x ∷ (y ∷ (z ∷ (u ∷ es)))) size calls good prefix e is = absurd (cc)
 
-      served_back : (front : List Exchange) (e : Exchange) → part k (made ++ back) ≡ front ++ e ∷ [] → has_served shape false false front ≡ true
-      served_back front e is = served_by_two (part k made) (part k back) own_calls_are.0 own_calls_are.1 (good_part ss back answered.good k d) front e (sym (part_append k made back) ∙ is)
+      served_back : (prefix : List Exchange) (e : Exchange) → part k (made ++ back) ≡ prefix ++ e ∷ [] → has_served shape false false prefix ≡ true
+      served_back prefix e is = served_by_two (part k made) (part k back) own_calls_are.0 own_calls_are.1 (good_part ss back answered.good k d) prefix e (sym (part_append k made back) ∙ is)
 
       -- after which no state is saved any more
-      back_leaves : (more : List Sent) → All (IsGoodOf ss) made → ((i : ℕ) → All IsStateless (own i (askings more))) → (talks : List Talk) → LeavesState talks shape (part k ((made ++ back) ++ more))
+      back_leaves : (more : List Sent) → All (IsGoodOf ss) made → ((i : ℕ) → All IsStateless (own i (component_calls more))) → (talks : List Talk) → LeavesState talks shape (part k ((made ++ back) ++ more))
       back_leaves more good plain talks = record {
         held = λ held. absurd (let wrong : true ≡ false = sym held ∙ ap (saved_after shape false) (part_append k (made ++ back) more) ∙ saved_on shape false (part k (made ++ back)) (part k more)
             ∙ ap (λ (b : Bool). saved_after shape b (part k more)) (restored_past answered k d w).unheld ∙ never_held shape (part k more) calls in cc);
-        freed = λ front e is frees. inl (by front e (split_last (part k (made ++ back)) (part k more) front e (sym (part_append k (made ++ back) more) ∙ is)) is frees);
+        freed = λ prefix e is frees. inl (by prefix e (split_last (part k (made ++ back)) (part k more) prefix e (sym (part_append k (made ++ back) more) ∙ is)) is frees);
         last = λ f rest e is given. kept_last (part k ((made ++ back) ++ more)) f rest e (keeps_on system (made ++ back) more (All-append (IsGoodOf ss) made back good answered.good) k d none) is given;
       } where
         calls : All IsStateless (calls_in (part k more))
@@ -562,53 +562,53 @@ module _ (system : System) where
         none : NoFree (part k more)
         none = λ j x v frees. subst IsStateless frees (of_calls IsStateless (part k more) calls j x v)
 
-        by : (front : List Exchange) (e : Exchange) → (part k more ≡ []) ⊎ ((rest : List Exchange) × (part k more ≡ rest ++ e ∷ [])) → part k ((made ++ back) ++ more) ≡ front ++ e ∷ [] → e.call ≡ C.Free → has_served shape false false front ≡ true
-        by front e (inl empty) is frees = served_back front e (sym (append-nil (part k (made ++ back))) ∙ ap (λ (es : List Exchange). part k (made ++ back) ++ es) (sym empty) ∙ sym (part_append k (made ++ back) more) ∙ is)
-        by front e (inr (rest, last)) is frees = absurd (all_at_one (λ (x : Exchange). x.call ≡ C.Free → ⊥) rest [] e (subst NoFree last none) frees)
+        by : (prefix : List Exchange) (e : Exchange) → (part k more ≡ []) ⊎ ((rest : List Exchange) × (part k more ≡ rest ++ e ∷ [])) → part k ((made ++ back) ++ more) ≡ prefix ++ e ∷ [] → e.call ≡ C.Free → has_served shape false false prefix ≡ true
+        by prefix e (inl empty) is frees = served_back prefix e (sym (append-nil (part k (made ++ back))) ∙ ap (λ (es : List Exchange). part k (made ++ back) ++ es) (sym empty) ∙ sym (part_append k (made ++ back) more) ∙ is)
+        by prefix e (inr (rest, last)) is frees = absurd (all_at_one (λ (x : Exchange). x.call ≡ C.Free → ⊥) rest [] e (subst NoFree last none) frees)
 
 -- ---- each run
 
 module _ (system : System) (sound : IsSound system) where
   -- at a point that is done no state is held
-  seen_past : (bound : Bound) (plan : Plan) (binds : BindsParameters system bound) (s : Spot) (made front : List Sent) (is : List Instant) → IsAnswered (shapes_of system) (making plan.link system) made → CourseIn system bound plan Whole (Seen s false false) front is → ArePast system (made ++ front)
-  seen_past bound plan binds s made front is answered course =
+  seen_past : (bound : Bound) (plan : Plan) (binds : BindsParameters system bound) (s : Spot) (made prefix : List Sent) (is : List Instant) → IsAnswered (shapes_of system) (making plan.link system) made → CourseIn system bound plan Whole (InstantDone s false false) prefix is → ArePast system (made ++ prefix)
+  seen_past bound plan binds s made prefix is answered course =
       one_or_not (early_count (shapes_of system))
-      (λ one. stateless_past (made ++ front) (made_stateless_on system sound (omega (arith, one)) bound plan binds (Seen s false false) made front is answered course))
-      (λ several. (course_at system sound bound plan binds several Whole made (made_at system sound bound plan binds several made answered) (Seen s false false) front is course).before) where
-        stateless_past : (log : List Sent) → ((i : ℕ) → All IsStateless (own i (askings log))) → ArePast system log
+      (λ one. stateless_past (made ++ prefix) (made_stateless_on system sound (omega (arith, one)) bound plan binds (InstantDone s false false) made prefix is answered course))
+      (λ several. (course_at system sound bound plan binds several Whole made (made_at system sound bound plan binds several made answered) (InstantDone s false false) prefix is course).before) where
+        stateless_past : (log : List Sent) → ((i : ℕ) → All IsStateless (own i (component_calls log))) → ArePast system log
         stateless_past log all k d w =
             let calls : All IsStateless (calls_in (part k log)) = subst (All IsStateless) (sym (own_calls k log)) (all k) in
             record {
               unheld = never_held (get_or (shapes_of system) k d) (part k log) calls;
-              freed = λ front e last frees. absurd (all_at_one (λ (x : Exchange). x.call ≡ C.Free → ⊥) front [] e
+              freed = λ prefix e last frees. absurd (all_at_one (λ (x : Exchange). x.call ≡ C.Free → ⊥) prefix [] e
                   (subst NoFree last (λ j x v f. subst IsStateless f (of_calls IsStateless (part k log) calls j x v))) frees);
             }
 
-  seen_good : (bound : Bound) (plan : Plan) (binds : BindsParameters system bound) (s : Spot) (made front : List Sent) (is : List Instant) → IsAnswered (shapes_of system) (making plan.link system) made → CourseIn system bound plan Whole (Seen s false false) front is → All (IsGoodOf (shapes_of system)) (made ++ front)
-  seen_good bound plan binds s made front is answered course =
-      All-append (IsGoodOf (shapes_of system)) made front answered.good (course_good system bound plan sound binds Whole (Seen s false false) front is course)
+  seen_good : (bound : Bound) (plan : Plan) (binds : BindsParameters system bound) (s : Spot) (made prefix : List Sent) (is : List Instant) → IsAnswered (shapes_of system) (making plan.link system) made → CourseIn system bound plan Whole (InstantDone s false false) prefix is → All (IsGoodOf (shapes_of system)) (made ++ prefix)
+  seen_good bound plan binds s made prefix is answered course =
+      All-append (IsGoodOf (shapes_of system)) made prefix answered.good (course_good system bound plan sound binds Whole (InstantDone s false false) prefix is course)
 
 pub states_are_left : StatesAreLeft
 states_are_left system _ _ talks sound (Wholly bad log comes) ends k d w = whole_left system sound bad log comes talks ends k d w
-states_are_left system _ _ talks sound (Holding bound plan s made front kept is binds counts answered course keeps) ends k d w =
-    let before = made ++ front in
-    let past = seen_past system sound bound plan binds s made front is answered course in
-    let good = seen_good system sound bound plan binds s made front is answered course in
-    subst (λ (l : List Sent). LeavesState talks (get_or (shapes_of system) k d) (part k l)) (append_assoc made front kept)
-    (good_end system (before ++ kept) talks (subst (λ (l : List Sent). EndAs system l talks) (sym (append_assoc made front kept)) ends) k d w
+states_are_left system _ _ talks sound (Holding bound plan s made prefix kept is binds counts answered course keeps) ends k d w =
+    let before = made ++ prefix in
+    let past = seen_past system sound bound plan binds s made prefix is answered course in
+    let good = seen_good system sound bound plan binds s made prefix is answered course in
+    subst (λ (l : List Sent). LeavesState talks (get_or (shapes_of system) k d) (part k l)) (append_assoc made prefix kept)
+    (good_end system (before ++ kept) talks (subst (λ (l : List Sent). EndAs system l talks) (sym (append_assoc made prefix kept)) ends) k d w
     (kept_past system before kept past good keeps) (All-append (IsGoodOf (shapes_of system)) before kept good keeps.good))
-states_are_left system _ _ talks sound (HoldingBadly bound plan s bad made front kept is binds counts answered course stops) ends k d w =
-    let before = made ++ front in
-    let past = seen_past system sound bound plan binds s made front is answered course in
-    let good = seen_good system sound bound plan binds s made front is answered course in
-    subst (λ (l : List Sent). LeavesState talks (get_or (shapes_of system) k d) (part k l)) (append_assoc made front kept)
-    (bad_end system (before ++ kept) talks (subst (λ (l : List Sent). EndAs system l talks) (sym (append_assoc made front kept)) ends) k d w
-    (before ++ stops.front) stops.last (ap (λ (l : List Sent). before ++ l) stops.log_is ∙ sym (append_assoc before stops.front (stops.last ∷ [])))
-    (kept_left system before kept past good bad stops) (All-append (IsGoodOf (shapes_of system)) before stops.front good stops.first.good))
+states_are_left system _ _ talks sound (HoldingBadly bound plan s bad made prefix kept is binds counts answered course stops) ends k d w =
+    let before = made ++ prefix in
+    let past = seen_past system sound bound plan binds s made prefix is answered course in
+    let good = seen_good system sound bound plan binds s made prefix is answered course in
+    subst (λ (l : List Sent). LeavesState talks (get_or (shapes_of system) k d) (part k l)) (append_assoc made prefix kept)
+    (bad_end system (before ++ kept) talks (subst (λ (l : List Sent). EndAs system l talks) (sym (append_assoc made prefix kept)) ends) k d w
+    (before ++ stops.prefix) stops.last (ap (λ (l : List Sent). before ++ l) stops.log_is ∙ sym (append_assoc before stops.prefix (stops.last ∷ [])))
+    (kept_left system before kept past good bad stops) (All-append (IsGoodOf (shapes_of system)) before stops.prefix good stops.first.good))
 states_are_left system _ _ talks sound (BackBadly bound plan s sizes bad made back binds counts may answered stops) ends k d w =
     bad_end system (made ++ back) talks ends k d w
-    (made ++ stops.front) stops.last (ap (λ (l : List Sent). made ++ l) stops.log_is ∙ sym (append_assoc made stops.front (stops.last ∷ [])))
-    (restored_left system s plan.stop sizes may made back (made_past system plan.link made answered.calls_are) bad stops) (All-append (IsGoodOf (shapes_of system)) made stops.front answered.good stops.first.good)
+    (made ++ stops.prefix) stops.last (ap (λ (l : List Sent). made ++ l) stops.log_is ∙ sym (append_assoc made stops.prefix (stops.last ∷ [])))
+    (restored_left system s plan.stop sizes may made back (made_past system plan.link made answered.calls_are) bad stops) (All-append (IsGoodOf (shapes_of system)) made stops.prefix answered.good stops.first.good)
 states_are_left system _ _ talks sound (BackStands bound plan s sizes p made back log is binds counts may answered went course halts) ends k d w =
     let past = made_past system plan.link made answered.calls_are in
     subst (λ (l : List Sent). LeavesState talks (get_or (shapes_of system) k d) (part k l)) (append_assoc made back log)
@@ -618,12 +618,12 @@ states_are_left system _ _ talks sound (BackStands bound plan s sizes p made bac
     stands_left system sound bound plan binds several (FromHeld s) (made ++ back)
     (record { later = tt; before = restored_past system s plan.stop sizes may made back past went; good = All-append (IsGoodOf (shapes_of system)) made back answered.good went.good })
     p log is course halts talks (subst (λ (l : List Sent). EndAs system l talks) (sym (append_assoc made back log)) ends) k d w))
-states_are_left system _ _ talks sound (BackFalling bound plan s sizes p bad made back front more is binds counts may answered went course falls) ends k d w =
+states_are_left system _ _ talks sound (BackFalling bound plan s sizes p bad made back prefix more is binds counts may answered went course falls) ends k d w =
     let past = made_past system plan.link made answered.calls_are in
-    subst (λ (l : List Sent). LeavesState talks (get_or (shapes_of system) k d) (part k l)) (append_assoc made back (front ++ more))
+    subst (λ (l : List Sent). LeavesState talks (get_or (shapes_of system) k d) (part k l)) (append_assoc made back (prefix ++ more))
     (one_or_not (early_count (shapes_of system))
-    (λ one. back_leaves system s plan.stop sizes may made back past went k d w (front ++ more) answered.good (fallen_stateless system sound (omega (arith, one)) bound plan binds (FromHeld s) p bad front more is tt course falls) talks)
+    (λ one. back_leaves system s plan.stop sizes may made back past went k d w (prefix ++ more) answered.good (fallen_stateless system sound (omega (arith, one)) bound plan binds (FromHeld s) p bad prefix more is tt course falls) talks)
     (λ several.
     falls_left system sound bound plan binds several (FromHeld s) (made ++ back)
     (record { later = tt; before = restored_past system s plan.stop sizes may made back past went; good = All-append (IsGoodOf (shapes_of system)) made back answered.good went.good })
-    p bad front more is course falls talks (subst (λ (l : List Sent). EndAs system l talks) (sym (append_assoc made back (front ++ more))) ends) k d w))
+    p bad prefix more is course falls talks (subst (λ (l : List Sent). EndAs system l talks) (sym (append_assoc made back (prefix ++ more))) ends) k d w))

@@ -34,7 +34,7 @@ use Rattle.system_model.specs.Text.{Instant}
 use Rattle.system_model.specs.EarlyReturn.{early_count}
 use Rattle.run_model.specs.Stepping.{asked_first}
 use Rattle.slot_calls.specs.declared.bad_answer.BadAnswer.{BadAnswer}
-use Rattle.slot_calls.specs.Log.{Asking, Sent, askings, part}
+use Rattle.slot_calls.specs.Log.{ComponentCall, Sent, component_calls, part}
 use Rattle.slot_calls.specs.SavedStates.{AgreeAtLast, EndsAt, IsGivenUp, LeavesState, Talk, has_served, has_stepped, if_good, is_good, last_step, saved_after, saved_by, serves, step_or, steps}
 use Rattle.slot_calls.specs.Stage.{FailsIn, IsAnswered, IsGoodOf, StopsAt, everyone, shapes_of, to_those}
 use Rattle.slot_calls.proofs.CallerLemmas.{first_same, last_on, map_at, part_append, rest_same, same, saved_on, served_on, stepped_on, takes}
@@ -47,14 +47,14 @@ use Rattle.step_agreement.proofs.CallerLemmas.{Alternates, AreApart, AreGoodStep
 use Rattle.rollback.specs.StepsBy.{all_at}
 use Rattle.calling_sequence.specs.Course.{Agreed, Agreeing, CourseIn, Departing, Extent, LeadsTo, Made, Place, Saved, Saves, Short, Stopping, Whole, first_of, part_at}
 use Rattle.calling_sequence.specs.Parts.{Calls, Does, Falls, AllAgree as AgreeBy}
-use Rattle.calling_sequence.proofs.Along.{along}
+use Rattle.calling_sequence.proofs.CourseInduction.{along}
 use Rattle.calling_sequence.proofs.Chains.{part_all}
 use Rattle.course_laws.specs.Laws.{EndAs, IsStateless}
 use Rattle.course_laws.specs.Runs.{Comes, Falling, IsHalt, Stands, Unmade}
 use Rattle.course_laws.proofs.CallsOnce.{IsLater, later_on, some_at}
 use Rattle.course_laws.proofs.FirstBad.{agreement_has, part_good}
-use Rattle.course_laws.proofs.Goods.{AreInOrder, alone_behind, good_part, in_order_from}
-use Rattle.course_laws.proofs.LastSteps.{IsGoodRound, IsLast, all_first_by, begins_all, each_behind, ends_from, ends_same, none_both, rounds_saved, stand_behind, tracks}
+use Rattle.course_laws.proofs.Goods.{AreInOrder, alone_after, good_part, in_order_from}
+use Rattle.course_laws.proofs.LastSteps.{IsGoodRound, IsLast, all_first_by, begins_all, each_after, ends_from, ends_same, none_both, rounds_saved, stand_after, tracks}
 use Rattle.course_laws.proofs.OwnCalls.{own_calls, own_there}
 use Rattle.course_laws.proofs.RoundCalls.{calls_all}
 use Rattle.course_laws.proofs.Sorts.{IsOf, Only, Rounds, Sort, Uses, does_all, falls_all, sort_at, sorts_are, those}
@@ -124,16 +124,16 @@ never [] f fs is = absurd (cc)
 never (x ∷ es) f fs is = absurd (cc)
 
 -- the last is among those after, if there are any
-pub split_last : (es fs front : List Exchange) (e : Exchange) → es ++ fs ≡ front ++ e ∷ [] → (fs ≡ []) ⊎ ((rest : List Exchange) × (fs ≡ rest ++ e ∷ []))
-split_last es [] front e is = inl refl
-split_last [] (f ∷ fs) front e is = inr (front, is)
+pub split_last : (es fs prefix : List Exchange) (e : Exchange) → es ++ fs ≡ prefix ++ e ∷ [] → (fs ≡ []) ⊎ ((rest : List Exchange) × (fs ≡ rest ++ e ∷ []))
+split_last es [] prefix e is = inl refl
+split_last [] (f ∷ fs) prefix e is = inr (prefix, is)
 split_last (x ∷ es) (f ∷ fs) [] e is = absurd (never es f fs (rest_same x e (es ++ f ∷ fs) [] is))
-split_last (x ∷ es) (f ∷ fs) (y ∷ front) e is = split_last es (f ∷ fs) front e (rest_same x y (es ++ f ∷ fs) (front ++ e ∷ []) is)
+split_last (x ∷ es) (f ∷ fs) (y ∷ prefix) e is = split_last es (f ∷ fs) prefix e (rest_same x y (es ++ f ∷ fs) (prefix ++ e ∷ []) is)
 
 -- what holds of each holds of one
-pub all_at_one : {X : Type 0} (P : X → Type 0) (front rest : List X) (e : X) → All P (front ++ e ∷ rest) → P e
+pub all_at_one : {X : Type 0} (P : X → Type 0) (prefix rest : List X) (e : X) → All P (prefix ++ e ∷ rest) → P e
 all_at_one P [] rest e all = All-head P e rest all
-all_at_one P (x ∷ front) rest e all = all_at_one P front rest e (All-tail P x (front ++ e ∷ rest) all)
+all_at_one P (x ∷ prefix) rest e all = all_at_one P prefix rest e (All-tail P x (prefix ++ e ∷ rest) all)
 
 to_calls : (P : Call → Type 0) (es : List Exchange) → All (λ (e : Exchange). P e.call) es → All P (calls_in es)
 to_calls P [] all = All-nil P
@@ -153,15 +153,15 @@ good_kept shape e good given =
     absurd (let wrong : G.Refused ≡ G.Good = subst (λ (r : Result Reply PeerFault). MatchResult r (λ reply. grade_of shape C.Free reply ≡ G.Good) (λ fault. ⊥)) given.discarded of_free in cc)
 
 -- nothing comes after what alone may be given up
-pub last_of : (es fs front rest : List Exchange) (e : Exchange) → All IsKept es → (fs ≡ []) ⊎ ((f : Exchange) × (fs ≡ f ∷ [])) → es ++ fs ≡ front ++ e ∷ rest → IsGivenUp e → rest ≡ []
-last_of [] fs front rest e kept (inl none) is given = absurd (never front e rest (sym is ∙ none))
+pub last_of : (es fs prefix rest : List Exchange) (e : Exchange) → All IsKept es → (fs ≡ []) ⊎ ((f : Exchange) × (fs ≡ f ∷ [])) → es ++ fs ≡ prefix ++ e ∷ rest → IsGivenUp e → rest ≡ []
+last_of [] fs prefix rest e kept (inl none) is given = absurd (never prefix e rest (sym is ∙ none))
 last_of [] fs [] rest e kept (inr (f, one)) is given = rest_same e f rest [] (sym is ∙ one)
-last_of [] fs (x ∷ front) rest e kept (inr (f, one)) is given = absurd (never front e rest (rest_same x f (front ++ e ∷ rest) [] (sym is ∙ one)))
+last_of [] fs (x ∷ prefix) rest e kept (inr (f, one)) is given = absurd (never prefix e rest (rest_same x f (prefix ++ e ∷ rest) [] (sym is ∙ one)))
 last_of (x ∷ es) fs [] rest e kept short is given = absurd (All-head IsKept x es kept (subst IsGivenUp (sym (first_same x e (es ++ fs) rest is)) given))
-last_of (x ∷ es) fs (y ∷ front) rest e kept short is given = last_of es fs front rest e (All-tail IsKept x es kept) short (rest_same x y (es ++ fs) (front ++ e ∷ rest) is) given
+last_of (x ∷ es) fs (y ∷ prefix) rest e kept short is given = last_of es fs prefix rest e (All-tail IsKept x es kept) short (rest_same x y (es ++ fs) (prefix ++ e ∷ rest) is) given
 
-pub kept_last : (es front rest : List Exchange) (e : Exchange) → All IsKept es → es ≡ front ++ e ∷ rest → IsGivenUp e → rest ≡ []
-kept_last es front rest e kept is given = last_of es [] front rest e kept (inl refl) (append-nil es ∙ is) given
+pub kept_last : (es prefix rest : List Exchange) (e : Exchange) → All IsKept es → es ≡ prefix ++ e ∷ rest → IsGivenUp e → rest ≡ []
+kept_last es prefix rest e kept is given = last_of es [] prefix rest e kept (inl refl) (append-nil es ∙ is) given
 
 other_kept : (es : List Exchange) → All (λ (e : Exchange). e.call ≡ C.Free → ⊥) es → All IsKept es
 other_kept es all = λ k d w given. all k d w given.frees
@@ -259,8 +259,8 @@ sends_other b call _ other (One able e is) = All-cons (λ (x : Exchange). x.call
 sends_other b call _ other (NoOne unable) = All-nil (λ (x : Exchange). x.call ≡ C.Free → ⊥)
 
 -- a Free at the end leaves whether a step stands before it
-before_free : (front : List Exchange) (e : Exchange) → e.call ≡ C.Free → has_stepped false (front ++ e ∷ []) ≡ has_stepped false front
-before_free front e frees = stepped_on false front (e ∷ []) ∙ ap (λ (c : Call). steps c (has_stepped false front)) frees
+before_free : (prefix : List Exchange) (e : Exchange) → e.call ≡ C.Free → has_stepped false (prefix ++ e ∷ []) ≡ has_stepped false prefix
+before_free prefix e frees = stepped_on false prefix (e ∷ []) ∙ ap (λ (c : Call). steps c (has_stepped false prefix)) frees
 
 -- neither is a call of an agreement's rounds
 round_no_free : (t : ℕ) (c : Call) → IsOfRound t c → c ≡ C.Free → ⊥
@@ -283,8 +283,8 @@ module _ (system : System) where
 
   -- a Free stands where the state has served, or where all agree
   abbrev pub IsFreed : List Sent → ℕ → Shape → Type 0
-  IsFreed log k d = (front : List Exchange) (e : Exchange) → part k log ≡ front ++ e ∷ [] → e.call ≡ C.Free →
-      (has_served (get_or ss k d) false false front ≡ true) ⊎ (AllAgree log × (has_stepped false front ≡ true))
+  IsFreed log k d = (prefix : List Exchange) (e : Exchange) → part k log ≡ prefix ++ e ∷ [] → e.call ≡ C.Free →
+      (has_served (get_or ss k d) false false prefix ≡ true) ⊎ (AllAgree log × (has_stepped false prefix ≡ true))
 
   -- no state is held
   pub record IsPast (log : List Sent) (k : ℕ) (d : Shape) : Type 0 where
@@ -331,7 +331,7 @@ module _ (system : System) where
   )
 
   -- the call to one of those whose shape passes a test
-  sent_to : (test : Shape → Bool) (call : Call) (more : List Sent) → askings more ≡ to_those test (λ (z : Shape). call) ss → (k : ℕ) (d : Shape) → k < n → Sends (test (get_or ss k d)) call (part k more)
+  sent_to : (test : Shape → Bool) (call : Call) (more : List Sent) → component_calls more ≡ to_those test (λ (z : Shape). call) ss → (k : ℕ) (d : Shape) → k < n → Sends (test (get_or ss k d)) call (part k more)
   sent_to test call more is k d w =
       let c = some_at system.components k w in
       let shape : get_or ss k d ≡ c.0.shape = get_or_from_slice_get ss k c.0.shape d (slice_get-map (λ (x : Component). x.shape) system.components k ∙ ap (option_map (λ (x : Component). x.shape)) c.1) in
@@ -341,15 +341,15 @@ module _ (system : System) where
   module _ (log more : List Sent) where
     -- calls that are no Frees and no steps leave what a Free at the end says
     pub freed_on : (k : ℕ) (d : Shape) → NoFree (part k more) → ((i : ℕ) → i < n → All IsNoStep (calls_in (part i more))) → IsFreed log k d → IsFreed (log ++ more) k d
-    freed_on k d none still freed front e is frees = by (split_last (part k log) (part k more) front e (sym (part_append k log more) ∙ is)) where
-      on : (has_served (get_or ss k d) false false front ≡ true) ⊎ (AllAgree log × (has_stepped false front ≡ true)) →
-          (has_served (get_or ss k d) false false front ≡ true) ⊎ (AllAgree (log ++ more) × (has_stepped false front ≡ true))
+    freed_on k d none still freed prefix e is frees = by (split_last (part k log) (part k more) prefix e (sym (part_append k log more) ∙ is)) where
+      on : (has_served (get_or ss k d) false false prefix ≡ true) ⊎ (AllAgree log × (has_stepped false prefix ≡ true)) →
+          (has_served (get_or ss k d) false false prefix ≡ true) ⊎ (AllAgree (log ++ more) × (has_stepped false prefix ≡ true))
       on (inl served) = inl served
       on (inr met) = inr (agree_on log more still met.0, met.1)
 
       by : (part k more ≡ []) ⊎ ((rest : List Exchange) × (part k more ≡ rest ++ e ∷ [])) →
-          (has_served (get_or ss k d) false false front ≡ true) ⊎ (AllAgree (log ++ more) × (has_stepped false front ≡ true))
-      by (inl empty) = on (freed front e (sym (append-nil (part k log)) ∙ ap (λ (es : List Exchange). part k log ++ es) (sym empty) ∙ sym (part_append k log more) ∙ is) frees)
+          (has_served (get_or ss k d) false false prefix ≡ true) ⊎ (AllAgree (log ++ more) × (has_stepped false prefix ≡ true))
+      by (inl empty) = on (freed prefix e (sym (append-nil (part k log)) ∙ ap (λ (es : List Exchange). part k log ++ es) (sym empty) ∙ sym (part_append k log more) ∙ is) frees)
       by (inr (rest, last)) = absurd (all_at_one (λ (x : Exchange). x.call ≡ C.Free → ⊥) rest [] e (subst NoFree last none) frees)
 
     -- other calls, whatever is answered
@@ -360,7 +360,7 @@ module _ (system : System) where
     }
 
     module _ (test : Shape → Bool) where
-      saves_on : All (IsGoodOf ss) more → askings more ≡ to_those test (λ (z : Shape). C.Save) ss → ArePast log → AreHeld test (log ++ more)
+      saves_on : All (IsGoodOf ss) more → component_calls more ≡ to_those test (λ (z : Shape). C.Save) ss → ArePast log → AreHeld test (log ++ more)
       saves_on good is past k d w =
           let s = get_or ss k d in
           let sends = sent_to test C.Save more is k d w in
@@ -372,15 +372,15 @@ module _ (system : System) where
             freed = freed_on k d (sends_other _ C.Save (part k more) (λ e. absurd (cc)) sends) (λ i v. sends_no _ C.Save (part i more) tt (sent_to test C.Save more is i d v)) (past k d w).freed;
           }
 
-      frees_on : askings more ≡ to_those test (λ (z : Shape). C.Free) ss → HaveMet test log → ArePast (log ++ more)
+      frees_on : component_calls more ≡ to_those test (λ (z : Shape). C.Free) ss → HaveMet test log → ArePast (log ++ more)
       frees_on is (agree, held) k d w =
           let s = get_or ss k d in
           let free = after_free s (part k log) (test s) (part k more) (sent_to test C.Free more is k d w) (held k d w).0 in
           record {
             unheld = ap (saved_after s false) (part_append k log more) ∙ free.0;
-            freed = λ front e last frees. inr (
+            freed = λ prefix e last frees. inr (
               agree_on log more (λ i v. sends_no _ C.Free (part i more) tt (sent_to test C.Free more is i d v)) agree,
-              sym (before_free front e frees) ∙ ap (has_stepped false) (sym last ∙ part_append k log more) ∙ free.1 ∙ (held k d w).1,
+              sym (before_free prefix e frees) ∙ ap (has_stepped false) (sym last ∙ part_append k log more) ∙ free.1 ∙ (held k d w).1,
             );
           }
 
@@ -441,18 +441,18 @@ module _ (system : System) where
       so = ends_from t step ss b later more (Meets m) agrees
 
       there : (k : ℕ) (d : Shape) (w : k < n) → (stand_by t (own_at k d w).stand (part k more)).point ≡ m
-      there k d w = all_there m (stands_by t (all_at t ss) more) so.1 k (stand_by t (own_at k d w).stand (part k more)) (stand_behind t (all_at t ss) more k (own_at k d w).stand (own_at k d w).at)
+      there k d w = all_there m (stands_by t (all_at t ss) more) so.1 k (stand_by t (own_at k d w).stand (part k more)) (stand_after t (all_at t ss) more k (own_at k d w).stand (own_at k d w).at)
 
       last : (k : ℕ) (d : Shape) (w : k < n) → IsLast t (get_or ss k d) (stand_by t (own_at k d w).stand (part k more)).point (last_step None (part k (log ++ more))) (has_stepped false (part k (log ++ more)))
       last k d w = last_of_own so.0 k d w (λ same. absurd (let at = there k d w in let after = so.2 in omega (arith, same, at, after)))
 
     module _ (good : AreGoodSteps t ss more) (are : AreApart t (stands_by t (all_at t ss) more)) where
       away : (k : ℕ) (d : Shape) (w : k < n) → (stand_by t (own_at k d w).stand (part k more)).point ≢ t
-      away k d w same = absurd (let after = are.behind k (stand_by t (own_at k d w).stand (part k more)) (stand_behind t (all_at t ss) more k (own_at k d w).stand (own_at k d w).at) in omega (arith, same, after))
+      away k d w same = absurd (let after = are.after k (stand_by t (own_at k d w).stand (part k more)) (stand_after t (all_at t ss) more k (own_at k d w).stand (own_at k d w).at) in omega (arith, same, after))
 
       -- where all stand apart the last steps don't agree, whatever calls follow that are no steps
       apart_on : (rest : List Sent) → ((k : ℕ) → All IsNoStep (calls_in (part k rest))) → AllAgree ((log ++ more) ++ rest) → ⊥
-      apart_on rest still (m, all) = are.apart m (there_all m (stands_by t (all_at t ss) more) (each_behind (λ (y : Stand). y.point ≡ m) t (all_at t ss) more (λ k s at. same k s at))) where
+      apart_on rest still (m, all) = are.apart m (there_all m (stands_by t (all_at t ss) more) (each_after (λ (y : Stand). y.point ≡ m) t (all_at t ss) more (λ k s at. same k s at))) where
         same : (k : ℕ) (s : Stand) → slice_get (all_at t ss) k ≡ Some s → (stand_by t s (part k more)).point ≡ m
         same k s at =
             let at_t : Shape → Stand = λ z. record { shape = z; point = t; ask = t } in
@@ -471,11 +471,11 @@ module _ (system : System) where
 
     -- a talk that ends with a round doesn't end with a Free
     no_free_last : AreGoodSteps t ss more → (rest : List Sent) → ((k : ℕ) → NoFree (part k rest)) → (k : ℕ) (d : Shape) → (part k (more ++ rest) ≡ [] → ⊥) → IsFreed (log ++ (more ++ rest)) k d
-    no_free_last good rest none k d begun front e is frees = by (split_last (part k log) (part k (more ++ rest)) front e (sym (part_append k log (more ++ rest)) ∙ is)) where
+    no_free_last good rest none k d begun prefix e is frees = by (split_last (part k log) (part k (more ++ rest)) prefix e (sym (part_append k log (more ++ rest)) ∙ is)) where
       all_none : NoFree (part k (more ++ rest))
       all_none = subst NoFree (sym (part_append k more rest)) (All-append (λ (x : Exchange). x.call ≡ C.Free → ⊥) (part k more) (part k rest) (All-weaker (λ (x : Exchange). IsOfRound t x.call) (λ (x : Exchange). x.call ≡ C.Free → ⊥) (λ x round frees. round_no_free t x.call round frees) (part k more) (part_all (λ i x. IsOfRound t x.call) k more (λ i x w. (good i x w).1))) (none k))
 
-      by : (part k (more ++ rest) ≡ []) ⊎ ((r : List Exchange) × (part k (more ++ rest) ≡ r ++ e ∷ [])) → (has_served (get_or ss k d) false false front ≡ true) ⊎ (AllAgree (log ++ (more ++ rest)) × (has_stepped false front ≡ true))
+      by : (part k (more ++ rest) ≡ []) ⊎ ((r : List Exchange) × (part k (more ++ rest) ≡ r ++ e ∷ [])) → (has_served (get_or ss k d) false false prefix ≡ true) ⊎ (AllAgree (log ++ (more ++ rest)) × (has_stepped false prefix ≡ true))
       by (inl empty) = absurd (begun empty)
       by (inr (r, last)) = absurd (all_at_one (λ (x : Exchange). x.call ≡ C.Free → ⊥) r [] e (subst NoFree last all_none) frees)
 
@@ -530,17 +530,17 @@ module _ (system : System) where
 
     calls_no : (P : Call → Type 0) → ((size : ℕ) → P (C.DoStep t size)) → P C.Restore → All (λ (s : Sent). P s.exchange.call) broken.more
     calls_no P steps backs = by broken.by where
-      by : ((size : ℕ) × FailsIn ss (A.to_some broken.test (C.DoStep t size) broken.there) bad broken.more) ⊎ (AreApart t (stands_by t (all_at t ss) broken.front) × FailsIn ss (A.to_some broken.test C.Restore broken.there) bad broken.more) → All (λ (s : Sent). P s.exchange.call) broken.more
+      by : ((size : ℕ) × FailsIn ss (A.to_some broken.test (C.DoStep t size) broken.there) bad broken.more) ⊎ (AreApart t (stands_by t (all_at t ss) broken.prefix) × FailsIn ss (A.to_some broken.test C.Restore broken.there) bad broken.more) → All (λ (s : Sent). P s.exchange.call) broken.more
       by (inl (size, f)) = round_calls P broken.test (C.DoStep t size) (steps size) broken.there broken.more f.calls_are
       by (inr (are, f)) = round_calls P broken.test C.Restore backs broken.there broken.more f.calls_are
 
     no_free_more : (k : ℕ) → NoFree (part k broken.more)
     no_free_more k = part_all (λ i x. x.call ≡ C.Free → ⊥) k broken.more (calls_no (λ c. c ≡ C.Free → ⊥) (λ size frees. absurd (cc)) (λ frees. absurd (cc)))
 
-    never_agree : AllAgree ((log ++ broken.front) ++ broken.more) → ⊥
+    never_agree : AllAgree ((log ++ broken.prefix) ++ broken.more) → ⊥
     never_agree agree = by broken.by where
-      by : ((size : ℕ) × FailsIn ss (A.to_some broken.test (C.DoStep t size) broken.there) bad broken.more) ⊎ (AreApart t (stands_by t (all_at t ss) broken.front) × FailsIn ss (A.to_some broken.test C.Restore broken.there) bad broken.more) → ⊥
-      by (inr (are, f)) = apart_on t step b later log broken.front broken.good are broken.more
+      by : ((size : ℕ) × FailsIn ss (A.to_some broken.test (C.DoStep t size) broken.there) bad broken.more) ⊎ (AreApart t (stands_by t (all_at t ss) broken.prefix) × FailsIn ss (A.to_some broken.test C.Restore broken.there) bad broken.more) → ⊥
+      by (inr (are, f)) = apart_on t step b later log broken.prefix broken.good are broken.more
           (λ k. calls_all k (part_all (λ i x. IsNoStep x.call) k broken.more (round_calls IsNoStep broken.test C.Restore tt broken.there broken.more f.calls_are))) agree where
             calls_all : (k : ℕ) → All (λ (x : Exchange). IsNoStep x.call) (part k broken.more) → All IsNoStep (calls_in (part k broken.more))
             calls_all k all = to_calls IsNoStep (part k broken.more) all
@@ -549,14 +549,14 @@ module _ (system : System) where
           let w : f.last.component < n = subst (λ (j : ℕ). j < n) (sym f.first.component) there in
           let d = get_or ss i (some_at system.components i w).0.shape in
           let s = get_or ss i d in
-          let none : part f.last.component f.back ≡ [] = alone_behind 0 f.front f.last f.back (subst (AreInOrder 0) (sym f.calls_are ∙ ap askings f.log_is) (in_order_from broken.test (λ x. C.DoStep t size) 0 0 broken.there (omega arith))) i (omega arith) in
-          let here : part i broken.more ≡ part i f.front ++ f.last.exchange ∷ [] =
-          ap (part i) f.log_is ∙ part_append i f.front (f.last ∷ f.back) ∙ ap (λ (es : List Exchange). part i f.front ++ es) (takes (i == i) f.last.exchange (part i f.back) (same i i refl) ∙ ap (λ (es : List Exchange). f.last.exchange ∷ es) none) in
-          let call : f.last.exchange.call ≡ C.DoStep t size = all_at_one (λ (x : Sent). x.exchange.call ≡ C.DoStep t size) f.front f.back f.last (subst (All (λ (x : Sent). x.exchange.call ≡ C.DoStep t size)) f.log_is (round_calls (λ c. c ≡ C.DoStep t size) broken.test (C.DoStep t size) refl broken.there broken.more f.calls_are)) in
-          let last_is : last_step None (part i ((log ++ broken.front) ++ broken.more)) ≡ Some f.last.exchange =
-          ap (last_step None) (part_append i (log ++ broken.front) broken.more ∙ ap (λ (es : List Exchange). part i (log ++ broken.front) ++ es) here)
-          ∙ last_on None (part i (log ++ broken.front)) (part i f.front ++ f.last.exchange ∷ []) ∙ last_on (last_step None (part i (log ++ broken.front))) (part i f.front) (f.last.exchange ∷ [])
-          ∙ ap (λ (c : Call). step_or f.last.exchange c (last_step (last_step None (part i (log ++ broken.front))) (part i f.front))) call in
+          let none : part f.last.component f.back ≡ [] = alone_after 0 f.prefix f.last f.back (subst (AreInOrder 0) (sym f.calls_are ∙ ap component_calls f.log_is) (in_order_from broken.test (λ x. C.DoStep t size) 0 0 broken.there (omega arith))) i (omega arith) in
+          let here : part i broken.more ≡ part i f.prefix ++ f.last.exchange ∷ [] =
+          ap (part i) f.log_is ∙ part_append i f.prefix (f.last ∷ f.back) ∙ ap (λ (es : List Exchange). part i f.prefix ++ es) (takes (i == i) f.last.exchange (part i f.back) (same i i refl) ∙ ap (λ (es : List Exchange). f.last.exchange ∷ es) none) in
+          let call : f.last.exchange.call ≡ C.DoStep t size = all_at_one (λ (x : Sent). x.exchange.call ≡ C.DoStep t size) f.prefix f.back f.last (subst (All (λ (x : Sent). x.exchange.call ≡ C.DoStep t size)) f.log_is (round_calls (λ c. c ≡ C.DoStep t size) broken.test (C.DoStep t size) refl broken.there broken.more f.calls_are)) in
+          let last_is : last_step None (part i ((log ++ broken.prefix) ++ broken.more)) ≡ Some f.last.exchange =
+          ap (last_step None) (part_append i (log ++ broken.prefix) broken.more ∙ ap (λ (es : List Exchange). part i (log ++ broken.prefix) ++ es) here)
+          ∙ last_on None (part i (log ++ broken.prefix)) (part i f.prefix ++ f.last.exchange ∷ []) ∙ last_on (last_step None (part i (log ++ broken.prefix))) (part i f.prefix) (f.last.exchange ∷ [])
+          ∙ ap (λ (c : Call). step_or f.last.exchange c (last_step (last_step None (part i (log ++ broken.prefix))) (part i f.prefix))) call in
           let good = subst (λ (o : Option Exchange). IfSome o (λ e. IsGood s e × EndsAt agree.0 e.result)) last_is (agree.1 i d w) in
           why_bad s bad.why f.last.exchange (f.first.why d) good.0
 
@@ -564,9 +564,9 @@ module _ (system : System) where
     left_broken test held k d w = record {
       held = λ h. (
         still_unserved t step b later test log more (Fails bad) agrees held k d w h,
-        inl (λ agree. never_agree (subst AllAgree (ap (λ (l : List Sent). log ++ l) broken.log_is ∙ sym (append_assoc log broken.front broken.more)) agree)),
+        inl (λ agree. never_agree (subst AllAgree (ap (λ (l : List Sent). log ++ l) broken.log_is ∙ sym (append_assoc log broken.prefix broken.more)) agree)),
       );
-      freed = subst (λ (l : List Sent). IsFreed (log ++ l) k d) (sym broken.log_is) (no_free_last t step b later log broken.front broken.good broken.more no_free_more k d (λ empty. begun (ap (part k) broken.log_is ∙ empty)));
+      freed = subst (λ (l : List Sent). IsFreed (log ++ l) k d) (sym broken.log_is) (no_free_last t step b later log broken.prefix broken.good broken.more no_free_more k d (λ empty. begun (ap (part k) broken.log_is ∙ empty)));
     } where
       begun : part k more ≡ [] → ⊥
       begun empty =
@@ -579,14 +579,14 @@ module _ (system : System) where
             one size _ (NoOne unable) none = absurd (cc)
 
     no_free_whole : (k : ℕ) → NoFree (part k more)
-    no_free_whole k = subst NoFree (sym (ap (part k) broken.log_is ∙ part_append k broken.front broken.more))
-        (All-append (λ (x : Exchange). x.call ≡ C.Free → ⊥) (part k broken.front) (part k broken.more) (part_all (λ i x. x.call ≡ C.Free → ⊥) k broken.front (λ i x w. round_no_free t _ (broken.good i x w).1)) (no_free_more k))
+    no_free_whole k = subst NoFree (sym (ap (part k) broken.log_is ∙ part_append k broken.prefix broken.more))
+        (All-append (λ (x : Exchange). x.call ≡ C.Free → ⊥) (part k broken.prefix) (part k broken.more) (part_all (λ i x. x.call ≡ C.Free → ⊥) k broken.prefix (λ i x w. round_no_free t _ (broken.good i x w).1)) (no_free_more k))
 
   none_past : ArePast []
-  none_past k d w = record { unheld = refl; freed = λ front e is frees. absurd (never front e [] (sym is)) }
+  none_past k d w = record { unheld = refl; freed = λ prefix e is frees. absurd (never prefix e [] (sym is)) }
 
-  pub made_past : (link : ℕ) (made : List Sent) → askings made ≡ making link system → ArePast made
-  made_past link made is = others_on [] made (λ k. mine k IsOther made (λ i. subst (λ (cs : List Asking). All IsOther (own i cs)) (sym is) (those system IsOther everyone (instantiate_of link) (λ s. tt) i))) none_past
+  pub made_past : (link : ℕ) (made : List Sent) → component_calls made ≡ making link system → ArePast made
+  made_past link made is = others_on [] made (λ k. mine k IsOther made (λ i. subst (λ (cs : List ComponentCall). All IsOther (own i cs)) (sym is) (those system IsOther everyone (instantiate_of link) (λ s. tt) i))) none_past
 
   -- ---- whatever talks they end
 
@@ -626,20 +626,20 @@ module _ (system : System) where
           (subst (Agrees m (get_or ss k d)) (sym (ends.steps k t within)) (all k d within)),
     )
 
-    pub left_so : AreLeft log → (k : ℕ) (d : Shape) → k < n → ((front rest : List Exchange) (e : Exchange) → part k log ≡ front ++ e ∷ rest → IsGivenUp e → rest ≡ []) → LeavesState talks (get_or ss k d) (part k log)
+    pub left_so : AreLeft log → (k : ℕ) (d : Shape) → k < n → ((prefix rest : List Exchange) (e : Exchange) → part k log ≡ prefix ++ e ∷ rest → IsGivenUp e → rest ≡ []) → LeavesState talks (get_or ss k d) (part k log)
     left_so left k d w last = record {
       held = λ held. let x = (left k d w).held held in (x.0, held_by x.1);
-      freed = λ front e is frees. freed_by front ((left k d w).freed front e is frees);
+      freed = λ prefix e is frees. freed_by prefix ((left k d w).freed prefix e is frees);
       last = last;
     } where
       held_by : (AllAgree log → ⊥) ⊎ (has_stepped false (part k log) ≡ false) → (AgreeAtLast talks → ⊥) ⊎ (has_stepped false (part k log) ≡ false)
       held_by (inl never) = inl (λ agree. never (agree_all agree))
       held_by (inr none) = inr none
 
-      freed_by : (front : List Exchange) → (has_served (get_or ss k d) false false front ≡ true) ⊎ (AllAgree log × (has_stepped false front ≡ true)) →
-          (has_served (get_or ss k d) false false front ≡ true) ⊎ (AgreeAtLast talks × (has_stepped false front ≡ true))
-      freed_by front (inl served) = inl served
-      freed_by front (inr met) = inr (agree_back met.0, met.1)
+      freed_by : (prefix : List Exchange) → (has_served (get_or ss k d) false false prefix ≡ true) ⊎ (AllAgree log × (has_stepped false prefix ≡ true)) →
+          (has_served (get_or ss k d) false false prefix ≡ true) ⊎ (AgreeAtLast talks × (has_stepped false prefix ≡ true))
+      freed_by prefix (inl served) = inl served
+      freed_by prefix (inr met) = inr (agree_back met.0, met.1)
 
 -- ---- what the calls from a place are to saved states
 
@@ -670,25 +670,25 @@ module _ (system : System) where
   Before Halting log = AreLeft system log
   Before task log = ArePast system log
 
-  abbrev Behind : Task → (front more : List Sent) → Type 0
-  Behind (Saving test) front more = AreHeld system test (front ++ more)
-  Behind (Meeting test t step b) front more = AreHeld system test front × (t < b)
-  Behind Halting front more = Unit {0}
-  Behind task front more = ArePast system (front ++ more)
+  abbrev After : Task → (prefix more : List Sent) → Type 0
+  After (Saving test) prefix more = AreHeld system test (prefix ++ more)
+  After (Meeting test t step b) prefix more = AreHeld system test prefix × (t < b)
+  After Halting prefix more = Unit {0}
+  After task prefix more = ArePast system (prefix ++ more)
 
   -- such calls are asked
   abbrev Asks : Task → List Sent → Type 0
   Asks Keeping more = (k : ℕ) → All IsOther (calls_in (part k more))
-  Asks (Saving test) more = askings more ≡ to_those test (λ (z : Shape). C.Save) (shapes_of system)
-  Asks (Freeing test) more = askings more ≡ to_those test (λ (z : Shape). C.Free) (shapes_of system)
+  Asks (Saving test) more = component_calls more ≡ to_those test (λ (z : Shape). C.Save) (shapes_of system)
+  Asks (Freeing test) more = component_calls more ≡ to_those test (λ (z : Shape). C.Free) (shapes_of system)
   Asks task more = Unit {0}
 
-  done : (task : Task) (front more : List Sent) → Before task front → Asks task more → All (IsGoodOf (shapes_of system)) more → Behind task front more
-  done Keeping front more at asks good = others_on system front more asks at
-  done (Saving test) front more at asks good = saves_on system front more test good asks at
-  done (Meeting test t step b) front more at asks good = at
-  done (Freeing test) front more at asks good = frees_on system front more test asks at
-  done Halting front more at asks good = tt
+  done : (task : Task) (prefix more : List Sent) → Before task prefix → Asks task more → All (IsGoodOf (shapes_of system)) more → After task prefix more
+  done Keeping prefix more at asks good = others_on system prefix more asks at
+  done (Saving test) prefix more at asks good = saves_on system prefix more test good asks at
+  done (Meeting test t step b) prefix more at asks good = at
+  done (Freeing test) prefix more at asks good = frees_on system prefix more test asks at
+  done Halting prefix more at asks good = tt
 
   -- one of them was answered badly
   abbrev AsksBadly : Task → BadAnswer → List Sent → Type 0
@@ -703,41 +703,41 @@ module _ (system : System) where
   good_keeps log good k d = All-weaker (IsGood (get_or (shapes_of system) k d)) IsKept (good_kept (get_or (shapes_of system) k d)) (part k log) (good_part (shapes_of system) log good k d)
 
   -- after calls with good answers others, of which none is a Free
-  pub keeps_on : (front more : List Sent) → All (IsGoodOf (shapes_of system)) front → (k : ℕ) (d : Shape) → NoFree (part k more) → All IsKept (part k (front ++ more))
-  keeps_on front more good k d none = subst (All IsKept) (sym (part_append k front more)) (All-append IsKept (part k front) (part k more) (good_keeps front good k d) (other_kept (part k more) none))
+  pub keeps_on : (prefix more : List Sent) → All (IsGoodOf (shapes_of system)) prefix → (k : ℕ) (d : Shape) → NoFree (part k more) → All IsKept (part k (prefix ++ more))
+  keeps_on prefix more good k d none = subst (All IsKept) (sym (part_append k prefix more)) (All-append IsKept (part k prefix) (part k more) (good_keeps prefix good k d) (other_kept (part k more) none))
 
-  fell : early_count (shapes_of system) ≢ 1 → (task : Task) (front more : List Sent) (bad : BadAnswer) → Before task front → All (IsGoodOf (shapes_of system)) front → AsksBadly task bad more → Leaves (front ++ more)
-  fell several Keeping front more bad past good others talks ends k d w =
-      left_so system (front ++ more) talks ends (past_left system (front ++ more) (others_on system front more others past)) k d w
-      (λ f rest e is given. kept_last (part k (front ++ more)) f rest e (keeps_on front more good k d (no_free (part k more) (others k))) is given)
-  fell several (Saving test) front more bad past good asks talks ends k d w =
-      left_so system (front ++ more) talks ends saves_left k d w (λ f rest e is given. kept_last (part k (front ++ more)) f rest e (keeps_on front more good k d none) is given) where
+  fell : early_count (shapes_of system) ≢ 1 → (task : Task) (prefix more : List Sent) (bad : BadAnswer) → Before task prefix → All (IsGoodOf (shapes_of system)) prefix → AsksBadly task bad more → Leaves (prefix ++ more)
+  fell several Keeping prefix more bad past good others talks ends k d w =
+      left_so system (prefix ++ more) talks ends (past_left system (prefix ++ more) (others_on system prefix more others past)) k d w
+      (λ f rest e is given. kept_last (part k (prefix ++ more)) f rest e (keeps_on prefix more good k d (no_free (part k more) (others k))) is given)
+  fell several (Saving test) prefix more bad past good asks talks ends k d w =
+      left_so system (prefix ++ more) talks ends saves_left k d w (λ f rest e is given. kept_last (part k (prefix ++ more)) f rest e (keeps_on prefix more good k d none) is given) where
         sends : (i : ℕ) (z : Shape) → i < length system.components → Sends (test (get_or (shapes_of system) i z)) C.Save (part i more)
         sends i z v = sent_to system test C.Save more asks i z v
 
         none : NoFree (part k more)
         none = sends_other _ C.Save (part k more) (λ e. absurd (cc)) (sends k d w)
 
-        saves_left : AreLeft system (front ++ more)
+        saves_left : AreLeft system (prefix ++ more)
         saves_left i z v =
             let s = get_or (shapes_of system) i z in record {
               held = λ held.
-                  let here : saved_after s false (part i front ++ part i more) ≡ true = ap (saved_after s false) (sym (part_append i front more)) ∙ held in (
-                    ap (has_served s false false) (part_append i front more) ∙ unserved s (part i front) _ (part i more) (sends i z v) (past i z v).unheld here,
-                    inr (ap (has_stepped false) (part_append i front more) ∙ unstepped s (part i front) _ (part i more) (sends i z v) (past i z v).unheld here),
+                  let here : saved_after s false (part i prefix ++ part i more) ≡ true = ap (saved_after s false) (sym (part_append i prefix more)) ∙ held in (
+                    ap (has_served s false false) (part_append i prefix more) ∙ unserved s (part i prefix) _ (part i more) (sends i z v) (past i z v).unheld here,
+                    inr (ap (has_stepped false) (part_append i prefix more) ∙ unstepped s (part i prefix) _ (part i more) (sends i z v) (past i z v).unheld here),
                   );
-              freed = freed_on system front more i z (sends_other _ C.Save (part i more) (λ e. absurd (cc)) (sends i z v)) (λ j u. sends_no _ C.Save (part j more) tt (sends j z u)) (past i z v).freed;
+              freed = freed_on system prefix more i z (sends_other _ C.Save (part i more) (λ e. absurd (cc)) (sends i z v)) (λ j u. sends_no _ C.Save (part j more) tt (sends j z u)) (past i z v).freed;
             }
-  fell several (Meeting test t step b) front more bad (held, later) good agrees talks ends k d w =
-      left_so system (front ++ more) talks ends (left_broken system several t step b later front more bad agrees test held) k d w
-      (λ f rest e is given. kept_last (part k (front ++ more)) f rest e (keeps_on front more good k d (no_free_whole system several t step b later front more bad agrees k)) is given)
-  fell several Halting front more bad left good stops talks ends k d w = absurd (never_stops stops.front (stops.calls_are ∙ ap (λ (l : List Sent). askings l ++ stops.left) stops.log_is)) where
-    never_stops : (f : List Sent) → [] ≡ askings (f ++ stops.last ∷ []) ++ stops.left → ⊥
+  fell several (Meeting test t step b) prefix more bad (held, later) good agrees talks ends k d w =
+      left_so system (prefix ++ more) talks ends (left_broken system several t step b later prefix more bad agrees test held) k d w
+      (λ f rest e is given. kept_last (part k (prefix ++ more)) f rest e (keeps_on prefix more good k d (no_free_whole system several t step b later prefix more bad agrees k)) is given)
+  fell several Halting prefix more bad left good stops talks ends k d w = absurd (never_stops stops.prefix (stops.calls_are ∙ ap (λ (l : List Sent). component_calls l ++ stops.left) stops.log_is)) where
+    never_stops : (f : List Sent) → [] ≡ component_calls (f ++ stops.last ∷ []) ++ stops.left → ⊥
     never_stops [] is = absurd (cc)
     never_stops (x ∷ f) is = absurd (cc)
-  fell several (Freeing test) front more bad met good asks talks ends k d w =
-      left_so system (front ++ more) talks ends (past_left system (front ++ more) (frees_on system front more test asks met)) k d w
-      (λ f rest e is given. last_of (part k front) (part k more) f rest e (good_keeps front good k d) (sends_short _ C.Free (part k more) (sent_to system test C.Free more asks k d w)) (sym (part_append k front more) ∙ is) given)
+  fell several (Freeing test) prefix more bad met good asks talks ends k d w =
+      left_so system (prefix ++ more) talks ends (past_left system (prefix ++ more) (frees_on system prefix more test asks met)) k d w
+      (λ f rest e is given. last_of (part k prefix) (part k more) f rest e (good_keeps prefix good k d) (sends_short _ C.Free (part k more) (sent_to system test C.Free more asks k d w)) (sym (part_append k prefix more) ∙ is) given)
 
 -- ---- along a course
 
@@ -746,7 +746,7 @@ module _ (system : System) (sound : IsSound system) (bound : Bound) (plan : Plan
   parts p more = Throughout system (IsOf (sort_at p)) more
 
   others_of : (p : Place) (more : List Sent) → is_plain (sort_at p) ≡ true → parts p more → (k : ℕ) → All IsOther (calls_in (part k more))
-  others_of p more plain sorts k = mine system k IsOther more (λ i. All-weaker (IsOf (sort_at p)) IsOther (other_of (sort_at p) plain) (own i (askings more)) (sorts i))
+  others_of p more plain sorts k = mine system k IsOther more (λ i. All-weaker (IsOf (sort_at p)) IsOther (other_of (sort_at p) plain) (own i (component_calls more)) (sorts i))
 
   abbrev task : Place → Task
   task p = task_at system plan p
@@ -765,11 +765,11 @@ module _ (system : System) (sound : IsSound system) (bound : Bound) (plan : Plan
   falls_at (Agreed w m asked) bad more sorts falls = falls.calls_are
   falls_at p bad more sorts falls = others_of p more refl sorts
 
-  next : (front : List Sent) (p q : Place) (values : List (Option ℤ)) (more : List Sent) → LeadsTo system plan p values more q → IsLater p → Behind system (task p) front more → Before system (task q) (front ++ more)
-  next front _ _ _ _ (Saves w values more) later held = (held, later)
-  next front _ _ _ _ (Agreeing w values more m asked agrees is) later (held, after) = met_on system w.s.t plan.step w.to after front more (saved_in system) m held agrees
-  next front _ _ _ _ (Stopping w values more i e agrees) later (held, after) = short_on system several w.s.t plan.step w.to after (saved_in system) front more i e held agrees
-  next front _ _ _ _ leads later past = past
+  next : (prefix : List Sent) (p q : Place) (values : List (Option ℤ)) (more : List Sent) → LeadsTo system plan p values more q → IsLater p → After system (task p) prefix more → Before system (task q) (prefix ++ more)
+  next prefix _ _ _ _ (Saves w values more) later held = (held, later)
+  next prefix _ _ _ _ (Agreeing w values more m asked agrees is) later (held, after) = met_on system w.s.t plan.step w.to after prefix more (saved_in system) m held agrees
+  next prefix _ _ _ _ (Stopping w values more i e agrees) later (held, after) = short_on system several w.s.t plan.step w.to after (saved_in system) prefix more i e held agrees
+  next prefix _ _ _ _ leads later past = past
 
   -- where a run may stop
   halted : (p : Place) → IsHalt p → (log : List Sent) → Before system (task p) log → AreLeft system log
@@ -792,13 +792,13 @@ module _ (system : System) (sound : IsSound system) (bound : Bound) (plan : Plan
     pub course_at : (p : Place) (log : List Sent) (is : List Instant) → CourseIn system bound plan extent p log is → IsAt p (past ++ log)
     course_at = along system bound plan extent (λ p log is. IsAt p (past ++ log))
         (subst (IsAt (first_of extent)) (sym (append-nil past)) start)
-        (λ p q values front more is course at does leads within.
+        (λ p q values prefix more is course at does leads within.
         let good = part_good system (part_at system bound plan p) values more does in
         let sorts = does_all system (IsOf (sort_at p)) (part_at system bound plan p) (sorts_are system sound bound plan binds p) values more does in
-        subst (IsAt q) (append_assoc past front more) (record {
+        subst (IsAt q) (append_assoc past prefix more) (record {
           later = later_on system plan p q values more leads at.later;
-          before = next (past ++ front) p q values more leads at.later (done system (task p) (past ++ front) more at.before (asks_at p values more sorts does) good);
-          good = All-append (IsGoodOf (shapes_of system)) (past ++ front) more at.good good;
+          before = next (past ++ prefix) p q values more leads at.later (done system (task p) (past ++ prefix) more at.before (asks_at p values more sorts does) good);
+          good = All-append (IsGoodOf (shapes_of system)) (past ++ prefix) more at.good good;
         }))
 
     pub stands_left : (p : Place) (log : List Sent) (is : List Instant) → CourseIn system bound plan extent p log is → IsHalt p → (talks : List Talk) → EndAs system (past ++ log) talks → (k : ℕ) (d : Shape) → k < length system.components → LeavesState talks (get_or (shapes_of system) k d) (part k (past ++ log))
@@ -807,21 +807,21 @@ module _ (system : System) (sound : IsSound system) (bound : Bound) (plan : Plan
         left_so system (past ++ log) talks ends (halted p halts (past ++ log) at.before) k d w
         (λ f rest e is given. kept_last (part k (past ++ log)) f rest e (good_keeps system (past ++ log) at.good k d) is given)
 
-    pub falls_left : (p : Place) (bad : BadAnswer) (front more : List Sent) (is : List Instant) → CourseIn system bound plan extent p front is → Falls system (part_at system bound plan p) bad more → (talks : List Talk) → EndAs system (past ++ (front ++ more)) talks → (k : ℕ) (d : Shape) → k < length system.components →
-        LeavesState talks (get_or (shapes_of system) k d) (part k (past ++ (front ++ more)))
-    falls_left p bad front more is course falls talks ends k d w =
-        let at = course_at p front is course in
+    pub falls_left : (p : Place) (bad : BadAnswer) (prefix more : List Sent) (is : List Instant) → CourseIn system bound plan extent p prefix is → Falls system (part_at system bound plan p) bad more → (talks : List Talk) → EndAs system (past ++ (prefix ++ more)) talks → (k : ℕ) (d : Shape) → k < length system.components →
+        LeavesState talks (get_or (shapes_of system) k d) (part k (past ++ (prefix ++ more)))
+    falls_left p bad prefix more is course falls talks ends k d w =
+        let at = course_at p prefix is course in
         let sorts = falls_all system (IsOf (sort_at p)) (part_at system bound plan p) (sorts_are system sound bound plan binds p) bad more falls in
-        subst (λ (l : List Sent). LeavesState talks (get_or (shapes_of system) k d) (part k l)) (append_assoc past front more)
-        (fell system several (task_at system plan p) (past ++ front) more bad at.before at.good (falls_at p bad more sorts falls) talks
-        (subst (λ (l : List Sent). EndAs system l talks) (sym (append_assoc past front more)) ends) k d w)
+        subst (λ (l : List Sent). LeavesState talks (get_or (shapes_of system) k d) (part k l)) (append_assoc past prefix more)
+        (fell system several (task_at system plan p) (past ++ prefix) more bad at.before at.good (falls_at p bad more sorts falls) talks
+        (subst (λ (l : List Sent). EndAs system l talks) (sym (append_assoc past prefix more)) ends) k d w)
 
 -- ---- where one alone might return early
 
 leaves_none : (system : System) (log : List Sent) → Throughout system IsStateless log → (talks : List Talk) (k : ℕ) (d : Shape) → LeavesState talks (get_or (shapes_of system) k d) (part k log)
 leaves_none system log all talks k d = record {
   held = λ held. absurd (let wrong : true ≡ false = sym held ∙ never_held (get_or (shapes_of system) k d) (part k log) calls in cc);
-  freed = λ front e is frees. absurd (all_at_one (λ (x : Exchange). x.call ≡ C.Free → ⊥) front [] e (subst (λ (es : List Exchange). All (λ (x : Exchange). x.call ≡ C.Free → ⊥) es) is none) frees);
+  freed = λ prefix e is frees. absurd (all_at_one (λ (x : Exchange). x.call ≡ C.Free → ⊥) prefix [] e (subst (λ (es : List Exchange). All (λ (x : Exchange). x.call ≡ C.Free → ⊥) es) is none) frees);
   last = λ f rest e is given. kept_last (part k log) f rest e (other_kept (part k log) none) is given;
 } where
   calls : All IsStateless (calls_in (part k log))
@@ -850,8 +850,8 @@ several_left system sound several _ _ (Unmade link bad log stops) talks ends k d
     (λ i. mine system i IsOther log (falls_all system IsOther (Calls (making link system)) (those system IsOther everyone (instantiate_of link) (λ s. tt)) bad log stops)) talks ends k d w
 several_left system sound several _ _ (Stands bound plan p made log is binds counts answered course halts) talks ends k d w =
     stands_left system sound bound plan binds several Whole made (made_at system sound bound plan binds several made answered) p log is course halts talks ends k d w
-several_left system sound several _ _ (Falling bound plan p bad made front more is binds counts answered course falls) talks ends k d w =
-    falls_left system sound bound plan binds several Whole made (made_at system sound bound plan binds several made answered) p bad front more is course falls talks ends k d w
+several_left system sound several _ _ (Falling bound plan p bad made prefix more is binds counts answered course falls) talks ends k d w =
+    falls_left system sound bound plan binds several Whole made (made_at system sound bound plan binds several made answered) p bad prefix more is course falls talks ends k d w
 
 pub whole_left : (system : System) → IsSound system → (bad : Option BadAnswer) (log : List Sent) → Comes system bad log → (talks : List Talk) → EndAs system log talks → (k : ℕ) (d : Shape) → k < length system.components → LeavesState talks (get_or (shapes_of system) k d) (part k log)
 whole_left system sound bad log comes talks ends k d w =

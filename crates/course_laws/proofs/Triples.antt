@@ -8,18 +8,18 @@ use Rattle.fmi_calls.specs.declared.call.Call.{Call}
 use Rattle.fmi_calls.specs.declared.call.Call.TheVariants as C
 use Rattle.system_model.specs.declared.system.Component.{Component}
 use Rattle.system_model.specs.declared.system.System.{System}
-use Rattle.slot_calls.specs.Log.{Asking}
+use Rattle.slot_calls.specs.Log.{ComponentCall}
 use Rattle.slot_calls.specs.Stage.{shapes_of}
 use Rattle.slot_calls.proofs.CallerLemmas.{other, same}
 use Rattle.event_iteration.specs.WalkCalls.{own}
 use Rattle.calling_sequence.specs.Calls.{keeping, keeping_from, restoring, restoring_from}
 use Rattle.course_laws.proofs.Goods.{IsToOne}
 
-abbrev asking : ℕ → Call → Asking
+abbrev asking : ℕ → Call → ComponentCall
 asking i call = record { component = i; call = call }
 
 -- from the i-th component on, for each of a list: what each says, and the same two of all
-abbrev pub triples_from : {X : Type 0} → ℕ → (X → Call) → Call → Call → List X → List Asking
+abbrev pub triples_from : {X : Type 0} → ℕ → (X → Call) → Call → Call → List X → List ComponentCall
 triples_from i f g h [] = []
 triples_from i f g h (x ∷ xs) = asking i (f x) ∷ asking i g ∷ asking i h ∷ triples_from (i + 1) f g h xs
 
@@ -32,24 +32,24 @@ takes_in point stop size = C.Deserialize size point stop
 
 keeping_same : (i : ℕ) (ss : List Shape) → keeping_from i ss ≡ triples_from i saves C.Serialize C.Free ss
 keeping_same i [] = refl
-keeping_same i (shape ∷ ss) = ap (λ (l : List Asking). asking i C.Save ∷ asking i C.Serialize ∷ asking i C.Free ∷ l) (keeping_same (i + 1) ss)
+keeping_same i (shape ∷ ss) = ap (λ (l : List ComponentCall). asking i C.Save ∷ asking i C.Serialize ∷ asking i C.Free ∷ l) (keeping_same (i + 1) ss)
 
 pub keeping_are : (system : System) → keeping system ≡ triples_from 0 saves C.Serialize C.Free (shapes_of system)
 keeping_are system = keeping_same 0 (shapes_of system)
 
 restoring_same : (i point stop : ℕ) (sizes : List ℕ) → restoring_from i point stop sizes ≡ triples_from i (takes_in point stop) C.Restore C.Free sizes
 restoring_same i point stop [] = refl
-restoring_same i point stop (size ∷ sizes) = ap (λ (l : List Asking). asking i (C.Deserialize size point stop) ∷ asking i C.Restore ∷ asking i C.Free ∷ l) (restoring_same (i + 1) point stop sizes)
+restoring_same i point stop (size ∷ sizes) = ap (λ (l : List ComponentCall). asking i (C.Deserialize size point stop) ∷ asking i C.Restore ∷ asking i C.Free ∷ l) (restoring_same (i + 1) point stop sizes)
 
 pub restoring_are : (point stop : ℕ) (sizes : List ℕ) → restoring point stop sizes ≡ triples_from 0 (takes_in point stop) C.Restore C.Free sizes
 restoring_are point stop sizes = restoring_same 0 point stop sizes
 
 module _ {X : Type 0} (f : X → Call) (g h : Call) where
   -- what holds of the three holds of all
-  pub triples_all : (P : Call → Type 0) → ((x : X) → P (f x)) → P g → P h → (i : ℕ) (xs : List X) → All (λ (a : Asking). P a.call) (triples_from i f g h xs)
-  triples_all P first second third i [] = All-nil (λ (a : Asking). P a.call)
+  pub triples_all : (P : Call → Type 0) → ((x : X) → P (f x)) → P g → P h → (i : ℕ) (xs : List X) → All (λ (a : ComponentCall). P a.call) (triples_from i f g h xs)
+  triples_all P first second third i [] = All-nil (λ (a : ComponentCall). P a.call)
   triples_all P first second third i (x ∷ xs) =
-      let Q = λ (a : Asking). P a.call in
+      let Q = λ (a : ComponentCall). P a.call in
       let rest = triples_from (i + 1) f g h xs in
       All-cons Q (asking i (f x)) (asking i g ∷ asking i h ∷ rest) (first x)
       (All-cons Q (asking i g) (asking i h ∷ rest) second (All-cons Q (asking i h) rest third (triples_all P first second third (i + 1) xs)))
@@ -65,10 +65,10 @@ module _ {X : Type 0} (f : X → Call) (g h : Call) where
 
   -- ---- those of one component
 
-  own_here : (i k : ℕ) (call : Call) (rest : List Asking) → (i == k) ≡ true → own k (asking i call ∷ rest) ≡ call ∷ own k rest
+  own_here : (i k : ℕ) (call : Call) (rest : List ComponentCall) → (i == k) ≡ true → own k (asking i call ∷ rest) ≡ call ∷ own k rest
   own_here i k call rest is = ap (λ (b : Bool). if b then call ∷ own k rest else own k rest) is
 
-  own_past : (i k : ℕ) (call : Call) (rest : List Asking) → (i == k) ≡ false → own k (asking i call ∷ rest) ≡ own k rest
+  own_past : (i k : ℕ) (call : Call) (rest : List ComponentCall) → (i == k) ≡ false → own k (asking i call ∷ rest) ≡ own k rest
   own_past i k call rest is = ap (λ (b : Bool). if b then call ∷ own k rest else own k rest) is
 
   past_three : (i k : ℕ) (x : X) (xs : List X) → (i == k) ≡ false → own k (triples_from i f g h (x ∷ xs)) ≡ own k (triples_from (i + 1) f g h xs)
@@ -109,13 +109,13 @@ own_restoring point stop sizes k w =
     let one = own_triple (takes_in point stop) C.Restore C.Free 0 k k sizes (omega arith) w in
     (one.0, ap (own k) (restoring_are point stop sizes) ∙ one.1)
 
-pub keeping_all : (P : Call → Type 0) → P C.Save → P C.Serialize → P C.Free → (system : System) → All (λ (a : Asking). P a.call) (keeping system)
+pub keeping_all : (P : Call → Type 0) → P C.Save → P C.Serialize → P C.Free → (system : System) → All (λ (a : ComponentCall). P a.call) (keeping system)
 keeping_all P save serialize free system =
-    subst (All (λ (a : Asking). P a.call)) (sym (keeping_are system)) (triples_all saves C.Serialize C.Free P (λ shape. save) serialize free 0 (shapes_of system))
+    subst (All (λ (a : ComponentCall). P a.call)) (sym (keeping_are system)) (triples_all saves C.Serialize C.Free P (λ shape. save) serialize free 0 (shapes_of system))
 
-pub restoring_all : (P : Call → Type 0) (point stop : ℕ) → ((size : ℕ) → P (C.Deserialize size point stop)) → P C.Restore → P C.Free → (sizes : List ℕ) → All (λ (a : Asking). P a.call) (restoring point stop sizes)
+pub restoring_all : (P : Call → Type 0) (point stop : ℕ) → ((size : ℕ) → P (C.Deserialize size point stop)) → P C.Restore → P C.Free → (sizes : List ℕ) → All (λ (a : ComponentCall). P a.call) (restoring point stop sizes)
 restoring_all P point stop takes restore free sizes =
-    subst (All (λ (a : Asking). P a.call)) (sym (restoring_are point stop sizes)) (triples_all (takes_in point stop) C.Restore C.Free P takes restore free 0 sizes)
+    subst (All (λ (a : ComponentCall). P a.call)) (sym (restoring_are point stop sizes)) (triples_all (takes_in point stop) C.Restore C.Free P takes restore free 0 sizes)
 
 pub keeping_to : (system : System) → All (IsToOne (length (shapes_of system))) (keeping system)
 keeping_to system = subst (All (IsToOne (length (shapes_of system)))) (sym (keeping_are system)) (triples_to saves C.Serialize C.Free (length (shapes_of system)) 0 (shapes_of system) (omega arith))

@@ -21,7 +21,7 @@ use Rattle.system_model.specs.EarlyReturn.{early_count}
 use Rattle.system_model.specs.Sound.{IsSound}
 use Rattle.system_model.specs.Text.{Instant}
 use Rattle.slot_calls.specs.declared.bad_answer.BadAnswer.{BadAnswer}
-use Rattle.slot_calls.specs.Log.{Asking, Sent, askings}
+use Rattle.slot_calls.specs.Log.{ComponentCall, Sent, component_calls}
 use Rattle.slot_calls.specs.SavedStates.{saved_after, saved_by}
 use Rattle.slot_calls.specs.Stage.{IsAnswered, everyone, shapes_of, to_those_from}
 use Rattle.step_agreement.specs.Agreement.{Fails, Outcome}
@@ -31,7 +31,7 @@ use Rattle.event_iteration.specs.WalkCalls.{own}
 use Rattle.calling_sequence.specs.Calls.{making}
 use Rattle.calling_sequence.specs.Course.{Agreed, CourseIn, Departing, Extent, Place, Saved, Whole, first_of, part_at}
 use Rattle.calling_sequence.specs.Parts.{Agreement, AllAgree, Calls, Does, Falls, Part, Round, Walk}
-use Rattle.calling_sequence.proofs.Along.{along}
+use Rattle.calling_sequence.proofs.CourseInduction.{along}
 use Rattle.course_laws.specs.Laws.{IsStateless, NothingSaved}
 use Rattle.course_laws.specs.Runs.{Comes, Falling, Stands, Unmade}
 use Rattle.course_laws.proofs.CallsOnce.{IsLater, later_on}
@@ -92,19 +92,19 @@ not_more : (n : ℕ) → n ≤ 1 → nat_lt 1 n ≡ false
 not_more n few = grind (arith, nat_tests)
 
 module _ (system : System) where
-  stateless_on : (front more : List Sent) → Throughout system IsStateless front → Throughout system IsStateless more → Throughout system IsStateless (front ++ more)
-  stateless_on front more f m i = subst (All IsStateless) (sym (own_log i front more)) (All-append IsStateless (own i (askings front)) (own i (askings more)) (f i) (m i))
+  stateless_on : (prefix more : List Sent) → Throughout system IsStateless prefix → Throughout system IsStateless more → Throughout system IsStateless (prefix ++ more)
+  stateless_on prefix more f m i = subst (All IsStateless) (sym (own_log i prefix more)) (All-append IsStateless (own i (component_calls prefix)) (own i (component_calls more)) (f i) (m i))
 
   made_stateless : (link i : ℕ) → All IsStateless (own i (making link system))
   made_stateless link = those system IsStateless everyone (instantiate_of link) (λ s. tt)
 
   made_all : (link : ℕ) (made : List Sent) → IsAnswered (shapes_of system) (making link system) made → Throughout system IsStateless made
-  made_all link made answered i = subst (λ (cs : List Asking). All IsStateless (own i cs)) (sym answered.calls_are) (made_stateless link i)
+  made_all link made answered i = subst (λ (cs : List ComponentCall). All IsStateless (own i cs)) (sym answered.calls_are) (made_stateless link i)
 
   weaken : (P Q : Call → Type 0) → ((c : Call) → P c → Q c) → (part : Part) → IsThroughout system P part → IsThroughout system Q part
   weaken P Q h (Calls calls) all = λ i. All-weaker P Q h (own i calls) (all i)
   weaken P Q h (Round calls) all = λ i. All-weaker P Q h (own i calls) (all i)
-  weaken P Q h (Walk rules before order) all = λ log walks i. All-weaker P Q h (own i (askings log)) (all log walks i)
+  weaken P Q h (Walk rules before order) all = λ log walks i. All-weaker P Q h (own i (component_calls log)) (all log walks i)
   weaken P Q h (Agreement t step b) all = λ call is. h call (all call is)
 
   -- ---- along a course
@@ -112,7 +112,7 @@ module _ (system : System) where
   module _ (sound : IsSound system) (few : early_count (shapes_of system) ≤ 1) where
     none_to : (call : Call) (i : ℕ) → All IsStateless (own i (to_those_from 0 (is_saved (early_count (shapes_of system))) (λ (z : Shape). call) (shapes_of system)))
     none_to call i =
-        subst (λ (l : List Asking). All IsStateless (own i l))
+        subst (λ (l : List ComponentCall). All IsStateless (own i l))
         (sym (to_none (is_saved (early_count (shapes_of system))) (λ (z : Shape). call) (λ s. not_more (early_count (shapes_of system)) few) 0 (shapes_of system))) (All-nil IsStateless)
 
     agreement_stateless : (t step b : ℕ) → t < b → (log : List Sent) (o : Outcome) → AllAgree system t step b log o → Throughout system IsStateless log
@@ -143,15 +143,15 @@ module _ (system : System) where
 
       pub course_stateless : (extent : Extent) (p : Place) (log : List Sent) (is : List Instant) → IsLater (first_of extent) → CourseIn system bound plan extent p log is → IsLater p × Throughout system IsStateless log
       course_stateless extent p log is later course = along system bound plan extent (λ p log is. IsLater p × Throughout system IsStateless log) (later, λ i. All-nil IsStateless)
-          (λ p q values front more is course at does leads within. (
+          (λ p q values prefix more is course at does leads within. (
             later_on system plan p q values more leads at.0,
-            stateless_on front more at.1 (does_stateless p at.0 values more does),
+            stateless_on prefix more at.1 (does_stateless p at.0 values more does),
           )) p log is course
 
-      pub fallen_stateless : (extent : Extent) (p : Place) (bad : BadAnswer) (front more : List Sent) (is : List Instant) → IsLater (first_of extent) → CourseIn system bound plan extent p front is → Falls system (part_at system bound plan p) bad more → Throughout system IsStateless (front ++ more)
-      fallen_stateless extent p bad front more is later course falls =
-          let at = course_stateless extent p front is later course in
-          stateless_on front more at.1 (falls_stateless p at.0 bad more falls)
+      pub fallen_stateless : (extent : Extent) (p : Place) (bad : BadAnswer) (prefix more : List Sent) (is : List Instant) → IsLater (first_of extent) → CourseIn system bound plan extent p prefix is → Falls system (part_at system bound plan p) bad more → Throughout system IsStateless (prefix ++ more)
+      fallen_stateless extent p bad prefix more is later course falls =
+          let at = course_stateless extent p prefix is later course in
+          stateless_on prefix more at.1 (falls_stateless p at.0 bad more falls)
 
       pub made_stateless_on : (p : Place) (made log : List Sent) (is : List Instant) → IsAnswered (shapes_of system) (making plan.link system) made → CourseIn system bound plan Whole p log is → Throughout system IsStateless (made ++ log)
       made_stateless_on p made log is answered course = stateless_on made log (made_all plan.link made answered) (course_stateless Whole p log is tt course).1
@@ -159,8 +159,8 @@ module _ (system : System) where
     pub comes_stateless : (bad : Option BadAnswer) (log : List Sent) → Comes system bad log → Throughout system IsStateless log
     comes_stateless _ _ (Unmade link bad log stops) = falls_all system IsStateless (Calls (making link system)) (made_stateless link) bad log stops
     comes_stateless _ _ (Stands bound plan p made log is binds counts answered course halts) = made_stateless_on bound plan binds p made log is answered course
-    comes_stateless _ _ (Falling bound plan p bad made front more is binds counts answered course falls) =
-        stateless_on made (front ++ more) (made_all plan.link made answered) (fallen_stateless bound plan binds Whole p bad front more is tt course falls)
+    comes_stateless _ _ (Falling bound plan p bad made prefix more is binds counts answered course falls) =
+        stateless_on made (prefix ++ more) (made_all plan.link made answered) (fallen_stateless bound plan binds Whole p bad prefix more is tt course falls)
 
 pub nothing_saved : NothingSaved
 nothing_saved system bad log sound comes few k = subst (All IsStateless) (sym (own_calls k log)) (comes_stateless system sound few bad log comes k)

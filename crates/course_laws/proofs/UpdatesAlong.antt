@@ -18,17 +18,17 @@ use Rattle.system_model.specs.Sound.{IsSound}
 use Rattle.system_model.specs.Text.{Instant}
 use Rattle.system_model.proofs.CallerLemmas.{all_at}
 use Rattle.slot_calls.specs.declared.bad_answer.BadAnswer.{BadAnswer}
-use Rattle.slot_calls.specs.Log.{Asking, Sent, askings}
+use Rattle.slot_calls.specs.Log.{ComponentCall, Sent, component_calls}
 use Rattle.slot_calls.specs.Stage.{IsAnswered, everyone, shapes_of}
 use Rattle.event_iteration.specs.Clocks.{AreTicks}
 use Rattle.event_iteration.specs.Intervals.{is_some_armed}
 use Rattle.event_iteration.specs.WalkCalls.{own, use_in}
 use Rattle.calling_sequence.specs.Calls.{making, restoring}
-use Rattle.calling_sequence.specs.Course.{Again, Agreed, Agreeing, Arrives, Before, Binds, Configured, Course, CourseIn, Departing, Entered, Enters, Exits, Extent, Finds, Found, FromHeld, Frees, GoesOn, LeadsTo, Leaves, Leaving, Left, Made, Place, Read, Reads, Rearmed, Rearming, Restored, Resumes, Saved, Saves, Seen, Sets, Short, Spot, Stepped, Stopping, Timed, Times, Updates, Whole, first_of, part_at}
+use Rattle.calling_sequence.specs.Course.{Again, Agreed, Agreeing, Arrives, Before, Binds, Configured, Course, CourseIn, Departing, Entered, Enters, Exits, Extent, Finds, Found, FromHeld, Frees, GoesOn, LeadsTo, Leaves, Leaving, Left, Made, Place, Read, Reads, Rearmed, Rearming, Restored, Resumes, Saved, Saves, InstantDone, Sets, Short, Spot, Stepped, Stopping, Timed, Times, Updates, Whole, first_of, part_at}
 use Rattle.calling_sequence.specs.Holding.{holding}
 use Rattle.calling_sequence.specs.Parts.{Calls, Does, Falls}
 use Rattle.calling_sequence.specs.Plans.{CountsBy}
-use Rattle.calling_sequence.proofs.Along.{along}
+use Rattle.calling_sequence.proofs.CourseInduction.{along}
 use Rattle.course_laws.specs.Laws.{UpdatesAskedFor}
 use Rattle.course_laws.specs.Runs.{AreArmable, BackBadly, BackFalling, BackStands, Comes, ComesAnyhow, Falling, Holding, HoldingBadly, Stands, Unmade, Wholly}
 use Rattle.course_laws.proofs.ArmedClocks.{AreTaken, first_armable, instant_takes, rearmed_armable, rearmed_armed}
@@ -102,7 +102,7 @@ module _ (system : System) (sound : IsSound system) (bound : Bound) (plan : Plan
   TimersAt (Before s ticks) = AreArmable system s.timers × AreTicks system plan.start s.timers s.t s.n ticks
   TimersAt (Read s) = AreArmable system s.timers × AreTaken system s.t s.values s.timers
   TimersAt (Rearmed s) = AreArmable system s.timers
-  TimersAt (Seen s again asked) = AreArmable system s.timers
+  TimersAt (InstantDone s again asked) = AreArmable system s.timers
   TimersAt (Leaving w) = AreArmable system w.s.timers
   TimersAt (Left w) = AreArmable system w.s.timers
   TimersAt (Departing w) = AreArmable system w.s.timers
@@ -139,7 +139,7 @@ module _ (system : System) (sound : IsSound system) (bound : Bound) (plan : Plan
   Besides (Before s ticks) log m flag = flag ≡ true → Asked system log m
   Besides (Read s) log m flag = flag ≡ true → Asked system log m
   Besides (Rearmed s) log m flag = (flag ≡ true → Asked system log m) × (is_some_armed s.t s.timers ≡ true → SomeArmed system log)
-  Besides (Seen s again asked) log m flag = (flag ≡ true) × (again ≡ true → asked ≡ false → Asked system log m)
+  Besides (InstantDone s again asked) log m flag = (flag ≡ true) × (again ≡ true → asked ≡ false → Asked system log m)
   Besides (Leaving w) log m flag = flag ≡ true
   Besides p log m flag = flag ≡ false
 
@@ -150,39 +150,39 @@ module _ (system : System) (sound : IsSound system) (bound : Bound) (plan : Plan
     besides : Besides p log m flag
 
   no_of_quiet : (log : List Sent) → Throughout system IsQuiet log → Throughout system IsNoUpdate log
-  no_of_quiet log all i = All-weaker IsQuiet IsNoUpdate quiet_no (own i (askings log)) (all i)
+  no_of_quiet log all i = All-weaker IsQuiet IsNoUpdate quiet_no (own i (component_calls log)) (all i)
 
-  module _ (front : List Sent) where
+  module _ (prefix : List Sent) where
     -- after calls that neither are Updates nor begin or end a stay
-    onward : (p q : Place) (log : List Sent) → Throughout system IsQuiet log → (a : IsAt p front) → Besides q (front ++ log) a.m a.flag → IsAt q (front ++ log)
-    onward p q log all a besides = record { m = a.m; flag = a.flag; talks = quiet system front log a.m a.flag a.talks all; besides = besides }
+    onward : (p q : Place) (log : List Sent) → Throughout system IsQuiet log → (a : IsAt p prefix) → Besides q (prefix ++ log) a.m a.flag → IsAt q (prefix ++ log)
+    onward p q log all a besides = record { m = a.m; flag = a.flag; talks = quiet system prefix log a.m a.flag a.talks all; besides = besides }
 
     -- what the last instant asks for stands
-    asked_on : (p : Place) (log : List Sent) → Throughout system IsQuiet log → (a : IsAt p front) → Asked system front a.m → Asked system (front ++ log) a.m
-    asked_on p log all a asked = still_asked system front log a.m a.flag a.talks.table (no_of_quiet log all) asked
+    asked_on : (p : Place) (log : List Sent) → Throughout system IsQuiet log → (a : IsAt p prefix) → Asked system prefix a.m → Asked system (prefix ++ log) a.m
+    asked_on p log all a asked = still_asked system prefix log a.m a.flag a.talks.table (no_of_quiet log all) asked
 
-    on : (p q : Place) (values : List (Option ℤ)) (more : List Sent) → TimersAt p → IsAt p front → Does system (part_at system bound plan p) values more → Throughout system (calls_from p) more → LeadsTo system plan p values more q → IsAt q (front ++ more)
+    on : (p q : Place) (values : List (Option ℤ)) (more : List Sent) → TimersAt p → IsAt p prefix → Does system (part_at system bound plan p) values more → Throughout system (calls_from p) more → LeadsTo system plan p values more q → IsAt q (prefix ++ more)
     on _ _ _ _ timers a does all (Binds values log) = onward Made Configured log all a a.besides
     on _ _ _ _ timers a does all (Enters values log) = onward Configured Entered log all a a.besides
     on _ _ _ _ timers a does all (Finds values log) = onward Entered (Found values) log all a a.besides
     on _ _ _ _ timers a does all (Times found values log told kept is) = onward (Found found) (Timed told) log all a a.besides
     on _ _ _ _ timers a does all (Exits told values log s ticks is begins) =
-        record { m = a.m; flag = false; talks = calm system front log a.m (subst (Talks system front a.m) a.besides a.talks) all; besides = λ wrong. absurd (cc) }
+        record { m = a.m; flag = false; talks = calm system prefix log a.m (subst (Talks system prefix a.m) a.besides a.talks) all; besides = λ wrong. absurd (cc) }
     on _ _ _ _ timers a does all (Reads s ticks values log places) = onward (Before s ticks) (Read (record s { values = values })) log all a (λ is. asked_on (Before s ticks) log all a (a.besides is))
     on _ _ _ _ timers a does all (Rearming s values next log kept rearms) = onward (Read s) (Rearmed (record s { timers = next })) log all a (
       λ is. asked_on (Read s) log all a (a.besides is),
-      λ some. let x = rearmed_armed system sound plan.resolution s.t s.values s.timers next log rearms timers.0 above counting timers.1 some in arm system front log x.component x.event all x.arms,
+      λ some. let x = rearmed_armed system sound plan.resolution s.t s.values s.timers next log rearms timers.0 above counting timers.1 some in arm system prefix log x.component x.event all x.arms,
     )
     on _ _ _ _ timers a does all (Updates s values log events again asked events_are again_is asked_is) = record {
       m = suc a.m;
       flag = true;
-      talks = updated system front log a.m a.flag a.talks does.calls_are a.besides.0;
-      besides = (refl, λ once ends. asks system front log a.m a.flag a.talks does.calls_are (is_some_armed s.t s.timers) (sym again_is ∙ once) a.besides.1 (sym asked_is ∙ ends));
+      talks = updated system prefix log a.m a.flag a.talks does.calls_are a.besides.0;
+      besides = (refl, λ once ends. asks system prefix log a.m a.flag a.talks does.calls_are (is_some_armed s.t s.timers) (sym again_is ∙ once) a.besides.1 (sym asked_is ∙ ends));
     }
-    on _ _ _ _ timers a does all (Again s values log ticks below begins) = onward (Seen s true false) (Before (record s { n = suc s.n }) ticks) log all a (λ is. asked_on (Seen s true false) log all a (a.besides.1 refl refl))
-    on _ _ _ _ timers a does all (GoesOn w values log step) = onward (Seen w.s false false) (Leaving w) log all a a.besides.0
+    on _ _ _ _ timers a does all (Again s values log ticks below begins) = onward (InstantDone s true false) (Before (record s { n = suc s.n }) ticks) log all a (λ is. asked_on (InstantDone s true false) log all a (a.besides.1 refl refl))
+    on _ _ _ _ timers a does all (GoesOn w values log step) = onward (InstantDone w.s false false) (Leaving w) log all a a.besides.0
     on _ _ _ _ timers a does all (Leaves w values log) =
-        record { m = a.m; flag = false; talks = leave system front log a.m (subst (Talks system front a.m) a.besides a.talks) all does.calls_are; besides = refl }
+        record { m = a.m; flag = false; talks = leave system prefix log a.m (subst (Talks system prefix a.m) a.besides a.talks) all does.calls_are; besides = refl }
     on _ _ _ _ timers a does all (Sets w values log) = onward (Left w) (Departing w) log all a a.besides
     on _ _ _ _ timers a does all (Saves w values log) = onward (Departing w) (Saved w) log all a a.besides
     on _ _ _ _ timers a does all (Agreeing w values log m asked agrees is) = onward (Saved w) (Agreed w m asked) log all a a.besides
@@ -195,19 +195,19 @@ module _ (system : System) (sound : IsSound system) (bound : Bound) (plan : Plan
     abbrev AreAsked : List Sent → Type 0
     AreAsked log = AreAskedFor (length system.components) (marks_in log)
 
-    fallen : (p : Place) (bad : BadAnswer) (log : List Sent) → IsAt p front → Falls system (part_at system bound plan p) bad log → Throughout system (calls_from p) log → AreAsked (front ++ log)
-    fallen (Rearmed s) bad log a falls all = stopped system front log a.m a.flag a.talks bad falls a.besides.0
-    fallen (Timed timers) bad log a falls all = (still system front log a.m a.flag a.talks.table all).needed
-    fallen (Leaving w) bad log a falls all = (still system front log a.m a.flag a.talks.table all).needed
-    fallen p bad log a falls all = (still system front log a.m a.flag a.talks.table (no_of_quiet log all)).needed
+    fallen : (p : Place) (bad : BadAnswer) (log : List Sent) → IsAt p prefix → Falls system (part_at system bound plan p) bad log → Throughout system (calls_from p) log → AreAsked (prefix ++ log)
+    fallen (Rearmed s) bad log a falls all = stopped system prefix log a.m a.flag a.talks bad falls a.besides.0
+    fallen (Timed timers) bad log a falls all = (still system prefix log a.m a.flag a.talks.table all).needed
+    fallen (Leaving w) bad log a falls all = (still system prefix log a.m a.flag a.talks.table all).needed
+    fallen p bad log a falls all = (still system prefix log a.m a.flag a.talks.table (no_of_quiet log all)).needed
 
-  module _ (made : List Sent) (answered : askings made ≡ making plan.link system) where
+  module _ (made : List Sent) (answered : component_calls made ≡ making plan.link system) where
     -- after the calls that made the instances
     made_at : IsAt Made made
     made_at = record {
       m = 0;
       flag = false;
-      talks = quiet system [] made 0 false (nothing_yet system) (λ i. subst (λ (l : List Asking). All IsQuiet (own i l)) (sym answered) (those system IsQuiet everyone (instantiate_of plan.link) (λ s. tt) i));
+      talks = quiet system [] made 0 false (nothing_yet system) (λ i. subst (λ (l : List ComponentCall). All IsQuiet (own i l)) (sym answered) (those system IsQuiet everyone (instantiate_of plan.link) (λ s. tt) i));
       besides = refl;
     }
 
@@ -215,17 +215,17 @@ module _ (system : System) (sound : IsSound system) (bound : Bound) (plan : Plan
   module _ (extent : Extent) (before : List Sent) (timers : TimersAt (first_of extent)) (start : IsAt (first_of extent) before) where
     course_at : (p : Place) (log : List Sent) (is : List Instant) → CourseIn system bound plan extent p log is → TimersAt p × IsAt p (before ++ log)
     course_at = along system bound plan extent (λ p log is. TimersAt p × IsAt p (before ++ log)) (timers, subst (IsAt (first_of extent)) (sym (append-nil before)) start)
-        (λ p q values front more is course at does leads within. (
+        (λ p q values prefix more is course at does leads within. (
           timers_on p q values more does leads at.0,
-          subst (IsAt q) (append_assoc before front more) (on (before ++ front) p q values more at.0 at.1 does (λ i. All-weaker (IsOf (sort_at p)) (calls_from p) (calls_are p) (own i (askings more)) (does_all system (IsOf (sort_at p)) (part_at system bound plan p) (sorts_are system sound bound plan binds p) values more does i)) leads),
+          subst (IsAt q) (append_assoc before prefix more) (on (before ++ prefix) p q values more at.0 at.1 does (λ i. All-weaker (IsOf (sort_at p)) (calls_from p) (calls_are p) (own i (component_calls more)) (does_all system (IsOf (sort_at p)) (part_at system bound plan p) (sorts_are system sound bound plan binds p) values more does i)) leads),
         ))
 
-    falls_asked : (p : Place) (bad : BadAnswer) (front more : List Sent) (is : List Instant) → CourseIn system bound plan extent p front is → Falls system (part_at system bound plan p) bad more → AreAskedFor (length system.components) (marks_in (before ++ (front ++ more)))
-    falls_asked p bad front more is course falls = subst (λ (l : List Sent). AreAskedFor (length system.components) (marks_in l)) (append_assoc before front more)
-        (fallen (before ++ front) p bad more (course_at p front is course).1 falls (λ i. All-weaker (IsOf (sort_at p)) (calls_from p) (calls_are p) (own i (askings more)) (falls_all system (IsOf (sort_at p)) (part_at system bound plan p) (sorts_are system sound bound plan binds p) bad more falls i)))
+    falls_asked : (p : Place) (bad : BadAnswer) (prefix more : List Sent) (is : List Instant) → CourseIn system bound plan extent p prefix is → Falls system (part_at system bound plan p) bad more → AreAskedFor (length system.components) (marks_in (before ++ (prefix ++ more)))
+    falls_asked p bad prefix more is course falls = subst (λ (l : List Sent). AreAskedFor (length system.components) (marks_in l)) (append_assoc before prefix more)
+        (fallen (before ++ prefix) p bad more (course_at p prefix is course).1 falls (λ i. All-weaker (IsOf (sort_at p)) (calls_from p) (calls_are p) (own i (component_calls more)) (falls_all system (IsOf (sort_at p)) (part_at system bound plan p) (sorts_are system sound bound plan binds p) bad more falls i)))
 
   -- where states were gone back to no Update stands yet
-  back_at : (s : Spot) (sizes : List ℕ) (made back : List Sent) → askings made ≡ making plan.link system → IsAnswered (shapes_of system) (restoring s.t plan.stop sizes) back → IsAt (Restored s) (made ++ back)
+  back_at : (s : Spot) (sizes : List ℕ) (made back : List Sent) → component_calls made ≡ making plan.link system → IsAnswered (shapes_of system) (restoring s.t plan.stop sizes) back → IsAt (Restored s) (made ++ back)
   unfolding made_at
   back_at s sizes made back answered went =
       let start = made_at made answered in
@@ -237,10 +237,10 @@ module _ (system : System) (sound : IsSound system) (bound : Bound) (plan : Plan
       }
 
   -- and none is sent where the state of each is kept
-  keeps_asked : (s : Spot) (made front kept : List Sent) (is : List Instant) → askings made ≡ making plan.link system → Course system bound plan (Seen s false false) front is → Throughout system IsNoUpdate kept → AreAskedFor (length system.components) (marks_in (made ++ (front ++ kept)))
-  keeps_asked s made front kept is answered course none =
-      let a = (course_at Whole made tt (made_at made answered) (Seen s false false) front is course).1 in
-      subst (λ (l : List Sent). AreAskedFor (length system.components) (marks_in l)) (append_assoc made front kept) (still system (made ++ front) kept a.m a.flag a.talks.table none).needed
+  keeps_asked : (s : Spot) (made prefix kept : List Sent) (is : List Instant) → component_calls made ≡ making plan.link system → Course system bound plan (InstantDone s false false) prefix is → Throughout system IsNoUpdate kept → AreAskedFor (length system.components) (marks_in (made ++ (prefix ++ kept)))
+  keeps_asked s made prefix kept is answered course none =
+      let a = (course_at Whole made tt (made_at made answered) (InstantDone s false false) prefix is course).1 in
+      subst (λ (l : List Sent). AreAskedFor (length system.components) (marks_in l)) (append_assoc made prefix kept) (still system (made ++ prefix) kept a.m a.flag a.talks.table none).needed
 
 -- calls that make no Updates
 holds_none : (system : System) (i : ℕ) → All IsNoUpdate (own i (holding system))
@@ -252,25 +252,25 @@ whole_asked system _ _ sound (Unmade link bad log stops) =
     (quiet system [] log 0 false (nothing_yet system) q).table.needed
 whole_asked system _ _ sound (Stands bound plan p made log is binds counts answered course halts) =
     (course_at system sound bound plan binds counts Whole made tt (made_at system sound bound plan binds counts made answered.calls_are) p log is course).1.talks.table.needed
-whole_asked system _ _ sound (Falling bound plan p bad made front more is binds counts answered course falls) =
-    falls_asked system sound bound plan binds counts Whole made tt (made_at system sound bound plan binds counts made answered.calls_are) p bad front more is course falls
+whole_asked system _ _ sound (Falling bound plan p bad made prefix more is binds counts answered course falls) =
+    falls_asked system sound bound plan binds counts Whole made tt (made_at system sound bound plan binds counts made answered.calls_are) p bad prefix more is course falls
 
 comes_asked : (system : System) (bad : Option BadAnswer) (log : List Sent) → IsSound system → ComesAnyhow system bad log → AreAskedFor (length system.components) (marks_in log)
 unfolding made_at
 comes_asked system _ _ sound (Wholly bad log comes) = whole_asked system bad log sound comes
-comes_asked system _ _ sound (Holding bound plan s made front kept is binds counts answered course keeps) =
-    keeps_asked system sound bound plan binds counts s made front kept is answered.calls_are course (does_all system IsNoUpdate (Calls (holding system)) (holds_none system) [] kept keeps)
-comes_asked system _ _ sound (HoldingBadly bound plan s bad made front kept is binds counts answered course stops) =
-    keeps_asked system sound bound plan binds counts s made front kept is answered.calls_are course (falls_all system IsNoUpdate (Calls (holding system)) (holds_none system) bad kept stops)
+comes_asked system _ _ sound (Holding bound plan s made prefix kept is binds counts answered course keeps) =
+    keeps_asked system sound bound plan binds counts s made prefix kept is answered.calls_are course (does_all system IsNoUpdate (Calls (holding system)) (holds_none system) [] kept keeps)
+comes_asked system _ _ sound (HoldingBadly bound plan s bad made prefix kept is binds counts answered course stops) =
+    keeps_asked system sound bound plan binds counts s made prefix kept is answered.calls_are course (falls_all system IsNoUpdate (Calls (holding system)) (holds_none system) bad kept stops)
 comes_asked system _ _ sound (BackBadly bound plan s sizes bad made back binds counts may answered stops) =
     let a = made_at system sound bound plan binds counts made answered.calls_are in
     (quiet system made back 0 false a.talks (falls_all system IsQuiet (Calls (restoring s.t plan.stop sizes)) (back_all IsQuiet s.t plan.stop sizes (λ size. tt) tt tt) bad back stops)).table.needed
 comes_asked system _ _ sound (BackStands bound plan s sizes p made back log is binds counts may answered went course halts) =
     subst (λ (l : List Sent). AreAskedFor (length system.components) (marks_in l)) (append_assoc made back log)
     (course_at system sound bound plan binds counts (FromHeld s) (made ++ back) may.armable (back_at system sound bound plan binds counts s sizes made back answered.calls_are went) p log is course).1.talks.table.needed
-comes_asked system _ _ sound (BackFalling bound plan s sizes p bad made back front more is binds counts may answered went course falls) =
-    subst (λ (l : List Sent). AreAskedFor (length system.components) (marks_in l)) (append_assoc made back (front ++ more))
-    (falls_asked system sound bound plan binds counts (FromHeld s) (made ++ back) may.armable (back_at system sound bound plan binds counts s sizes made back answered.calls_are went) p bad front more is course falls)
+comes_asked system _ _ sound (BackFalling bound plan s sizes p bad made back prefix more is binds counts may answered went course falls) =
+    subst (λ (l : List Sent). AreAskedFor (length system.components) (marks_in l)) (append_assoc made back (prefix ++ more))
+    (falls_asked system sound bound plan binds counts (FromHeld s) (made ++ back) may.armable (back_at system sound bound plan binds counts s sizes made back answered.calls_are went) p bad prefix more is course falls)
 
 pub updates_asked_for : UpdatesAskedFor
 updates_asked_for system bad log talks sound comes are = talks_needed (length system.components) log talks are (comes_asked system bad log sound comes)

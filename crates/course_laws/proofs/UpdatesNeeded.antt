@@ -17,7 +17,7 @@ use Rattle.system_model.specs.declared.system.Component.{Component}
 use Rattle.system_model.specs.declared.system.System.{System}
 use Rattle.run_model.specs.AfterInstant as F
 use Rattle.slot_calls.specs.declared.bad_answer.BadAnswer.{BadAnswer}
-use Rattle.slot_calls.specs.Log.{Sent, askings, part}
+use Rattle.slot_calls.specs.Log.{Sent, component_calls, part}
 use Rattle.slot_calls.specs.Stage.{StopsAt, has_events, shapes_of, to_those}
 use Rattle.slot_calls.proofs.CallerLemmas.{part_append, same, takes}
 use Rattle.event_iteration.specs.Updates.{answer_passes, updated_by, updating}
@@ -84,7 +84,7 @@ module _ (system : System) where
 
   -- this holds of each call of a log
   abbrev pub Throughout : (Call → Type 0) → List Sent → Type 0
-  Throughout P log = (i : ℕ) → All P (own i (askings log))
+  Throughout P log = (i : ℕ) → All P (own i (component_calls log))
 
   in_part : (P : Call → Type 0) (log : List Sent) → Throughout P log → (i : ℕ) → All P (calls_in (part i log))
   in_part P log all i = subst (All P) (sym (own_calls i log)) (all i)
@@ -138,7 +138,7 @@ module _ (system : System) where
     stands = λ i. ap (λ (x : Stay). x.follows) (stay_on log more i) ∙ quiet_stands (part i more) (stay_at log i) (in_part IsQuiet more all i) ∙ t.stands i;
   } where
     no_of_quiet : (log : List Sent) → Throughout IsQuiet log → Throughout IsNoUpdate log
-    no_of_quiet log all i = All-weaker IsQuiet IsNoUpdate quiet_no (own i (askings log)) (all i)
+    no_of_quiet log all i = All-weaker IsQuiet IsNoUpdate quiet_no (own i (component_calls log)) (all i)
 
   pub calm : (log more : List Sent) (m : ℕ) → Talks log m false → Throughout IsNoUpdate more → Talks (log ++ more) m false
   calm log more m t none = record {
@@ -147,7 +147,7 @@ module _ (system : System) where
   }
 
   -- those with event mode leave Event Mode
-  pub leave : (log more : List Sent) (m : ℕ) → Talks log m true → Throughout IsNoUpdate more → askings more ≡ to_those has_events (λ (s : Shape). C.EnterStep) (shapes_of system) → Talks (log ++ more) m false
+  pub leave : (log more : List Sent) (m : ℕ) → Talks log m true → Throughout IsNoUpdate more → component_calls more ≡ to_those has_events (λ (s : Shape). C.EnterStep) (shapes_of system) → Talks (log ++ more) m false
   leave log more m t none answered = record {
     table = still log more m true t.table none;
     stands = λ i. ap (λ (x : Stay). x.follows) (stay_on log more i) ∙ left_stands (stay_at log i) (event i) (part i more) (t.stands i) (own_calls i more ∙ ap (own i) answered ∙ own_events C.EnterStep system i);
@@ -176,9 +176,9 @@ module _ (system : System) where
     pub stopped : (bad : BadAnswer) → StopsAt (shapes_of system) (updating (shapes_of system)) bad updates → (flag ≡ true → Asked log m) → AreAskedFor n (marks_in (log ++ updates))
     stopped bad stops asked = grown n event flag (marks_in log) news (marks_in (log ++ updates)) m t.table (marks_on log updates)
         (one_comes (λ i. at_most (event i) (part i updates) (own i stops.left)
-        (sym (own_events C.Update system i) ∙ ap (own i) stops.calls_are ∙ own_append i (askings updates) stops.left ∙ ap (λ (cs : List Call). cs ++ own i stops.left) (sym (own_calls i updates))))) asked
+        (sym (own_events C.Update system i) ∙ ap (own i) stops.calls_are ∙ own_append i (component_calls updates) stops.left ∙ ap (λ (cs : List Call). cs ++ own i stops.left) (sym (own_calls i updates))))) asked
 
-    module _ (answered : askings updates ≡ updating (shapes_of system)) where
+    module _ (answered : component_calls updates ≡ updating (shapes_of system)) where
       calls_are : (i : ℕ) → calls_in (part i updates) ≡ (if event i then C.Update ∷ [] else [])
       calls_are i = own_calls i updates ∙ ap (own i) answered ∙ own_events C.Update system i
 

@@ -21,7 +21,7 @@ use Rattle.calling_sequence.specs.declared.run_end.RunEnd.TheVariants as E
 use Rattle.calling_sequence.specs.Plans.{CountsBy}
 use Rattle.calling_sequence.specs.declared.experiment.Experiment.{Experiment}
 use Rattle.calling_sequence.specs.Calls.{making, restoring}
-use Rattle.calling_sequence.specs.Course.{Course, CourseIn, Found, FromHeld, Made, Place, Read, Restored, Seen, Short, Spot, Stepped, part_at}
+use Rattle.calling_sequence.specs.Course.{Course, CourseIn, Found, FromHeld, InstantDone, Made, Place, Read, Restored, Short, Spot, Stepped, part_at}
 use Rattle.calling_sequence.specs.Ends.{EndsBy, EndsIn}
 use Rattle.calling_sequence.specs.Holding.{HoldsWith, holding}
 use Rattle.calling_sequence.specs.Parts.{Falls}
@@ -32,7 +32,7 @@ IsHalt Made = Unit {0}
 IsHalt (Restored s) = Unit {0}
 IsHalt (Found values) = Unit {0}
 IsHalt (Read s) = Unit {0}
-IsHalt (Seen s again asked) = Unit {0}
+IsHalt (InstantDone s again asked) = Unit {0}
 IsHalt (Stepped s asked) = Unit {0}
 IsHalt (Short w component end) = Unit {0}
 IsHalt p = ⊥
@@ -48,11 +48,11 @@ pub data Comes (system : System) : Option BadAnswer → List Sent → Type 0 whe
       IsAnswered (shapes_of system) (making plan.link system) made → Course system bound plan p log is →
       IsHalt p → Comes system None (made ++ log)
   Falling : (bound : Bound) (plan : Plan) (p : Place) (bad : BadAnswer)
-      (made front more : List Sent) (is : List Instant) →
+      (made prefix more : List Sent) (is : List Instant) →
       BindsParameters system bound → CountsBy system plan →
-      IsAnswered (shapes_of system) (making plan.link system) made → Course system bound plan p front is →
+      IsAnswered (shapes_of system) (making plan.link system) made → Course system bound plan p prefix is →
       Falls system (part_at system bound plan p) bad more →
-      Comes system (Some bad) (made ++ (front ++ more))
+      Comes system (Some bad) (made ++ (prefix ++ more))
 
 -- ---- runs that are held or resumed, too
 
@@ -75,18 +75,18 @@ pub record MayBack (system : System) (s : Spot) (sizes : List ℕ) : Type 0 wher
 pub data ComesAnyhow (system : System) : Option BadAnswer → List Sent → Type 0 where
   Wholly : (bad : Option BadAnswer) (log : List Sent) → Comes system bad log →
       ComesAnyhow system bad log
-  Holding : (bound : Bound) (plan : Plan) (s : Spot) (made front kept : List Sent)
+  Holding : (bound : Bound) (plan : Plan) (s : Spot) (made prefix kept : List Sent)
       (is : List Instant) → BindsParameters system bound → CountsBy system plan →
       IsAnswered (shapes_of system) (making plan.link system) made →
-      Course system bound plan (Seen s false false) front is →
+      Course system bound plan (InstantDone s false false) prefix is →
       IsAnswered (shapes_of system) (holding system) kept →
-      ComesAnyhow system None (made ++ (front ++ kept))
+      ComesAnyhow system None (made ++ (prefix ++ kept))
   HoldingBadly : (bound : Bound) (plan : Plan) (s : Spot) (bad : BadAnswer)
-      (made front kept : List Sent) (is : List Instant) → BindsParameters system bound →
+      (made prefix kept : List Sent) (is : List Instant) → BindsParameters system bound →
       CountsBy system plan → IsAnswered (shapes_of system) (making plan.link system) made →
-      Course system bound plan (Seen s false false) front is →
+      Course system bound plan (InstantDone s false false) prefix is →
       StopsAt (shapes_of system) (holding system) bad kept →
-      ComesAnyhow system (Some bad) (made ++ (front ++ kept))
+      ComesAnyhow system (Some bad) (made ++ (prefix ++ kept))
   BackBadly : (bound : Bound) (plan : Plan) (s : Spot) (sizes : List ℕ) (bad : BadAnswer)
       (made back : List Sent) → BindsParameters system bound → CountsBy system plan →
       MayBack system s sizes →
@@ -101,13 +101,13 @@ pub data ComesAnyhow (system : System) : Option BadAnswer → List Sent → Type
       CourseIn system bound plan (FromHeld s) p log is → IsHalt p →
       ComesAnyhow system None (made ++ (back ++ log))
   BackFalling : (bound : Bound) (plan : Plan) (s : Spot) (sizes : List ℕ) (p : Place)
-      (bad : BadAnswer) (made back front more : List Sent) (is : List Instant) →
+      (bad : BadAnswer) (made back prefix more : List Sent) (is : List Instant) →
       BindsParameters system bound → CountsBy system plan → MayBack system s sizes →
       IsAnswered (shapes_of system) (making plan.link system) made →
       IsAnswered (shapes_of system) (restoring s.t plan.stop sizes) back →
-      CourseIn system bound plan (FromHeld s) p front is →
+      CourseIn system bound plan (FromHeld s) p prefix is →
       Falls system (part_at system bound plan p) bad more →
-      ComesAnyhow system (Some bad) (made ++ (back ++ (front ++ more)))
+      ComesAnyhow system (Some bad) (made ++ (back ++ (prefix ++ more)))
 
 -- ---- by the end
 

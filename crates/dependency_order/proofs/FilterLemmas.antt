@@ -94,8 +94,8 @@ order_filtered Among R f order o needed = record {
       let s = filter_at f order i within in
       let c : Contains (filter f (take s.at order)) (get_or (filter f order) i 0) = subst (λ z. Contains z (get_or (filter f order) i 0)) (sym s.before) h in
       o.once s.at s.within (subst (Contains (take s.at order)) (sym s.is) (filter_back f (take s.at order) (get_or (filter f order) i 0) c).0);
-  behind = λ i q within r.
+  after = λ i q within r.
       let s = filter_at f order i within in
-      let there = o.behind s.at q s.within (subst (λ z. R z q) (sym s.is) r) in
+      let there = o.after s.at q s.within (subst (λ z. R z q) (sym s.is) r) in
       subst (λ z. Contains z q) s.before (filter_keeps f (take s.at order) q there (needed (get_or (filter f order) i 0) q r));
 }

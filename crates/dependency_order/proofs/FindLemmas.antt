@@ -4,7 +4,7 @@ use Rattle.std.specs.List.{Contains}
 use Rattle.std.specs.Result.{IfOk}
 use Rattle.std.specs.declared.alloc.Global.{Global}
 use Rattle.std.specs.declared.vec.Vec.{Vec}
-use Rattle.dependency_order.proofs.OrderLemmas.{Walks, loop_behind}
+use Rattle.dependency_order.proofs.OrderLemmas.{Walks, loop_after}
 use Rattle.std.proofs.lemmas.Bool.{cases_eq}
 use Rattle.std.proofs.lemmas.List.{length-append, get_or_append_left, get_or_push, get_or-set_same, get_or-set_other, get_or_read}
 use Rattle.std.proofs.lemmas.List.Elements.{Contains-get_or}
@@ -57,8 +57,8 @@ told_push places path more node at told within end is p k h = by (cases_eq p nod
 pub told_at : (places : List (Option ℕ)) (path : List ℕ) (node place : ℕ) (found : Option ℕ) → IsTold places path → node < length places → found ≡ get_or places node found → found ≡ Some place → StandsAt path node place
 told_at places path node place found told within is some = told node place (sym (get_or_read places node found within is None) ∙ some)
 
-pub loops_behind : {E : Type 0} (r : Result (Vec ℕ Global) E) (g : List (List ℕ)) (path lent : List ℕ) (node place : ℕ) → lent ≡ path → Walks (Needs g) path node → StandsAt path node place
+pub loops_after : {E : Type 0} (r : Result (Vec ℕ Global) E) (g : List (List ℕ)) (path lent : List ℕ) (node place : ℕ) → lent ≡ path → Walks (Needs g) path node → StandsAt path node place
     → IfOk r (λ nodes. nodes.items ≡ drop place lent) → IfOk r (λ nodes. IsLoop (Needs g) nodes.items)
-loops_behind (Err e) g path lent node place is walks at gives = tt
-loops_behind (Ok nodes) g path lent node place is walks at gives =
-    subst (IsLoop (Needs g)) (sym (gives ∙ ap (drop place) is)) (loop_behind (Needs g) path place node walks at.within at.is)
+loops_after (Err e) g path lent node place is walks at gives = tt
+loops_after (Ok nodes) g path lent node place is walks at gives =
+    subst (IsLoop (Needs g)) (sym (gives ∙ ap (drop place) is)) (loop_after (Needs g) path place node walks at.within at.is)

@@ -6,7 +6,7 @@ use Rattle.std.proofs.lemmas.List.{get_or_read, get_or_past, take-take, length-t
 use Rattle.std.proofs.lemmas.List.Elements.{Contains-append_left, Contains-append_right, Contains-append_cases, Contains-get_or, All-head, All-filter}
 use Rattle.std.proofs.lemmas.Bool.{cases_lt, ltb-true, lt-ltb, le-ltb}
 use Rattle.dependency_order.specs.declared.grouped.GroupedNeeds.{GroupedNeeds}
-use Rattle.dependency_order.specs.Graph.{AreBelow, Needs, IsOnce, IsBehind, IsOrder, IsClosed, Leads, IsLoop, BeginsLeast}
+use Rattle.dependency_order.specs.Graph.{AreBelow, Needs, IsOnce, IsAfter, IsOrder, IsClosed, Leads, IsLoop, BeginsLeast}
 use Rattle.dependency_order.specs.Grouped.{NeedsGrouped, IsGrouped, IsExpanded, group_node}
 use Rattle.dependency_order.specs.Answers.{IsLeastLoop}
 use Rattle.dependency_order.proofs.ListLemmas.{contains_none, contains_one, needs_within}
@@ -56,8 +56,8 @@ closed_graph n g gr ex = record { below = below_graph n g gr ex }
 abbrev kept : GroupedNeeds → List ℕ → List ℕ
 kept n order = filter (λ p. nat_lt p (length n.listed)) order
 
-behind_kept : (n : GroupedNeeds) (g : List (List ℕ)) (order : List ℕ) → IsGrouped n → IsExpanded n g → IsOrder (λ p. p < length g) (Needs g) order → IsBehind (NeedsGrouped n) (kept n order)
-behind_kept n g order gr ex o i q within r =
+after_kept : (n : GroupedNeeds) (g : List (List ℕ)) (order : List ℕ) → IsGrouped n → IsExpanded n g → IsOrder (λ p. p < length g) (Needs g) order → IsAfter (NeedsGrouped n) (kept n order)
+after_kept n g order gr ex o i q within r =
     let s = filter_at (λ p. nat_lt p (length n.listed)) order i within in
     let p = get_or (kept n order) i 0 in
     let inside = ltb-true p (length n.listed) (filter_back (λ z. nat_lt z (length n.listed)) order p (Contains-get_or (kept n order) i 0 within)).1 in
@@ -69,7 +69,7 @@ behind_kept n g order gr ex o i q within r =
     bound (inr k) = gr.groups k.0 q k.2
 
     direct : (s : Stood (λ p. nat_lt p (length n.listed)) order i) (x : ℕ) → Needs g (get_or (kept n order) i 0) x → Contains (take s.at order) x
-    direct s x h = o.behind s.at x s.within (subst (λ z. Needs g z x) (sym s.is) h)
+    direct s x h = o.after s.at x s.within (subst (λ z. Needs g z x) (sym s.is) h)
 
     -- the group stands before the node, and what it needs before the group
     through : (s : Stood (λ p. nat_lt p (length n.listed)) order i) (h x : ℕ) → Contains (take s.at order) h → Needs g h x → Contains (take s.at order) x
@@ -81,7 +81,7 @@ behind_kept n g order gr ex o i q within r =
             let below : j < s.at = omega (arith, n', l) in
             let inside : j < length order = (let w = s.within in omega (arith, w, below)) in
             let here : get_or order j 0 ≡ h = get_or_default order j 0 h inside ∙ sym (get_or-take s.at order j h below) ∙ is in
-            let found : Contains (take j order) x = o.behind j x inside (subst (λ z. Needs g z x) (sym here) e) in
+            let found : Contains (take j order) x = o.after j x inside (subst (λ z. Needs g z x) (sym here) e) in
             contains_take j (take s.at order) x (subst (λ z. Contains z x) (sym (take-take j s.at order (omega arith))) found)
 
     by : (s : Stood (λ p. nat_lt p (length n.listed)) order i) → get_or (kept n order) i 0 < length n.listed → NeedsGrouped n (get_or (kept n order) i 0) q → Contains (take s.at order) q
@@ -105,7 +105,7 @@ order_kept n g order gr ex o = record {
   each = λ p l. filter_keeps (λ z. nat_lt z (length n.listed)) order p (o.each p (let s = ex.nodes in omega (arith, s, l))) (lt-ltb p (length n.listed) l);
   only = λ p h. ltb-true p (length n.listed) (filter_back (λ z. nat_lt z (length n.listed)) order p h).1;
   once = once_kept n order o.once;
-  behind = behind_kept n g order gr ex o;
+  after = after_kept n g order gr ex o;
 }
 
 -- ---- loops

@@ -50,12 +50,12 @@ in_pushed rows at number k x within has = by (cases_eq k at)
 pub in_pushed_back : (rows : List (List ℕ)) (at number k x : ℕ) → at < length rows → Contains (get_or (set rows at (get_or rows at [] ++ number ∷ [])) k []) x → Contains (get_or rows k []) x ⊎ ((k ≡ at) × (number ≡ x))
 in_pushed_back rows at number k x within has = by (cases_eq k at)
   where
-    behind : (k ≡ at) → Contains (get_or rows at []) x ⊎ (number ≡ x) → Contains (get_or rows k []) x ⊎ ((k ≡ at) × (number ≡ x))
-    behind e (inl c) = inl (subst (λ z. Contains (get_or rows z []) x) (sym e) c)
-    behind e (inr same) = inr (e, same)
+    after : (k ≡ at) → Contains (get_or rows at []) x ⊎ (number ≡ x) → Contains (get_or rows k []) x ⊎ ((k ≡ at) × (number ≡ x))
+    after e (inl c) = inl (subst (λ z. Contains (get_or rows z []) x) (sym e) c)
+    after e (inr same) = inr (e, same)
 
     by : (k ≡ at) ⊎ (k ≡ at → ⊥) → Contains (get_or rows k []) x ⊎ ((k ≡ at) × (number ≡ x))
-    by (inl e) = behind e (Contains-push_cases (get_or rows at []) number x
+    by (inl e) = after e (Contains-push_cases (get_or rows at []) number x
         (in_same_back rows at (get_or rows at [] ++ number ∷ []) x within (subst (λ z. Contains (get_or (set rows at (get_or rows at [] ++ number ∷ [])) z []) x) e has)))
     by (inr ne) = inl (in_other_back rows at k (get_or rows at [] ++ number ∷ []) x ne has)
 

@@ -3,7 +3,7 @@ use Rattle.std.proofs.Common.{◌≡◌, ℕ, zero, suc, ◌+◌, ◌<◌, ◌�
 use Rattle.std.specs.List.{Contains, All}
 use Rattle.std.proofs.lemmas.List.{append-nil, take-append-drop, drop_more, length-take-le, get_or_default, get_or-take}
 use Rattle.std.proofs.lemmas.List.Elements.{All-append, All-drop, All-take, All-from_get_or}
-use Rattle.dependency_order.specs.Graph.{IsBehind, IsOrder, Leads, IsLoop, BeginsLeast, IsRotated}
+use Rattle.dependency_order.specs.Graph.{IsAfter, IsOrder, Leads, IsLoop, BeginsLeast, IsRotated}
 use Rattle.dependency_order.specs.Answers.{IsLeastLoop}
 
 -- the same loop, begun elsewhere
@@ -58,21 +58,21 @@ stands_before order i b within h = by h.0 h.1 h.2
         record { at = j; earlier = below; is = get_or_default order j 0 b (omega arith) ∙ sym (get_or-take i order j b below) ∙ e }
 
 -- where a list leads to stands before where it comes from
-leads_before : (R : ℕ → ℕ → Type 0) (order : List ℕ) → IsBehind R order → (a : ℕ) (xs : List ℕ) (b i : ℕ) → i < length order → get_or order i 0 ≡ a → Leads R a xs b → Before order i b
-leads_before R order behind a [] b i within is leads = stands_before order i b within (behind i b within (subst (λ z. R z b) (sym is) leads))
-leads_before R order behind a (x ∷ xs) b i within is leads =
-    let s = stands_before order i x within (behind i x within (subst (λ z. R z x) (sym is) leads.0)) in
+leads_before : (R : ℕ → ℕ → Type 0) (order : List ℕ) → IsAfter R order → (a : ℕ) (xs : List ℕ) (b i : ℕ) → i < length order → get_or order i 0 ≡ a → Leads R a xs b → Before order i b
+leads_before R order after a [] b i within is leads = stands_before order i b within (after i b within (subst (λ z. R z b) (sym is) leads))
+leads_before R order after a (x ∷ xs) b i within is leads =
+    let s = stands_before order i x within (after i x within (subst (λ z. R z x) (sym is) leads.0)) in
     let e = s.earlier in
-    let t = leads_before R order behind x xs b s.at (omega (arith, e, within)) s.is leads.1 in
+    let t = leads_before R order after x xs b s.at (omega (arith, e, within)) s.is leads.1 in
     let f = t.earlier in
     record { at = t.at; earlier = omega (arith, e, f); is = t.is }
 
-no_place : (R : ℕ → ℕ → Type 0) (order : List ℕ) → IsBehind R order → (a : ℕ) (xs : List ℕ) → Leads R a xs a → (n i : ℕ) → i < n → i < length order → get_or order i 0 ≡ a → ⊥
-no_place R order behind a xs leads zero i l within is = absurd (omega (arith, l))
-no_place R order behind a xs leads (suc n) i l within is =
-    let s = leads_before R order behind a xs a i within is leads in
+no_place : (R : ℕ → ℕ → Type 0) (order : List ℕ) → IsAfter R order → (a : ℕ) (xs : List ℕ) → Leads R a xs a → (n i : ℕ) → i < n → i < length order → get_or order i 0 ≡ a → ⊥
+no_place R order after a xs leads zero i l within is = absurd (omega (arith, l))
+no_place R order after a xs leads (suc n) i l within is =
+    let s = leads_before R order after a xs a i within is leads in
     let e = s.earlier in
-    no_place R order behind a xs leads n s.at (omega (arith, e, l)) (omega (arith, e, within)) s.is
+    no_place R order after a xs leads n s.at (omega (arith, e, l)) (omega (arith, e, within)) s.is
 
 needs_next : (R : ℕ → ℕ → Type 0) (a : ℕ) (xs : List ℕ) (b : ℕ) → Leads R a xs b → (q : ℕ) × R a q
 needs_next R a [] b leads = (b, leads)
@@ -86,7 +86,7 @@ loop_no_order Among R (x ∷ xs) order among loop o =
     by c.0 c.1 c.2
   where
     by : (j : ℕ) → j < length order → get_or order j x ≡ x → ⊥
-    by j l e = no_place R order o.behind x xs loop (suc j) j (omega arith) l (get_or_default order j 0 x l ∙ e)
+    by j l e = no_place R order o.after x xs loop (suc j) j (omega arith) l (get_or_default order j 0 x l ∙ e)
 
 -- a loop that was found, begun at its least
 pub least_loop : (Among : ℕ → Type 0) (R : ℕ → ℕ → Type 0) (old new : List ℕ) → ((p q : ℕ) → R p q → Among p) → IsLoop R old → IsRotated old new → BeginsLeast new → IsLeastLoop Among R new

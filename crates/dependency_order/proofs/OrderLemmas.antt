@@ -3,7 +3,7 @@ use Rattle.std.proofs.Common.{◌≡◌, ◌⊎◌, ℕ, zero, suc, ◌+◌, ◌
 use Rattle.std.specs.List.{Contains}
 use Rattle.std.proofs.lemmas.List.{length-append, get_or_append_left, get_or_push, take-append-le, drop_more, take_all}
 use Rattle.std.proofs.lemmas.Bool.{cases_lt}
-use Rattle.dependency_order.specs.Graph.{IsOnce, IsBehind, Leads, IsLoop}
+use Rattle.dependency_order.specs.Graph.{IsOnce, IsAfter, Leads, IsLoop}
 
 -- ---- one more node
 
@@ -13,21 +13,21 @@ once_push order p once free i within h = by (cases_lt i (length order))
     by : (i < length order) ⊎ (length order ≤ i) → ⊥
     by (inl l) =
         let same : get_or (order ++ p ∷ []) i 0 ≡ get_or order i 0 = get_or_append_left order (p ∷ []) 0 i l in
-        let front : take i (order ++ p ∷ []) ≡ take i order = take-append-le i order (p ∷ []) (omega arith) in
-        once i l (subst (λ z. Contains z (get_or order i 0)) front (subst (Contains (take i (order ++ p ∷ []))) same h))
+        let prefix : take i (order ++ p ∷ []) ≡ take i order = take-append-le i order (p ∷ []) (omega arith) in
+        once i l (subst (λ z. Contains z (get_or order i 0)) prefix (subst (Contains (take i (order ++ p ∷ []))) same h))
     by (inr l) =
         let n = length-append order (p ∷ []) in
         let last : length order ≡ i = omega (arith, n) in
         let same : get_or (order ++ p ∷ []) i 0 ≡ p = get_or_push order p 0 i last in
-        let front : take i (order ++ p ∷ []) ≡ order = take-append-le i order (p ∷ []) (omega arith) ∙ take_all i order (omega arith) in
-        free (subst (λ z. Contains z p) front (subst (Contains (take i (order ++ p ∷ []))) same h))
+        let prefix : take i (order ++ p ∷ []) ≡ order = take-append-le i order (p ∷ []) (omega arith) ∙ take_all i order (omega arith) in
+        free (subst (λ z. Contains z p) prefix (subst (Contains (take i (order ++ p ∷ []))) same h))
 
-pub behind_push : (R : ℕ → ℕ → Type 0) (order : List ℕ) (p : ℕ) → IsBehind R order → ((q : ℕ) → R p q → Contains order q) → IsBehind R (order ++ p ∷ [])
-behind_push R order p behind all i q within r = by (cases_lt i (length order))
+pub after_push : (R : ℕ → ℕ → Type 0) (order : List ℕ) (p : ℕ) → IsAfter R order → ((q : ℕ) → R p q → Contains order q) → IsAfter R (order ++ p ∷ [])
+after_push R order p after all i q within r = by (cases_lt i (length order))
   where
     by : (i < length order) ⊎ (length order ≤ i) → Contains (take i (order ++ p ∷ [])) q
     by (inl l) = subst (λ z. Contains z q) (sym (take-append-le i order (p ∷ []) (omega arith)))
-        (behind i q l (subst (λ z. R z q) (get_or_append_left order (p ∷ []) 0 i l) r))
+        (after i q l (subst (λ z. R z q) (get_or_append_left order (p ∷ []) 0 i l) r))
     by (inr l) =
         let n = length-append order (p ∷ []) in
         let last : length order ≡ i = omega (arith, n) in
@@ -56,8 +56,8 @@ walks_drop R (suc k) (x ∷ []) b w = walks_drop R k [] b tt
 walks_drop R (suc k) (x ∷ y ∷ ys) b w = walks_drop R k (y ∷ ys) b w.1
 
 -- a path that leads on to one of its own nodes has a loop after it
-pub loop_behind : (R : ℕ → ℕ → Type 0) (xs : List ℕ) (k b : ℕ) → Walks R xs b → k < length xs → get_or xs k 0 ≡ b → IsLoop R (drop k xs)
-loop_behind R xs k b w within is =
+pub loop_after : (R : ℕ → ℕ → Type 0) (xs : List ℕ) (k b : ℕ) → Walks R xs b → k < length xs → get_or xs k 0 ≡ b → IsLoop R (drop k xs)
+loop_after R xs k b w within is =
     let e : drop k xs ≡ b ∷ drop (k + 1) xs = drop_more xs k 0 within ∙ ap (λ z. z ∷ drop (k + 1) xs) is in
     let led : Walks R (b ∷ drop (k + 1) xs) b = subst (λ z. Walks R z b) e (walks_drop R k xs b w) in
     subst (IsLoop R) (sym e) led

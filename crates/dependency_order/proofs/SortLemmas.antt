@@ -9,7 +9,7 @@ use Rattle.dependency_order.specs.Graph.{Needs, IsClosed, IsOrder}
 use Rattle.dependency_order.specs.Sorting.{IsSorting, IsHeld, IsFurther, IsStuck}
 use Rattle.dependency_order.specs.Paths.{IsMarked}
 use Rattle.dependency_order.proofs.ListLemmas.{in_other, in_other_back, in_same_back, in_pushed, in_pushed_back, contains_none}
-use Rattle.dependency_order.proofs.OrderLemmas.{once_push, behind_push}
+use Rattle.dependency_order.proofs.OrderLemmas.{once_push, after_push}
 
 -- ---- marks
 
@@ -74,7 +74,7 @@ sorting_passed g order placed passed waiting node k s all = record {
   marked = s.marked;
   listed = s.listed;
   once = s.once;
-  behind = s.behind;
+  after = s.after;
   over = λ p j below within. by p j below within (cases_eq p node);
   waits = s.waits;
 }
@@ -101,7 +101,7 @@ sorting_waits g order placed passed waiting need node s within inside = record {
   marked = s.marked;
   listed = s.listed;
   once = s.once;
-  behind = s.behind;
+  after = s.after;
   over = s.over;
   waits = λ q p h. by q p (in_pushed_back waiting need node q p within h);
 }
@@ -114,7 +114,7 @@ pub further_waits : (g : List (List ℕ)) (order : List ℕ) (placed : List Bool
     → IsFurther g order order placed placed waiting (set waiting need (get_or waiting need [] ++ node ∷ []))
 further_waits g order placed waiting need node within = record {
   longer = omega arith;
-  front = take_all (length order) order (omega arith);
+  prefix = take_all (length order) order (omega arith);
   held = λ at p l h. by at p h;
 }
   where
@@ -141,7 +141,7 @@ sorting_places g order placed passed waiting node s inside free all = record {
   marked = λ p m. at_marked p (set_cases placed node p m);
   listed = λ p h. at_listed p (Contains-push_cases order node p h);
   once = once_push order node s.once (λ h. let m = s.listed node h in false≢true (sym free ∙ m));
-  behind = behind_push (Needs g) order node s.behind (λ q r. s.marked q (all q r));
+  after = after_push (Needs g) order node s.after (λ q r. s.marked q (all q r));
   over = λ p k below l. set_kept placed node (get_or (get_or g p []) k 0) within (s.over p k below l);
   waits = s.waits;
 }
@@ -161,7 +161,7 @@ pub further_places : (g : List (List ℕ)) (order : List ℕ) (placed : List Boo
     → IsFurther g order (order ++ node ∷ []) placed (set placed node true) waiting waiting
 further_places g order placed waiting node within = record {
   longer = let l = length-append order (node ∷ []) in omega (arith, l);
-  front = take-append-le (length order) order (node ∷ []) (omega arith) ∙ take_all (length order) order (omega arith);
+  prefix = take-append-le (length order) order (node ∷ []) (omega arith) ∙ take_all (length order) order (omega arith);
   held = λ at p l h. by at p l h;
 }
   where
@@ -170,12 +170,12 @@ further_places g order placed waiting node within = record {
     by at p l (inr h) = inr (h.0, h.1, h.2, λ c. h.3 (subst (λ z. Contains z h.0) (take-append-le at order (node ∷ []) l) c))
 
 pub further_none : (g : List (List ℕ)) (order : List ℕ) (placed : List Bool) (waiting : List (List ℕ)) → IsFurther g order order placed placed waiting waiting
-further_none g order placed waiting = record { longer = omega arith; front = take_all (length order) order (omega arith); held = λ at p l h. h }
+further_none g order placed waiting = record { longer = omega arith; prefix = take_all (length order) order (omega arith); held = λ at p l h. h }
 
 pub further_more : (g : List (List ℕ)) (o o' o'' : List ℕ) (m m' m'' : List Bool) (w w' w'' : List (List ℕ)) → IsFurther g o o' m m' w w' → IsFurther g o' o'' m' m'' w' w'' → IsFurther g o o'' m m'' w w''
 further_more g o o' o'' m m' m'' w w' w'' a b = record {
   longer = let x = a.longer in let y = b.longer in omega (arith, x, y);
-  front = let x = a.longer in sym (take-take (length o) (length o') o'' (omega (arith, x))) ∙ ap (take (length o)) b.front ∙ a.front;
+  prefix = let x = a.longer in sym (take-take (length o) (length o') o'' (omega (arith, x))) ∙ ap (take (length o)) b.prefix ∙ a.prefix;
   held = λ at p l h. b.held at p (let x = a.longer in omega (arith, x)) (a.held at p l h);
 }
 
@@ -191,7 +191,7 @@ sorting_takes g order placed passed waiting node s = record {
   marked = s.marked;
   listed = s.listed;
   once = s.once;
-  behind = s.behind;
+  after = s.after;
   over = s.over;
   waits = λ q p h. by q p h (cases_eq q node);
 }
@@ -240,7 +240,7 @@ whole_order g order placed passed waiting s all = record {
   each = λ p l. s.marked p (all p (let m = s.marks in omega (arith, m)));
   only = λ p h. let l = marked_within placed p (s.listed p h) in let m = s.marks in omega (arith, l, m);
   once = s.once;
-  behind = s.behind;
+  after = s.after;
 }
 
 -- the same of marks that were lent

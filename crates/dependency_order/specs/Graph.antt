@@ -28,8 +28,8 @@ abbrev pub IsOnce : List ℕ → Type 0
 IsOnce order = (i : ℕ) → i < length order → Contains (take i order) (slice_index_or order i 0) → ⊥
 
 -- each node comes after all that it needs
-abbrev pub IsBehind : (ℕ → ℕ → Type 0) → List ℕ → Type 0
-IsBehind NeedsOf order =
+abbrev pub IsAfter : (ℕ → ℕ → Type 0) → List ℕ → Type 0
+IsAfter NeedsOf order =
     (i q : ℕ) → i < length order → NeedsOf (slice_index_or order i 0) q → Contains (take i order) q
 
 -- an order of certain nodes: all of them and no others, each once and after all that it needs
@@ -37,7 +37,7 @@ pub record IsOrder (IsAmong : ℕ → Type 0) (NeedsOf : ℕ → ℕ → Type 0)
   pub each : (p : ℕ) → IsAmong p → Contains order p
   pub only : (p : ℕ) → Contains order p → IsAmong p
   pub once : IsOnce order
-  pub behind : IsBehind NeedsOf order
+  pub after : IsAfter NeedsOf order
 
 -- ---- loops
 

@@ -1,6 +1,6 @@
 -- How an order is found: nodes are put after what they need, and wait for what isn't put yet.
 use Rattle.std.specs.Prelude.{◌≡◌, ◌⊎◌, ℕ, ◌+◌, ◌<◌, ◌≤◌, Bool, not, List, [], length, take, slice_index_or, Contains, count_by}
-use Rattle.dependency_order.specs.Graph.{Needs, IsOnce, IsBehind}
+use Rattle.dependency_order.specs.Graph.{Needs, IsOnce, IsAfter}
 use Rattle.dependency_order.specs.Paths.{IsMarked}
 
 -- the order so far, its marks, how many of its needs each node has passed over, and who waits for each node
@@ -13,7 +13,7 @@ pub record IsSorting (graph : List (List ℕ)) (order : List ℕ) (placed : List
   pub marked : (p : ℕ) → IsMarked placed p → Contains order p
   pub listed : (p : ℕ) → Contains order p → IsMarked placed p
   pub once : IsOnce order
-  pub behind : IsBehind (Needs graph) order
+  pub after : IsAfter (Needs graph) order
   pub over : (p k : ℕ) → k < slice_index_or passed p 0 → k < length (slice_index_or graph p []) →
       IsMarked placed (slice_index_or (slice_index_or graph p []) k 0)
   pub waits : (q p : ℕ) → Contains (slice_index_or waiting q []) p → p < length graph
@@ -28,7 +28,7 @@ IsHeld graph order placed waiting at p =
 pub record IsFurther (graph : List (List ℕ)) (order order' : List ℕ) (placed placed' : List Bool)
     (waiting waiting' : List (List ℕ)) : Type 0 where
   pub longer : length order ≤ length order'
-  pub front : take (length order) order' ≡ order
+  pub prefix : take (length order) order' ≡ order
   pub held : (at p : ℕ) → at ≤ length order → IsHeld graph order placed waiting at p →
       IsHeld graph order' placed' waiting' at p
 

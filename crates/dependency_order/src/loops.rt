@@ -26,7 +26,7 @@ fn missing_need(needs: &Lists, placed: &[bool], node: usize) -> usize
 }
 
 // What stands from a place on.
-fn behind(alloc: Global, path: &[usize], place: usize) -> Result<Vec<usize>, AllocError>
+fn after(alloc: Global, path: &[usize], place: usize) -> Result<Vec<usize>, AllocError>
     requires { place < length path.now }
     ensures { IfOk result (λ nodes. nodes.items ≡ drop place path.now) }
 {
@@ -52,7 +52,7 @@ pub(crate) fn find_loop(
     let mut node = start;
     loop {
         if let Some(place) = places[node] {
-            return behind(alloc, path.as_slice(), place);
+            return after(alloc, path.as_slice(), place);
         }
         places[node] = Some(path.len());
         path.push(node)?;

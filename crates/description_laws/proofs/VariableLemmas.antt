@@ -20,7 +20,7 @@ use Rattle.doc_tree.specs.declared.rule.DescriptionRule.TheVariants as r
 use Rattle.doc_tables.specs.Elements.{name_of, attribute, unless_empty, text_of}
 use Rattle.fmu_description.specs.Texts.{port_type}
 use Rattle.fmu_description.specs.Elements.{is_variable, is_clock as is_clock_element, is_alias, reference_of, clock_key}
-use Rattle.fmu_description.specs.Clocks.{IsForeign, ByClock, clocks_of}
+use Rattle.fmu_description.specs.Clocks.{IsIgnored, ByClock, clocks_of}
 use Rattle.fmu_description.specs.Rules.{IsSoundDescription}
 use Rattle.fmu_description.specs.Description.{Describes, IsKind, IsStart, IsVariable}
 use Rattle.fmu_description.proofs.CallerLemmas.{references_distinct, is_variable_within}
@@ -85,7 +85,7 @@ module _ (t : List Node) (per_second : ℕ) (sound : IsSoundDescription t per_se
       alias_named a alias = has_name (attribute t a (codes "name")) (λ lacks. sound r.Absent a (inr (inr (inr (inl (alias, lacks))))))
 
   variable_starts : (k : ℕ) (v : Variable) → IsKind t k v.kind v.start → HasFittingStart v
-  variable_starts k v (inl foreign) = subst (FitsStart v.kind) (sym foreign.2) tt
+  variable_starts k v (inl ignored) = subst (FitsStart v.kind) (sym ignored.2) tt
   variable_starts k v (inr own) = start_fits v.kind (attribute t k (codes "start")) v.start own.2
 
   module _ (shape : Shape) (describes : Describes t per_second shape) where
@@ -93,7 +93,7 @@ module _ (t : List Node) (per_second : ℕ) (sound : IsSoundDescription t per_se
     distinct = references_distinct t per_second sound shape.variables describes.variables
 
     -- an element of a Clock is ignored, or its reference is that of a Clock
-    clock_at : (c reference : ℕ) → clock_key t c ≡ Some reference → IsForeign t c ⊎ (is_at is_clock shape.variables reference ≡ true)
+    clock_at : (c reference : ℕ) → clock_key t c ≡ Some reference → IsIgnored t c ⊎ (is_at is_clock shape.variables reference ≡ true)
     clock_at c reference key = by_kind partner.holds.kind
       where
         key_is : (is_clock_element t c ≡ true) × (reference_of t c ≡ Some reference)
@@ -113,23 +113,23 @@ module _ (t : List Node) (per_second : ℕ) (sound : IsSoundDescription t per_se
             subst (λ (x : ℕ). variable_at shape.variables x ≡ Some v) (same_Some v.reference reference (sym partner.holds.reference ∙ key_is.1))
             (found_under (λ (w : Variable). w.reference) shape.variables partner.place v distinct partner.is)
 
-        by_kind : IsKind t c v.kind v.start → IsForeign t c ⊎ (is_at is_clock shape.variables reference ≡ true)
-        by_kind (inl foreign) = inl foreign.0
+        by_kind : IsKind t c v.kind v.start → IsIgnored t c ⊎ (is_at is_clock shape.variables reference ≡ true)
+        by_kind (inl ignored) = inl ignored.0
         by_kind (inr own) =
             inr (ap (λ (o : Option Variable). option_map_or is_clock o false) found
             ∙ ap is_clock_type (own.1 ∙ ap port_type ((bytes_eq-Decides (name_of t c) (codes "Clock")).0 sorts.0)))
 
     -- what a variable names that isn't ignored are Clocks, which aren't ignored either
     names_clock : (k : ℕ) (v : Variable) → is_variable t k ≡ true → IsKind t k v.kind v.start → is_some v.kind ≡ true → (reference : ℕ) → Contains (clocks_of t k) reference → is_at is_clock shape.variables reference ≡ true
-    names_clock k v is (inl foreign) kind reference among = absurd (true_false (sym kind ∙ ap is_some foreign.1))
+    names_clock k v is (inl ignored) kind reference among = absurd (true_false (sym kind ∙ ap is_some ignored.1))
     names_clock k v is (inr own) kind reference among =
         (elim (is_at is_clock shape.variables reference) as (λ b. is_at is_clock shape.variables reference ≡ b → b ≡ true) [
           | true ↦ λ e. refl
           | false ↦ λ e. absurd (sound r.NoClock k (is, (reference, among, λ held. held_none e held.0 held.1 (clock_at held.0 reference held.1))))
         ]) refl
       where
-        held_none : is_at is_clock shape.variables reference ≡ false → (c : ℕ) → clock_key t c ≡ Some reference → IsForeign t c ⊎ (is_at is_clock shape.variables reference ≡ true) → ⊥
-        held_none e c key (inl foreign) = own.0 (ByClock k c reference is among key foreign)
+        held_none : is_at is_clock shape.variables reference ≡ false → (c : ℕ) → clock_key t c ≡ Some reference → IsIgnored t c ⊎ (is_at is_clock shape.variables reference ≡ true) → ⊥
+        held_none e c key (inl ignored) = own.0 (ByClock k c reference is among key ignored)
         held_none e c key (inr clock) = true_false (sym clock ∙ e)
 
     variable_clocks : (k : ℕ) (v : Variable) → is_variable t k ≡ true → IsVariable t k v → NamesClocks shape v

@@ -1,6 +1,6 @@
 -- The names of a tag and their texts.
 use Rattle.std.proofs.Common.{◌≡◌, ℕ, zero, suc, ◌+◌, ◌<◌, ◌≤◌, Bool, true, false, cond, ◌||◌, List, [], ◌∷◌, ◌++◌, length, take, drop, map, get_or, refl, sym, ap, ◌∙◌, subst, arith, length-append}
-use Rattle.std.proofs.lemmas.List.{append-nil, take_more, drop_all, drop-append-le, map-append, length-map}
+use Rattle.std.proofs.lemmas.List.{append-nil, take_more, drop_all, drop-append-le, length-map, length-take-le}
 use Rattle.std.proofs.lemmas.Str.{encodes-append, encodes_same}
 use Rattle.std.proofs.lemmas.Slice.Eq.{bytes_eq-Decides}
 use Rattle.std.proofs.lemmas.Map.Text.{btree_set_updates_text}
@@ -71,26 +71,28 @@ take_map (suc k) [] = refl
 take_map (suc k) (x ∷ xs) = ap (λ z. pair_of x ∷ z) (take_map k xs)
 
 -- a name that isn't among the first is there where it is after them
-pub is_behind : (k : ℕ) (xs front : List Attribute) (ps : List Pair) (n : List ℕ) (b c : Bool) → ps ≡ map pair_of xs → front ≡ take k xs → c ≡ has (map pair_of front) n → c ≡ false → b ≡ has (drop k (map pair_of xs)) n → b ≡ has ps n
-is_behind k xs front ps n b c e f g h i =
+pub is_after : (k : ℕ) (xs prefix : List Attribute) (ps : List Pair) (n : List ℕ) (b c : Bool) → ps ≡ map pair_of xs → prefix ≡ take k xs → c ≡ has (map pair_of prefix) n → c ≡ false → b ≡ has (drop k (map pair_of xs)) n → b ≡ has ps n
+is_after k xs prefix ps n b c e f g h i =
     let w : has (take k (map pair_of xs)) n ≡ false = ap (λ z. has z n) (sym (take_map k xs)) ∙ ap (λ z. has (map pair_of z) n) (sym f) ∙ sym g ∙ h in
     i ∙ sym (ap (λ z. z || has (drop k (map pair_of xs)) n) w) ∙ sym (has_split k (map pair_of xs) n) ∙ ap (λ z. has z n) (sym e)
 
-pub is_front : (k : ℕ) (xs front : List Attribute) (ps : List Pair) (n : List ℕ) (c : Bool) → ps ≡ map pair_of xs → front ≡ take k xs → c ≡ has (map pair_of front) n → c ≡ true → true ≡ has ps n
-is_front k xs front ps n c e f g h =
+pub is_prefix : (k : ℕ) (xs prefix : List Attribute) (ps : List Pair) (n : List ℕ) (c : Bool) → ps ≡ map pair_of xs → prefix ≡ take k xs → c ≡ has (map pair_of prefix) n → c ≡ true → true ≡ has ps n
+is_prefix k xs prefix ps n c e f g h =
     let w : has (take k (map pair_of xs)) n ≡ true = ap (λ z. has z n) (sym (take_map k xs)) ∙ ap (λ z. has (map pair_of z) n) (sym f) ∙ sym g ∙ h in
     sym (ap (λ z. z || has (drop k (map pair_of xs)) n) w) ∙ sym (has_split k (map pair_of xs) n) ∙ ap (λ z. has z n) (sym e)
 
+pub counted : (count : ℕ) (xs : List Attribute) → count ≤ length xs → length (map pair_of (take count xs)) ≡ count
+counted count xs h = length-map (take count xs) pair_of ∙ length-take-le count xs h
+
 -- one more among the first
-pub few_more : (k : ℕ) (seen : BTreeSet (String Global)) (old new : List Attribute) (a : Attribute) → length old < k → new ≡ old ++ a ∷ [] → Sees seen (drop k (map pair_of old)) → Sees seen (drop k (map pair_of new))
-few_more k seen old new a h e s =
-    let few : length (map pair_of old) ≤ k = omega (arith, length-map old pair_of) in
-    let more : length (map pair_of new) ≤ k = omega (arith, length-map new pair_of, ap length e, length-append old (a ∷ [])) in
-    subst (λ z. Sees seen z) (drop_all k (map pair_of old) few ∙ sym (drop_all k (map pair_of new) more)) s
+pub few_more : (k : ℕ) (seen : BTreeSet (String Global)) (old new : List Pair) (p : Pair) → length old < k → new ≡ old ++ p ∷ [] → Sees seen (drop k old) → Sees seen (drop k new)
+few_more k seen old new p h e s =
+    let few : length old ≤ k = omega (arith, h) in
+    let more : length new ≤ k = omega (arith, h, ap length e, length-append old (p ∷ [])) in
+    subst (λ z. Sees seen z) (drop_all k old few ∙ sym (drop_all k new more)) s
 
 -- one more after them
-pub many_more : (k : ℕ) (seen next : BTreeSet (String Global)) (old new : List Attribute) (a : Attribute) (text : String Global) → k ≤ length old → new ≡ old ++ a ∷ [] → Sees seen (drop k (map pair_of old)) → string_bytes text ≡ encode_utf8_all a.name.items → Updates string_cmp seen next text true → Sees next (drop k (map pair_of new))
-many_more k seen next old new a text h e s t u =
-    let many : k ≤ length (map pair_of old) = omega (arith, length-map old pair_of) in
-    let split : drop k (map pair_of new) ≡ drop k (map pair_of old) ++ pair_of a ∷ [] = ap (λ z. drop k (map pair_of z)) e ∙ ap (drop k) (map-append pair_of old (a ∷ [])) ∙ drop-append-le k (map pair_of old) (pair_of a ∷ []) many in
-    subst (λ z. Sees next z) (sym split) (sees_more seen next (drop k (map pair_of old)) a.name.items a.value.items text s t u)
+pub many_more : (k : ℕ) (seen next : BTreeSet (String Global)) (old new : List Pair) (name value : List ℕ) (text : String Global) → k ≤ length old → new ≡ old ++ (name, value) ∷ [] → Sees seen (drop k old) → string_bytes text ≡ encode_utf8_all name → Updates string_cmp seen next text true → Sees next (drop k new)
+many_more k seen next old new name value text h e s t u =
+    let split : drop k new ≡ drop k old ++ (name, value) ∷ [] = ap (λ z. drop k z) e ∙ drop-append-le k old ((name, value) ∷ []) h in
+    subst (λ z. Sees next z) (sym split) (sees_more seen next (drop k old) name value text s t u)

@@ -22,18 +22,19 @@ use Rattle.doc_events.specs.declared.state.Hole.{Hole}
 use Rattle.doc_events.specs.declared.state.Hole.TheVariants.{InText, InValue}
 use Rattle.doc_events.specs.declared.state.Stop.{Stop}
 use Rattle.doc_grammar.specs.declared.characters.Class.{Class}
+use Rattle.doc_grammar.specs.declared.characters.Class.TheVariants.{DoubleQuote, SingleQuote, Less, Bad, Ampersand}
 use Rattle.doc_events.specs.declared.state.Place.TheVariants.{Within, Before}
 use Rattle.doc_events.specs.declared.state.State.TheVariants as s
 use Rattle.std.specs.declared.vec.Vec.{Vec}
 use Rattle.std.specs.declared.alloc.Global.{Global}
 use Rattle.std.proofs.Common.{map}
-use Rattle.doc_events.specs.View.{state_in, state_of, place_of, hole_of, tail_of, base_of, events_at, quieted, Goes, Took, Moves, setting_name_from, setting_value_from, cdata_start_from, name_of, names_of}
+use Rattle.doc_events.specs.View.{state_in, state_of, place_of, hole_of, tail_of, base_of, events_at, quieted, StepTaken, Took, Moves, setting_name_from, setting_value_from, cdata_start_from, name_of, names_of, is_return}
 
 -- a step that emits nothing completes nothing
-pub goes_moves : (w : m.Step) (x : Result State Stop) (y : Result (State × Token) Stop) (r : Reader) → Goes w x r → y ≡ quieted x → Moves w y r
+pub goes_moves : (w : m.Step) (x : Result State Stop) (y : Result (State × Token) Stop) (r : Reader) → StepTaken w x r → y ≡ quieted x → Moves w y r
 goes_moves w x y r h e = subst (λ z. Moves w z r) (sym e) (quiet w x r h)
   where
-    quiet : (w : m.Step) (x : Result State Stop) (r : Reader) → Goes w x r → Moves w (quieted x) r
+    quiet : (w : m.Step) (x : Result State Stop) (r : Reader) → StepTaken w x r → Moves w (quieted x) r
     quiet w (Ok t) r h = subst (λ z. Took z t Nothing r) (sym h) (refl, refl)
     quiet w (Err e) r h = h
 
@@ -43,10 +44,10 @@ setting_value_step part q t [] k b = refl
 setting_value_step part q t (u ∷ todo) k b = refl
 
 pub setting_value_goes : (part : g.Part) (q : g.Quote) (text rest : List ℕ) (t : ℕ) (k : Class) (b fe fb : ℕ) (u : m.State) (x : Result State Stop) (r : Reader) → text ≡ t ∷ rest → fe ≡ g.fold_for part t → fb ≡ g.fold_for part b → u ≡ setting_value_from part q rest
-    → Goes (m.exactly fe fb u) x r → Goes (m.step strict (setting_value_from part q text) k b) x r
+    → StepTaken (m.exactly fe fb u) x r → StepTaken (m.step strict (setting_value_from part q text) k b) x r
 setting_value_goes part q text rest t k b fe fb u x r e f h i j =
-    subst (λ z. Goes (m.step strict (setting_value_from part q z) k b) x r) (sym e) (subst (λ z. Goes z x r) (sym (setting_value_step part q t rest k b))
-    (subst (λ z. Goes (m.exactly z (g.fold_for part b) (setting_value_from part q rest)) x r) f (subst (λ z. Goes (m.exactly fe z (setting_value_from part q rest)) x r) h (subst (λ z. Goes (m.exactly fe fb z) x r) i j))))
+    subst (λ z. StepTaken (m.step strict (setting_value_from part q z) k b) x r) (sym e) (subst (λ z. StepTaken z x r) (sym (setting_value_step part q t rest k b))
+    (subst (λ z. StepTaken (m.exactly z (g.fold_for part b) (setting_value_from part q rest)) x r) f (subst (λ z. StepTaken (m.exactly fe z (setting_value_from part q rest)) x r) h (subst (λ z. StepTaken (m.exactly fe fb z) x r) i j))))
 
 not_setting_name : (part : g.Part) (todo : List ℕ) → m.Final (setting_name_from part todo) → ⊥
 not_setting_name part [] h = h
@@ -128,23 +129,23 @@ pub moved : (p : List ℕ) (u : m.State) (b : ℕ) (k : Token) (r : Reader) (old
 moved p u b k r old h t =
     lead_lead strict p m.start u (state_of r) old (events_at k r) (b ∷ []) h (took_along (m.step strict u (class b) b) r.state k r t)
 
-enc_snoc : (front : List ℕ) (c : ℕ) → encode_utf8_all (front ++ c ∷ []) ≡ encode_utf8_all front ++ encode_utf8 c
-enc_snoc front c = encodes-append front (c ∷ []) ∙ ap (λ z. encode_utf8_all front ++ z) (append-nil (encode_utf8 c))
+enc_snoc : (prefix : List ℕ) (c : ℕ) → encode_utf8_all (prefix ++ c ∷ []) ≡ encode_utf8_all prefix ++ encode_utf8 c
+enc_snoc prefix c = encodes-append prefix (c ∷ []) ∙ ap (λ z. encode_utf8_all prefix ++ z) (append-nil (encode_utf8 c))
 
-pub step_text : (text front rest rest2 : List ℕ) (c : ℕ) → text ≡ encode_utf8_all front ++ rest → rest ≡ encode_utf8 c ++ rest2 → text ≡ encode_utf8_all (front ++ c ∷ []) ++ rest2
-step_text text front rest rest2 c e f =
-    e ∙ ap (λ z. encode_utf8_all front ++ z) f ∙ sym (append_assoc (encode_utf8_all front) (encode_utf8 c) rest2) ∙ ap (λ z. z ++ rest2) (sym (enc_snoc front c))
+pub step_text : (text prefix rest rest2 : List ℕ) (c : ℕ) → text ≡ encode_utf8_all prefix ++ rest → rest ≡ encode_utf8 c ++ rest2 → text ≡ encode_utf8_all (prefix ++ c ∷ []) ++ rest2
+step_text text prefix rest rest2 c e f =
+    e ∙ ap (λ z. encode_utf8_all prefix ++ z) f ∙ sym (append_assoc (encode_utf8_all prefix) (encode_utf8 c) rest2) ∙ ap (λ z. z ++ rest2) (sym (enc_snoc prefix c))
 
-pub step_place : (front : List ℕ) (c a b : ℕ) → a ≡ length (encode_utf8_all front) → b ≡ a + length (encode_utf8 c) → b ≡ length (encode_utf8_all (front ++ c ∷ []))
-step_place front c a b e f = let g = ap length (enc_snoc front c) in omega (arith, e, f, g, length-append (encode_utf8_all front) (encode_utf8 c))
+pub step_place : (prefix : List ℕ) (c a b : ℕ) → a ≡ length (encode_utf8_all prefix) → b ≡ a + length (encode_utf8 c) → b ≡ length (encode_utf8_all (prefix ++ c ∷ []))
+step_place prefix c a b e f = let g = ap length (enc_snoc prefix c) in omega (arith, e, f, g, length-append (encode_utf8_all prefix) (encode_utf8 c))
 
 no_rest : (rest : List ℕ) → length rest ≡ 0 → rest ≡ []
 no_rest [] h = refl
 no_rest (b ∷ rest) h = absurd (omega (arith, h))
 
 -- all of the text was read
-pub whole_text : (text front rest : List ℕ) → text ≡ encode_utf8_all front ++ rest → length rest ≡ 0 → text ≡ encode_utf8_all front
-whole_text text front rest e h = e ∙ ap (λ z. encode_utf8_all front ++ z) (no_rest rest h) ∙ append-nil (encode_utf8_all front)
+pub whole_text : (text prefix rest : List ℕ) → text ≡ encode_utf8_all prefix ++ rest → length rest ≡ 0 → text ≡ encode_utf8_all prefix
+whole_text text prefix rest e h = e ∙ ap (λ z. encode_utf8_all prefix ++ z) (no_rest rest h) ∙ append-nil (encode_utf8_all prefix)
 
 inner_scalar : (a : List ℕ) (c : ℕ) (b : List ℕ) → all_scalars (a ++ c ∷ b) ≡ true → IsScalar c
 inner_scalar [] c b h = first _ _ h
@@ -158,29 +159,29 @@ inner_scalar (x ∷ a) c b h = inner_scalar a c b (second _ _ h)
     second true t h = h
     second false t h = cc
 
-drop_front : (a b : List ℕ) → drop (length a) (a ++ b) ≡ b
-drop_front [] b = refl
-drop_front (x ∷ a) b = drop_front a b
+drop_prefix : (a b : List ℕ) → drop (length a) (a ++ b) ≡ b
+drop_prefix [] b = refl
+drop_prefix (x ∷ a) b = drop_prefix a b
 
 -- a character that no document goes on with
-pub dead_fault : (text front rest rest2 : List ℕ) (c at : ℕ) (s : m.State) (o : List g.Event) (why : Why) → IsUtf8 text → text ≡ encode_utf8_all front ++ rest → rest ≡ encode_utf8 c ++ rest2 → at ≡ length (encode_utf8_all front)
-    → m.Leads strict m.start front s o → m.step strict s (class c) c ≡ m.dead why → IsBroken text (judged why (drop at text) at).0 (judged why (drop at text) at).1
-dead_fault text front rest rest2 c at s o why u e f a h k =
-    let d = strip front (chars text) rest (encodes-chars text u ∙ e) in
+pub dead_fault : (text prefix rest rest2 : List ℕ) (c at : ℕ) (s : m.State) (o : List g.Event) (why : Why) → IsUtf8 text → text ≡ encode_utf8_all prefix ++ rest → rest ≡ encode_utf8 c ++ rest2 → at ≡ length (encode_utf8_all prefix)
+    → m.Leads strict m.start prefix s o → m.step strict s (class c) c ≡ m.dead why → IsBroken text (judged why (drop at text) at).0 (judged why (drop at text) at).1
+dead_fault text prefix rest rest2 c at s o why u e f a h k =
+    let d = strip prefix (chars text) rest (encodes-chars text u ∙ e) in
     let q = cons_from_encodes d.0 rest2 c (d.2 ∙ f) in
-    let whole : chars text ≡ front ++ c ∷ q.0 = d.1 ∙ ap (λ z. front ++ z) q.1 in
-    let t : encode_utf8_all (front ++ c ∷ q.0) ≡ text = ap encode_utf8_all (sym whole) ∙ encodes-chars text u in
-    let i = inner_scalar front c q.0 (ap all_scalars (sym whole) ∙ scalars-chars text u) in
-    let r = judged_fault front c q.0 s o why i (subst IsUtf8 (sym t) u) h k in
+    let whole : chars text ≡ prefix ++ c ∷ q.0 = d.1 ∙ ap (λ z. prefix ++ z) q.1 in
+    let t : encode_utf8_all (prefix ++ c ∷ q.0) ≡ text = ap encode_utf8_all (sym whole) ∙ encodes-chars text u in
+    let i = inner_scalar prefix c q.0 (ap all_scalars (sym whole) ∙ scalars-chars text u) in
+    let r = judged_fault prefix c q.0 s o why i (subst IsUtf8 (sym t) u) h k in
     let left : encode_utf8_all (c ∷ q.0) ≡ drop at text =
-    sym (drop_front (encode_utf8_all front) (encode_utf8_all (c ∷ q.0))) ∙ ap (drop (length (encode_utf8_all front))) (sym (encodes-append front (c ∷ q.0)) ∙ t) ∙ ap (λ z. drop z text) (sym a) in
-    let j : judged why (encode_utf8_all (c ∷ q.0)) (length (encode_utf8_all front)) ≡ judged why (drop at text) at = ap (λ z. judged why z (length (encode_utf8_all front))) left ∙ ap (judged why (drop at text)) (sym a) in
-    subst (λ z. IsBroken text z.0 z.1) j (subst (λ z. IsBroken z (judged why (encode_utf8_all (c ∷ q.0)) (length (encode_utf8_all front))).0 (judged why (encode_utf8_all (c ∷ q.0)) (length (encode_utf8_all front))).1) t r)
+    sym (drop_prefix (encode_utf8_all prefix) (encode_utf8_all (c ∷ q.0))) ∙ ap (drop (length (encode_utf8_all prefix))) (sym (encodes-append prefix (c ∷ q.0)) ∙ t) ∙ ap (λ z. drop z text) (sym a) in
+    let j : judged why (encode_utf8_all (c ∷ q.0)) (length (encode_utf8_all prefix)) ≡ judged why (drop at text) at = ap (λ z. judged why z (length (encode_utf8_all prefix))) left ∙ ap (judged why (drop at text)) (sym a) in
+    subst (λ z. IsBroken text z.0 z.1) j (subst (λ z. IsBroken z (judged why (encode_utf8_all (c ∷ q.0)) (length (encode_utf8_all prefix))).0 (judged why (encode_utf8_all (c ∷ q.0)) (length (encode_utf8_all prefix))).1) t r)
 
 -- the same, where the rest is given by a slice
-pub slice_fault : (text front rest rest2 left : List ℕ) (c at : ℕ) (s : m.State) (o : List g.Event) → IsUtf8 text → text ≡ encode_utf8_all front ++ rest → rest ≡ encode_utf8 c ++ rest2 → at ≡ length (encode_utf8_all front)
-    → m.Leads strict m.start front s o → left ≡ drop at text → (why : Why) → m.step strict s (class c) c ≡ m.dead why → IsBroken text (judged why left at).0 (judged why left at).1
-slice_fault text front rest rest2 left c at s o u e f a h d why k = subst (λ z. IsBroken text (judged why z at).0 (judged why z at).1) (sym d) (dead_fault text front rest rest2 c at s o why u e f a h k)
+pub slice_fault : (text prefix rest rest2 left : List ℕ) (c at : ℕ) (s : m.State) (o : List g.Event) → IsUtf8 text → text ≡ encode_utf8_all prefix ++ rest → rest ≡ encode_utf8 c ++ rest2 → at ≡ length (encode_utf8_all prefix)
+    → m.Leads strict m.start prefix s o → left ≡ drop at text → (why : Why) → m.step strict s (class c) c ≡ m.dead why → IsBroken text (judged why left at).0 (judged why left at).1
+slice_fault text prefix rest rest2 left c at s o u e f a h d why k = subst (λ z. IsBroken text (judged why z at).0 (judged why z at).1) (sym d) (dead_fault text prefix rest rest2 c at s o why u e f a h k)
 
 pub slice_left : (text : List ℕ) (at : ℕ) → take (length text - at) (drop at text) ≡ drop at text
 slice_left text at = take_all (length text - at) (drop at text) (omega (arith, length-drop at text))
@@ -207,9 +208,26 @@ broken_fault bytes TooDeep place h = h
 broken_fault bytes AttributeTwice place h = h
 
 -- the text ends too early
-pub early : (text front : List ℕ) (s : m.State) (o : List g.Event) → IsUtf8 text → text ≡ encode_utf8_all front → m.Leads strict m.start front s o → (m.Final s → ⊥) → IsBroken text Malformed (length text)
-early text front s o u e h f = subst (λ z. IsBroken z Malformed (length z)) (sym e) (end_fault front s o (subst IsUtf8 e u) h f)
+pub early : (text prefix : List ℕ) (s : m.State) (o : List g.Event) → IsUtf8 text → text ≡ encode_utf8_all prefix → m.Leads strict m.start prefix s o → (m.Final s → ⊥) → IsBroken text Malformed (length text)
+early text prefix s o u e h f = subst (λ z. IsBroken z Malformed (length z)) (sym e) (end_fault prefix s o (subst IsUtf8 e u) h f)
 
 -- the text is a document
-pub ended : (text front : List ℕ) (s : m.State) (o : List g.Event) → text ≡ encode_utf8_all front → m.Leads strict m.start front s o → m.Final s → IsDocument strict text o
-ended text front s o e h f = (front, e, end_document front s o h f)
+pub ended : (text prefix : List ℕ) (s : m.State) (o : List g.Event) → text ≡ encode_utf8_all prefix → m.Leads strict m.start prefix s o → m.Final s → IsDocument strict text o
+ended text prefix s o e h f = (prefix, e, end_document prefix s o h f)
+
+value_step : (p : m.Place) (n : List ℕ) (xs : List g.Pair) (x : List ℕ) (q : g.Quote) (v : List ℕ) (r : Bool) (k : Class) (b : ℕ) → g.is_valued q k ≡ true → m.step_attribute_value p n xs x q v r k b ≡ m.go (m.attribute_value p n xs x q (v ++ g.raw_value r b) (is_return b))
+value_step p n xs x g.with_double v r DoubleQuote b h = cc
+value_step p n xs x g.with_single v r SingleQuote b h = cc
+value_step p n xs x g.with_double v r Less b h = cc
+value_step p n xs x g.with_single v r Less b h = cc
+value_step p n xs x g.with_double v r Bad b h = cc
+value_step p n xs x g.with_single v r Bad b h = cc
+value_step p n xs x g.with_double v r Ampersand b h = cc
+value_step p n xs x g.with_single v r Ampersand b h = cc
+value_step p n xs x g.with_double v r k b h = refl
+value_step p n xs x g.with_single v r k b h = refl
+
+-- a step in an attribute's value, with a character that stands for itself
+pub itself_step : (p : m.Place) (n : List ℕ) (xs : List g.Pair) (x : List ℕ) (q : g.Quote) (v : List ℕ) (r : Bool) (k : Class) (b : ℕ) → g.is_valued q k ≡ true → g.raw_value r b ≡ b ∷ [] → is_return b ≡ false → m.step_attribute_value p n xs x q v r k b ≡ m.go (m.attribute_value p n xs x q (v ++ b ∷ []) false)
+itself_step p n xs x q v r k b h e f =
+    value_step p n xs x q v r k b h ∙ ap (λ z. m.go (m.attribute_value p n xs x q (v ++ z) (is_return b))) e ∙ ap (λ z. m.go (m.attribute_value p n xs x q (v ++ b ∷ []) z)) f

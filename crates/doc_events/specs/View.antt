@@ -1,6 +1,7 @@
 -- What the reader's states stand for.
-use Rattle.std.specs.Prelude.{◌≡◌, ℕ, List, [], ◌∷◌, map, reverse, drop, length, if◌then◌else◌, Result, Ok, Err, ⊤, codes}
+use Rattle.std.specs.Prelude.{◌≡◌, ℕ, List, [], ◌∷◌, ◌==◌, map, reverse, drop, length, if◌then◌else◌, Result, Ok, Err, ⊤, codes, Bool, true, false}
 use Rattle.std.specs.Str.{encode_utf8_all}
+use Prim.Native.Char.{code}
 use Rattle.std.specs.declared.vec.Vec.{Vec}
 use Rattle.std.specs.declared.alloc.Global.{Global}
 use Rattle.doc_grammar.specs.Grammar.{begin, close}
@@ -189,9 +190,9 @@ Stops w (Dead y) = w ≡ m.dead y
 Stops w Memory = ⊤
 
 -- a step of the machine that emits nothing was taken, to this state of the reader
-abbrev pub Goes : m.Step → Result State Stop → Reader → Type 0
-Goes w (Ok t) r = w ≡ m.go (state_in t r)
-Goes w (Err e) r = Stops w e
+abbrev pub StepTaken : m.Step → Result State Stop → Reader → Type 0
+StepTaken w (Ok t) r = w ≡ m.go (state_in t r)
+StepTaken w (Err e) r = Stops w e
 
 abbrev pub Took : m.Step → State → Token → Reader → Type 0
 Took (m.dead w) t k r = ⊥
@@ -212,3 +213,12 @@ Moves w (Err e) r = Stops w e
 abbrev pub Takes : m.Step → Result Token Stop → Reader → Type 0
 Takes w (Ok k) r = Took w r.state k r
 Takes w (Err e) r = Stops w e
+
+-- the reader took a step that completes nothing, or is as it was
+abbrev pub TakesPlain : m.Step → Reader → Reader → Bool → Type 0
+TakesPlain w old new true = w ≡ m.go (state_of new)
+TakesPlain w old new false = new ≡ old
+
+-- the character after which a line feed counts for nothing in a value
+abbrev pub is_return : ℕ → Bool
+is_return c = c == code "\r"

@@ -4,7 +4,7 @@ ghost use Rattle.doc_grammar.specs.Characters.{class};
 ghost use Rattle.doc_grammar.specs.Grammar.{strict, fold_case};
 ghost use Rattle.doc_grammar.specs.Grammar as g;
 ghost use Rattle.doc_grammar.specs.Machine as m;
-ghost use Rattle.doc_events.specs.View.{state_in, part_of, quote_of, saying_part, saying_text, setting_name_from, setting_value_from, Goes};
+ghost use Rattle.doc_events.specs.View.{state_in, part_of, quote_of, saying_part, saying_text, setting_name_from, setting_value_from, StepTaken};
 
 use crate::markup::{bad, next_of};
 use crate::state::{Part, Place, Quote, Reader, Saying, State, Stop};
@@ -90,7 +90,7 @@ fn quote_char(quote: Quote) -> char
 impl Reader {
     /// Where nothing but a byte order mark was read.
     pub(crate) fn after_byte_order_mark(&mut self, b: char, why: Why) -> Result<State, Stop>
-        ensures { Goes (m.step_after_byte_order_mark why (class b)) result self.new }
+        ensures { StepTaken (m.step_after_byte_order_mark why (class b)) result self.new }
     {
         match class_of(b) {
             Class::Less => Ok(State::DocumentTagOpen),
@@ -104,7 +104,7 @@ impl Reader {
 
     /// After `?` in the declaration.
     pub(crate) fn declaration_end(&mut self, b: char) -> Result<State, Stop>
-        ensures { Goes (m.step_greater (class b) (m.go (m.content m.before))) result self.new }
+        ensures { StepTaken (m.step_greater (class b) (m.go (m.content m.before))) result self.new }
     {
         self.place = Place::Before;
         self.greater(State::Content, b)
@@ -112,7 +112,7 @@ impl Reader {
 
     /// Where nothing was read.
     pub(crate) fn start(&mut self, alloc: Global, b: char) -> Result<State, Stop>
-        ensures { Goes (m.step_start (class b) b) result self.new }
+        ensures { StepTaken (m.step_start (class b) b) result self.new }
     {
         if b == '\u{feff}' {
             Ok(State::AfterByteOrderMark)
@@ -124,7 +124,7 @@ impl Reader {
 
     /// After `<` at the start of a document.
     pub(crate) fn document_tag_open(&mut self, b: char) -> Result<State, Stop>
-        ensures { Goes (m.step_document_tag_open strict (class b) b) result self.new }
+        ensures { StepTaken (m.step_document_tag_open strict (class b) b) result self.new }
     {
         match class_of(b) {
             Class::Question => Ok(State::DocumentProcessingInstruction),
@@ -137,7 +137,7 @@ impl Reader {
 
     /// After `<?` at the start of a document.
     pub(crate) fn document_processing_instruction(&mut self, b: char) -> Result<State, Stop>
-        ensures { Goes (m.step_document_processing_instruction (class b) b) result self.new }
+        ensures { StepTaken (m.step_document_processing_instruction (class b) b) result self.new }
     {
         match class_of(b) {
             Class::Letter => {
@@ -152,7 +152,8 @@ impl Reader {
 
     /// In the target of a processing instruction, or `xml`, at the start of a document.
     pub(crate) fn document_instruction_target(&mut self, b: char) -> Result<State, Stop>
-        ensures { Goes (m.step_document_instruction_target self.old.name.items (class b) b) result
+        ensures { StepTaken (m.step_document_instruction_target self.old.name.items (class b) b)
+            result
             self.new }
     {
         self.place = Place::Before;
@@ -176,7 +177,7 @@ impl Reader {
 
     /// After `<?xml`.
     pub(crate) fn before_version(&self, b: char) -> Result<State, Stop>
-        ensures { Goes (m.step_before_version (class b) b) result self.now }
+        ensures { StepTaken (m.step_before_version (class b) b) result self.now }
     {
         match class_of(b) {
             Class::Blank => Ok(State::BeforeVersion),
@@ -186,7 +187,7 @@ impl Reader {
 
     /// After a part of the declaration.
     pub(crate) fn after_setting(&self, part: Part, b: char) -> Result<State, Stop>
-        ensures { Goes (m.step_after_setting (part_of part) (class b)) result self.now }
+        ensures { StepTaken (m.step_after_setting (part_of part) (class b)) result self.now }
     {
         match class_of(b) {
             Class::Blank => Ok(State::BetweenSettings(part)),
@@ -197,7 +198,7 @@ impl Reader {
 
     /// After white space after a part of the declaration.
     pub(crate) fn between_settings(&self, part: Part, b: char) -> Result<State, Stop>
-        ensures { Goes (m.step_between_settings (part_of part) (class b) b) result self.now }
+        ensures { StepTaken (m.step_between_settings (part_of part) (class b) b) result self.now }
     {
         match class_of(b) {
             Class::Blank => Ok(State::BetweenSettings(part)),
@@ -207,7 +208,7 @@ impl Reader {
     }
 
     fn next_part(&self, part: Part, b: char) -> Result<State, Stop>
-        ensures { Goes (m.step_part (part_of part) b) result self.now }
+        ensures { StepTaken (m.step_part (part_of part) b) result self.now }
     {
         match part {
             Part::Version => {
@@ -224,7 +225,7 @@ impl Reader {
 
     /// In the word of a part, of which `done` characters were read.
     pub(crate) fn setting_name(&self, part: Part, done: usize, b: char) -> Result<State, Stop>
-        ensures { Goes (m.step strict (setting_name_from (part_of part)
+        ensures { StepTaken (m.step strict (setting_name_from (part_of part)
             (drop done (g.word (part_of part)))) (class b) b) result self.now }
     {
         match next_of(word(part), done) {
@@ -241,7 +242,7 @@ impl Reader {
 
     /// After the word of a part.
     pub(crate) fn after_setting_name(&self, part: Part, b: char) -> Result<State, Stop>
-        ensures { Goes (m.step_after_setting_name (part_of part) (class b)) result self.now }
+        ensures { StepTaken (m.step_after_setting_name (part_of part) (class b)) result self.now }
     {
         match class_of(b) {
             Class::Blank => Ok(State::AfterSettingName(part)),
@@ -262,7 +263,7 @@ impl Reader {
 
     /// After the `=` of a part.
     pub(crate) fn before_setting_value(&self, part: Part, b: char) -> Result<State, Stop>
-        ensures { Goes (m.step_before_setting_value (part_of part) (class b)) result self.now }
+        ensures { StepTaken (m.step_before_setting_value (part_of part) (class b)) result self.now }
     {
         match class_of(b) {
             Class::Blank => Ok(State::BeforeSettingValue(part)),
@@ -274,7 +275,7 @@ impl Reader {
 
     /// Before `yes` or `no`.
     pub(crate) fn standalone_value(&self, quote: Quote, b: char) -> Result<State, Stop>
-        ensures { Goes (m.step_standalone_value (quote_of quote) b) result self.now }
+        ensures { StepTaken (m.step_standalone_value (quote_of quote) b) result self.now }
     {
         if b == 'y' {
             Ok(State::SettingValue(Saying::Yes, quote, 1))
@@ -292,7 +293,7 @@ impl Reader {
         done: usize,
         b: char,
     ) -> Result<State, Stop>
-        ensures { Goes (m.step strict (setting_value_from (saying_part saying) (quote_of quote)
+        ensures { StepTaken (m.step strict (setting_value_from (saying_part saying) (quote_of quote)
             (drop done (saying_text saying))) (class b) b) result self.now }
     {
         match next_of(text(saying), done) {

@@ -3,7 +3,7 @@ ghost use Rattle.std.specs.Prelude.{◌≡◌, ◌+◌, ◌∷◌, [], drop, Mat
 ghost use Rattle.doc_grammar.specs.Characters.{class};
 ghost use Rattle.doc_grammar.specs.Grammar.{strict, is_xml};
 ghost use Rattle.doc_grammar.specs.Machine as m;
-ghost use Rattle.doc_events.specs.View.{state_in, place_of, stack_of, Goes, cdata_start_from, cdata};
+ghost use Rattle.doc_events.specs.View.{state_in, place_of, stack_of, StepTaken, cdata_start_from, cdata};
 ghost use Rattle.doc_grammar.specs.declared.reasons.Why.TheVariants.{Plain};
 
 use crate::state::{Hole, Place, Reader, State, Stop};
@@ -44,7 +44,7 @@ static CDATA: [char; 6] = ['C', 'D', 'A', 'T', 'A', '['];
 impl Reader {
     /// Where only one character goes on.
     pub(crate) fn exactly(&self, expected: char, b: char, then: State) -> Result<State, Stop>
-        ensures { Goes (m.exactly expected b (state_in then self.now)) result self.now }
+        ensures { StepTaken (m.exactly expected b (state_in then self.now)) result self.now }
     {
         if b == expected {
             Ok(then)
@@ -55,7 +55,8 @@ impl Reader {
 
     /// Where only `>` goes on.
     pub(crate) fn greater(&self, then: State, b: char) -> Result<State, Stop>
-        ensures { Goes (m.step_greater (class b) (m.go (state_in then self.now))) result self.now }
+        ensures { StepTaken (m.step_greater (class b) (m.go (state_in then self.now))) result
+            self.now }
     {
         match class_of(b) {
             Class::Greater => Ok(then),
@@ -65,7 +66,7 @@ impl Reader {
 
     /// Between the tokens.
     pub(crate) fn content(&mut self, b: char) -> Result<State, Stop>
-        ensures { Goes (m.step_content (place_of self.old.place) (class b) b) result self.new }
+        ensures { StepTaken (m.step_content (place_of self.old.place) (class b) b) result self.new }
     {
         match (&mut self.place, class_of(b)) {
             (_, Class::Less) => Ok(State::TagOpen),
@@ -97,7 +98,7 @@ impl Reader {
 
     /// After `<!`.
     pub(crate) fn markup_declaration(&mut self, b: char) -> Result<State, Stop>
-        ensures { Goes (m.step_markup_declaration (place_of self.old.place) (class b)) result
+        ensures { StepTaken (m.step_markup_declaration (place_of self.old.place) (class b)) result
             self.new }
     {
         match (&mut self.place, class_of(b)) {
@@ -115,7 +116,7 @@ impl Reader {
 
     /// After `<!-`.
     pub(crate) fn comment_start(&self, b: char) -> Result<State, Stop>
-        ensures { Goes (m.step_dash (class b) (m.comment (place_of self.now.place))) result
+        ensures { StepTaken (m.step_dash (class b) (m.comment (place_of self.now.place))) result
             self.now }
     {
         match class_of(b) {
@@ -126,7 +127,7 @@ impl Reader {
 
     /// In a comment.
     pub(crate) fn comment(&self, b: char) -> Result<State, Stop>
-        ensures { Goes (m.step_comment (place_of self.now.place) (class b) b) result self.now }
+        ensures { StepTaken (m.step_comment (place_of self.now.place) (class b) b) result self.now }
     {
         match class_of(b) {
             Class::Dash => Ok(State::CommentDash),
@@ -137,7 +138,8 @@ impl Reader {
 
     /// After a dash in a comment.
     pub(crate) fn comment_dash(&self, b: char) -> Result<State, Stop>
-        ensures { Goes (m.step_comment_dash (place_of self.now.place) (class b) b) result self.now }
+        ensures { StepTaken (m.step_comment_dash (place_of self.now.place) (class b) b) result
+            self.now }
     {
         match class_of(b) {
             Class::Dash => Ok(State::CommentEnd),
@@ -148,7 +150,8 @@ impl Reader {
 
     /// After `<?`.
     pub(crate) fn processing_instruction(&mut self, b: char) -> Result<State, Stop>
-        ensures { Goes (m.step_processing_instruction (place_of self.old.place) (class b) b) result
+        ensures { StepTaken (m.step_processing_instruction (place_of self.old.place) (class b) b)
+            result
             self.new }
     {
         match class_of(b) {
@@ -164,7 +167,7 @@ impl Reader {
 
     /// In the target of a processing instruction.
     pub(crate) fn instruction_target(&mut self, b: char) -> Result<State, Stop>
-        ensures { Goes (m.step_instruction_target (place_of self.old.place) self.old.name.items
+        ensures { StepTaken (m.step_instruction_target (place_of self.old.place) self.old.name.items
             (class b) b) result self.new }
     {
         match class_of(b) {
@@ -181,7 +184,8 @@ impl Reader {
 
     /// What goes on after a target, which is not `xml`.
     pub(crate) fn unless_xml(&self, then: State) -> Result<State, Stop>
-        ensures { Goes (m.guard Plain (not (is_xml self.now.name.items)) (state_in then self.now))
+        ensures { StepTaken (m.guard Plain (not (is_xml self.now.name.items))
+            (state_in then self.now))
             result self.now }
     {
         if is_any_xml(self.name.as_slice()) {
@@ -193,7 +197,7 @@ impl Reader {
 
     /// After the target of a processing instruction.
     pub(crate) fn instruction_text(&self, b: char) -> Result<State, Stop>
-        ensures { Goes (m.step_instruction_text (place_of self.now.place) (class b) b) result
+        ensures { StepTaken (m.step_instruction_text (place_of self.now.place) (class b) b) result
             self.now }
     {
         match class_of(b) {
@@ -205,7 +209,7 @@ impl Reader {
 
     /// After a `?` in a processing instruction.
     pub(crate) fn instruction_end(&self, b: char) -> Result<State, Stop>
-        ensures { Goes (m.step_instruction_end (place_of self.now.place) (class b) b) result
+        ensures { StepTaken (m.step_instruction_end (place_of self.now.place) (class b) b) result
             self.now }
     {
         match class_of(b) {
@@ -218,7 +222,7 @@ impl Reader {
 
     /// In `CDATA[`, of which `done` characters were read.
     pub(crate) fn cdata_start(&self, done: usize, b: char) -> Result<State, Stop>
-        ensures { Goes (m.step strict (cdata_start_from self.now.name.items
+        ensures { StepTaken (m.step strict (cdata_start_from self.now.name.items
             (stack_of self.now.place) (drop done cdata)) (class b) b) result self.now }
     {
         match next_of(&CDATA, done) {
@@ -231,7 +235,7 @@ impl Reader {
 
     /// In a CDATA section.
     pub(crate) fn cdata_section(&self, b: char) -> Result<State, Stop>
-        ensures { Goes (m.step_cdata_section self.now.name.items (stack_of self.now.place)
+        ensures { StepTaken (m.step_cdata_section self.now.name.items (stack_of self.now.place)
             (class b) b) result self.now }
     {
         match class_of(b) {
@@ -243,7 +247,8 @@ impl Reader {
 
     /// After `]` in a CDATA section.
     pub(crate) fn cdata_section_bracket(&self, b: char) -> Result<State, Stop>
-        ensures { Goes (m.step_cdata_section_bracket self.now.name.items (stack_of self.now.place)
+        ensures { StepTaken (m.step_cdata_section_bracket self.now.name.items
+            (stack_of self.now.place)
             (class b) b) result self.now }
     {
         match class_of(b) {
@@ -255,7 +260,7 @@ impl Reader {
 
     /// After `]]` in a CDATA section.
     pub(crate) fn cdata_section_end(&mut self, alloc: Global, b: char) -> Result<State, Stop>
-        ensures { Goes (m.step_cdata_section_end self.old.name.items (stack_of self.old.place)
+        ensures { StepTaken (m.step_cdata_section_end self.old.name.items (stack_of self.old.place)
             (class b) b) result self.new }
     {
         match class_of(b) {

@@ -1,18 +1,18 @@
 //! One character at a time.
-ghost use Rattle.std.specs.Prelude.{◌≡◌, ◌<◌, ◌^◌, map, IsTrue, IsFalse};
+ghost use Rattle.std.specs.Prelude.{◌≡◌, ◌<◌, ◌^◌, ◌∷◌, [], map, Bool, true, false, IfOk, IsTrue, IsFalse};
 ghost use Rattle.doc_events.specs.Pairs.{pair_of};
-ghost use Rattle.doc_grammar.specs.Characters.{class};
-ghost use Rattle.doc_grammar.specs.Grammar.{strict};
+ghost use Rattle.doc_grammar.specs.Characters.{class, names};
+ghost use Rattle.doc_grammar.specs.Grammar.{Quote, is_valued, raw_value, strict};
 ghost use Rattle.doc_grammar.specs.Machine as m;
 ghost use Rattle.doc_grammar.specs.Faults.{judged};
-ghost use Rattle.doc_events.specs.View.{state_of, tag_name, tag_attributes, quieted, Moves, Takes};
+ghost use Rattle.doc_events.specs.View.{state_of, tag_name, tag_attributes, is_return, quieted, Moves, Takes, TakesPlain};
 ghost use Rattle.doc_events.specs.Answers.{refused, PlaceFits};
 
 use crate::attributes::{Attribute, Attributes};
 use crate::error::DocError;
 use crate::state::{Base, Place, Reader, State, Stop, Token};
 use doc_grammar::{Rule, Why};
-use std::alloc::Global;
+use std::alloc::{AllocError, Global};
 
 /// A step that completes nothing.
 fn quiet(step: Result<State, Stop>) -> Result<(State, Token), Stop>
@@ -22,6 +22,24 @@ fn quiet(step: Result<State, Stop>) -> Result<(State, Token), Stop>
         Ok(state) => Ok((state, Token::Nothing)),
         Err(stop) => Err(stop),
     }
+}
+
+/// Whether a character is one of ASCII that may stand in a name.
+#[tactic(auto, unfolding(doc_grammar::specs::Characters::class, doc_grammar::specs::Characters::other_class))]
+fn stands_in_name(c: char) -> bool
+    ensures { IsTrue result → names (class c) ≡ true }
+{
+    matches!(c, '0'..='9' | 'a'..='z' | 'A'..='Z' | '_' | ':' | '.' | '-')
+}
+
+/// Whether a character is one of ASCII that stands for itself in a value, and no white space.
+#[tactic(auto, unfolding(doc_grammar::specs::Characters::class, doc_grammar::specs::Characters::other_class))]
+fn stands_in_value(c: char) -> bool
+    ensures valued { IsTrue result → (quote : Quote) → is_valued quote (class c) ≡ true }
+    ensures itself { IsTrue result → (after_return : Bool) → raw_value after_return c ≡ c ∷ [] }
+    ensures no_return { IsTrue result → is_return c ≡ false }
+{
+    matches!(c, '('..=';' | '='..='\u{7f}')
 }
 
 impl Reader {
@@ -67,6 +85,40 @@ impl Reader {
 
     /// One character more, and what it completes.
     pub fn take(&mut self, alloc: Global, c: char) -> Result<Token, Stop>
+        ensures { Takes (m.step strict (state_of self.old) (class c) c) result self.new }
+    {
+        if self.take_plain(c)? {
+            Ok(Token::Nothing)
+        } else {
+            self.take_any(alloc, c)
+        }
+    }
+
+    /// Takes a character that most often comes: one more of a name or of a value. Else it stays as it is.
+    fn take_plain(&mut self, c: char) -> Result<bool, AllocError>
+        ensures { IfOk result (TakesPlain (m.step strict (state_of self.old) (class c) c) self.old
+            self.new) }
+    {
+        match self.state {
+            State::AttributeValue(quote, _) if stands_in_value(c) => {
+                self.value.push(c)?;
+                self.state = State::AttributeValue(quote, false);
+                Ok(true)
+            }
+            State::AttributeName if stands_in_name(c) => {
+                self.attribute.push(c)?;
+                Ok(true)
+            }
+            State::TagName if stands_in_name(c) => {
+                self.name.push(c)?;
+                Ok(true)
+            }
+            _ => Ok(false),
+        }
+    }
+
+    /// One character more, whatever it is, and what it completes.
+    fn take_any(&mut self, alloc: Global, c: char) -> Result<Token, Stop>
         ensures { Takes (m.step strict (state_of self.old) (class c) c) result self.new }
     {
         let (state, token) = self.next(alloc, c)?;
@@ -117,8 +169,8 @@ impl Reader {
             State::AttributeName => quiet(self.attribute_name(alloc, b)),
             State::AfterAttributeName => quiet(self.after_attribute_name(b)),
             State::BeforeAttributeValue => quiet(self.before_attribute_value(b)),
-            State::AttributeValue(quote, behind_return) => {
-                quiet(self.attribute_value(alloc, quote, behind_return, b))
+            State::AttributeValue(quote, after_return) => {
+                quiet(self.attribute_value(alloc, quote, after_return, b))
             }
             State::AfterAttributeValue => self.in_tag(alloc, b),
             State::SelfClosingStartTag => self.self_closing_start_tag(alloc, b),

@@ -3,7 +3,7 @@ ghost use Rattle.std.specs.Prelude.{◌≡◌, ◌+◌, ◌*◌, IfOk};
 ghost use Rattle.doc_grammar.specs.Characters.{class, is_char};
 ghost use Rattle.doc_grammar.specs.Grammar as g;
 ghost use Rattle.doc_grammar.specs.Machine as m;
-ghost use Rattle.doc_events.specs.View.{state_in, hole_of, tail_of, base_of, Goes};
+ghost use Rattle.doc_events.specs.View.{state_in, hole_of, tail_of, base_of, StepTaken};
 
 use crate::state::{Base, Hole, Reader, State, Stop, Tail};
 use doc_grammar::Why;
@@ -78,7 +78,8 @@ impl Reader {
         tail: Tail,
         b: char,
     ) -> Result<State, Stop>
-        ensures { Goes (m.step_named_reference (hole_of hole self.old) code next (tail_of tail) b)
+        ensures { StepTaken (m.step_named_reference (hole_of hole self.old) code next (tail_of tail)
+            b)
             result self.new }
     {
         if b != next {
@@ -95,7 +96,7 @@ impl Reader {
 
     /// After `&`.
     pub(crate) fn reference(&self, hole: Hole, b: char) -> Result<State, Stop>
-        ensures { Goes (m.step_reference (hole_of hole self.now) b) result self.now }
+        ensures { StepTaken (m.step_reference (hole_of hole self.now) b) result self.now }
     {
         match b {
             'l' => Ok(State::NamedReference(hole, '<', 't', Tail::Semicolon)),
@@ -109,7 +110,7 @@ impl Reader {
 
     /// After `&a`.
     pub(crate) fn reference_a(&self, hole: Hole, b: char) -> Result<State, Stop>
-        ensures { Goes (m.step_reference_a (hole_of hole self.now) b) result self.now }
+        ensures { StepTaken (m.step_reference_a (hole_of hole self.now) b) result self.now }
     {
         match b {
             'm' => Ok(State::NamedReference(hole, '&', 'p', Tail::Semicolon)),
@@ -120,7 +121,7 @@ impl Reader {
 
     /// One digit more, where some further digits can make a character.
     pub(crate) fn digit(&self, hole: Hole, base: Base, number: u32, b: char) -> Result<State, Stop>
-        ensures { Goes (m.step_digit (hole_of hole self.now) (base_of base) number b) result
+        ensures { StepTaken (m.step_digit (hole_of hole self.now) (base_of base) number b) result
             self.now }
     {
         if !is_numeral(base, b) {
@@ -136,7 +137,7 @@ impl Reader {
 
     /// After `&#`.
     pub(crate) fn numeric_reference(&self, hole: Hole, b: char) -> Result<State, Stop>
-        ensures { Goes (m.step_numeric_reference (hole_of hole self.now) b) result self.now }
+        ensures { StepTaken (m.step_numeric_reference (hole_of hole self.now) b) result self.now }
     {
         if b == 'x' {
             Ok(State::HexadecimalReference(hole))
@@ -154,7 +155,8 @@ impl Reader {
         number: u32,
         b: char,
     ) -> Result<State, Stop>
-        ensures { Goes (m.step_reference_digits (hole_of hole self.old) (base_of base) number b)
+        ensures { StepTaken (m.step_reference_digits (hole_of hole self.old) (base_of base) number
+            b)
             result self.new }
     {
         if b != ';' {

@@ -4,7 +4,7 @@ ghost use Rattle.doc_grammar.specs.Characters.{class};
 ghost use Rattle.doc_grammar.specs.Grammar.{strict};
 ghost use Rattle.doc_grammar.specs.Grammar as g;
 ghost use Rattle.doc_grammar.specs.Machine as m;
-ghost use Rattle.doc_events.specs.View.{state_in, place_of, stack_of, quote_of, unless_twice, Goes, Moves};
+ghost use Rattle.doc_events.specs.View.{state_in, place_of, stack_of, quote_of, unless_twice, StepTaken, Moves};
 ghost use Rattle.doc_events.specs.declared.state.Stop.TheVariants.{Memory};
 
 use crate::attributes::{Attributes, text_of};
@@ -76,11 +76,11 @@ fn bad_tag_open(place: &Place, b: char) -> Why
 }
 
 /// Adds what a raw character of a value means.
-fn push_raw(text: &mut Vec<char>, behind_return: bool, b: char) -> Result<(), Stop>
-    ensures ok { OnOk result (text.new.items ≡ text.old.items ++ g.raw_value behind_return b) }
+fn push_raw(text: &mut Vec<char>, after_return: bool, b: char) -> Result<(), Stop>
+    ensures ok { OnOk result (text.new.items ≡ text.old.items ++ g.raw_value after_return b) }
     ensures err { IfErr result (λ e. e ≡ Memory) }
 {
-    if behind_return && b == '\n' {
+    if after_return && b == '\n' {
         return Ok(());
     }
     let plain = match b {
@@ -129,7 +129,7 @@ impl Reader {
 
     /// After `<`.
     pub(crate) fn tag_open(&mut self, b: char) -> Result<State, Stop>
-        ensures { Goes (m.step_tag_open strict (place_of self.old.place) (class b) b) result
+        ensures { StepTaken (m.step_tag_open strict (place_of self.old.place) (class b) b) result
             self.new }
     {
         match (&mut self.place, class_of(b)) {
@@ -185,7 +185,8 @@ impl Reader {
             }
             Class::Bad => Err(Stop::Dead(bad(b))),
             _ => {
-                self.attributes = Attributes::new(alloc);
+                let attributes = mem::replace(&mut self.attributes, Attributes::new(alloc));
+                self.attributes = attributes.emptied(alloc);
                 self.in_tag(alloc, b)
             }
         }
@@ -213,7 +214,8 @@ impl Reader {
 
     /// In the name of an attribute.
     pub(crate) fn attribute_name(&mut self, alloc: Global, b: char) -> Result<State, Stop>
-        ensures { Goes (m.step_attribute_name strict (place_of self.old.place) self.old.name.items
+        ensures { StepTaken (m.step_attribute_name strict (place_of self.old.place)
+            self.old.name.items
             self.old.attributes self.old.attribute.items (class b) b) result self.new }
     {
         match class_of(b) {
@@ -230,7 +232,7 @@ impl Reader {
 
     /// What goes on after an attribute's name, which the tag doesn't have yet.
     fn unless_twice(&self, alloc: Global, next: State) -> Result<State, Stop>
-        ensures { Goes (unless_twice self.now.attributes self.now.attribute.items
+        ensures { StepTaken (unless_twice self.now.attributes self.now.attribute.items
             (state_in next self.now)) result self.now }
     {
         let name = self.attribute.as_slice();
@@ -243,7 +245,8 @@ impl Reader {
 
     /// After an attribute's name.
     pub(crate) fn after_attribute_name(&self, b: char) -> Result<State, Stop>
-        ensures { Goes (m.step_after_attribute_name (place_of self.now.place) self.now.name.items
+        ensures { StepTaken (m.step_after_attribute_name (place_of self.now.place)
+            self.now.name.items
             self.now.attributes self.now.attribute.items (class b)) result self.now }
     {
         match class_of(b) {
@@ -255,7 +258,7 @@ impl Reader {
 
     /// After an attribute's `=`.
     pub(crate) fn before_attribute_value(&mut self, b: char) -> Result<State, Stop>
-        ensures { Goes (m.step_before_attribute_value (place_of self.old.place)
+        ensures { StepTaken (m.step_before_attribute_value (place_of self.old.place)
             self.old.name.items self.old.attributes self.old.attribute.items (class b)) result
             self.new }
     {
@@ -270,7 +273,7 @@ impl Reader {
 
     /// After an attribute's value.
     fn attribute_end(&mut self, alloc: Global) -> Result<State, Stop>
-        ensures { Goes (m.go (m.after_attribute_value (place_of self.old.place)
+        ensures { StepTaken (m.go (m.after_attribute_value (place_of self.old.place)
             self.old.name.items (self.old.attributes
             ++ (self.old.attribute.items, self.old.value.items) ∷ []))) result self.new }
     {
@@ -284,12 +287,12 @@ impl Reader {
         &mut self,
         alloc: Global,
         quote: Quote,
-        behind_return: bool,
+        after_return: bool,
         b: char,
     ) -> Result<State, Stop>
-        ensures { Goes (m.step_attribute_value (place_of self.old.place) self.old.name.items
+        ensures { StepTaken (m.step_attribute_value (place_of self.old.place) self.old.name.items
             self.old.attributes self.old.attribute.items (quote_of quote) self.old.value.items
-            behind_return (class b) b) result self.new }
+            after_return (class b) b) result self.new }
     {
         match (quote, class_of(b)) {
             (Quote::Double, Class::DoubleQuote) => self.attribute_end(alloc),
@@ -298,7 +301,7 @@ impl Reader {
             (_, Class::Bad) => Err(Stop::Dead(bad(b))),
             (_, Class::Ampersand) => Ok(State::Reference(Hole::InValue(quote))),
             _ => {
-                push_raw(&mut self.value, behind_return, b)?;
+                push_raw(&mut self.value, after_return, b)?;
                 Ok(State::AttributeValue(quote, b == '\r'))
             }
         }

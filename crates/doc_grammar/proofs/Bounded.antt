@@ -12,8 +12,8 @@ use Rattle.doc_grammar.proofs.Sizes.{size, size_cons, size_append, Takes, past_c
 whole : (text : List ℕ) → Takes (size text) text
 whole text = record { bytes = omega arith }
 
-front : (x text : List ℕ) → Takes (size x) (x ++ text)
-front x text = record { bytes = omega (arith, size_append x text) }
+prefix : (x text : List ℕ) → Takes (size x) (x ++ text)
+prefix x text = record { bytes = omega (arith, size_append x text) }
 
 at_most : {k n : ℕ} {text : List ℕ} → Takes k text → size text ≤ n → k ≤ n
 at_most h le = omega (arith, h.bytes, le)
@@ -45,7 +45,7 @@ TextsWithin most p = (size p.0 ≤ most) × (size p.1 ≤ most)
 
 attr_within : (most : ℕ) (a : Attr) (text : List ℕ) → size (print_attr a text) ≤ most → TextsWithin most (attr_of a)
 attr_within most a text h =
-    let name : Takes (size a.name) (print_attr a text) = past_char a.first (past a.before (front a.name _)) in
+    let name : Takes (size a.name) (print_attr a text) = past_char a.first (past a.before (prefix a.name _)) in
     let value : Takes (size (value_of false a.value)) (print_attr a text) =
     past_char a.first (past a.before (past a.name (past a.left (past_char 61 (past a.right (past_char (quote_char a.quote) (value_takes a.value _))))))) in
     (at_most name h, at_most value h)
@@ -75,7 +75,7 @@ kept_within most (p ∷ ps) h =
 
 tag_within : (most : ℕ) (t : Tag) (text : List ℕ) (parent : Option ℕ) → size (print_tag t text) ≤ most → NodeWithin most (tag_node t parent)
 tag_within most t text parent h =
-    let name = at_most (front t.name (print_attrs t.attrs (t.gap ++ text))) h in
+    let name = at_most (prefix t.name (print_attrs t.attrs (t.gap ++ text))) h in
     let attrs = past t.name (whole (print_attrs t.attrs (t.gap ++ text))) in
     (omega (arith, local_size t.name, name), kept_within most (map attr_of t.attrs) (All-map (TextsWithin most) attr_of t.attrs (attrs_within most t.attrs (t.gap ++ text) (at_most attrs h))))
 
@@ -104,19 +104,19 @@ under_within most (instruction target t c) text parent n h =
 under_within most (section t c) text parent n h =
     under_within most c text parent n (at_most (past_section t (whole (print c text))) h)
 under_within most (empty t c) text parent n h =
-    let behind = 47 ∷ 62 ∷ print c text in
-    let tag = at_most (past_char 60 (whole (print_tag t behind))) h in
+    let after = 47 ∷ 62 ∷ print c text in
+    let tag = at_most (past_char 60 (whole (print_tag t after))) h in
     let rest = at_most (past_char 60 (past_tag t (past_char 47 (past_char 62 (whole (print c text)))))) h in
-    All-cons (NodeWithin most) (tag_node t parent) (nodes_under c parent (n + 1)) (tag_within most t behind parent tag) (under_within most c text parent (n + 1) rest)
+    All-cons (NodeWithin most) (tag_node t parent) (nodes_under c parent (n + 1)) (tag_within most t after parent tag) (under_within most c text parent (n + 1) rest)
 under_within most (element t kids gap c) text parent n h =
     let closing = 60 ∷ 47 ∷ (t.name ++ (gap ++ 62 ∷ print c text)) in
-    let behind = 62 ∷ print kids closing in
-    let tag = at_most (past_char 60 (whole (print_tag t behind))) h in
+    let after = 62 ∷ print kids closing in
+    let tag = at_most (past_char 60 (whole (print_tag t after))) h in
     let inside = at_most (past_char 60 (past_tag t (past_char 62 (whole (print kids closing))))) h in
     let rest = at_most (past_char 60 (past_tag t (past_char 62 (past_content kids (past_end t gap (whole (print c text))))))) h in
     let below = nodes_under kids (Some n) (n + 1) in
     let others = nodes_under c parent (n + 1 + count kids) in
-    All-cons (NodeWithin most) (tag_node t parent) (below ++ others) (tag_within most t behind parent tag) (All-append (NodeWithin most) below others (under_within most kids closing (Some n) (n + 1) inside) (under_within most c text parent (n + 1 + count kids) rest))
+    All-cons (NodeWithin most) (tag_node t parent) (below ++ others) (tag_within most t after parent tag) (All-append (NodeWithin most) below others (under_within most kids closing (Some n) (n + 1) inside) (under_within most c text parent (n + 1 + count kids) rest))
 
 -- ---- documents
 

@@ -71,16 +71,16 @@ all_named [] h = absurd h
 all_named (b ∷ n) h = (ap names h.0, h.1)
 
 -- a text whose bytes end in an ASCII one ends in that character
-pub ends_ascii : (pc front : List ℕ) (a : ℕ) → a < 128 → encode_utf8_all pc ≡ front ++ a ∷ [] → (fc : List ℕ) × (pc ≡ fc ++ a ∷ []) × (encode_utf8_all fc ≡ front)
-ends_ascii [] front a h e = absurd (no_cons front [] a e)
-ends_ascii (c ∷ pc) front a h e =
-    elim (split_at (encode_utf8 c) (encode_utf8_all pc) front [] a e) [
+pub ends_ascii : (pc prefix : List ℕ) (a : ℕ) → a < 128 → encode_utf8_all pc ≡ prefix ++ a ∷ [] → (fc : List ℕ) × (pc ≡ fc ++ a ∷ []) × (encode_utf8_all fc ≡ prefix)
+ends_ascii [] prefix a h e = absurd (no_cons prefix [] a e)
+ends_ascii (c ∷ pc) prefix a h e =
+    elim (split_at (encode_utf8 c) (encode_utf8_all pc) prefix [] a e) [
       | inl r ↦
-          let z = ascii_of c front r.0 a r.1 h in
+          let z = ascii_of c prefix r.0 a r.1 h in
           let y = encode_ascii a h in
           let x : encode_utf8 c ≡ a ∷ [] = ap encode_utf8 z ∙ y in
-          let w = one_front a front r.0 (sym x ∙ r.1) in
-          let k = no_more c pc front a (ap (λ q. q ++ encode_utf8_all pc) (sym x) ∙ e ∙ ap (λ q. q ++ a ∷ []) w) in
+          let w = one_prefix a prefix r.0 (sym x ∙ r.1) in
+          let k = no_more c pc prefix a (ap (λ q. q ++ encode_utf8_all pc) (sym x) ∙ e ∙ ap (λ q. q ++ a ∷ []) w) in
           ([], ap (λ q. q ∷ pc) z ∙ ap (λ q. a ∷ q) k, sym w)
       | inr r ↦ let d = ends_ascii pc r.0 a h r.2 in (c ∷ d.0, ap (λ q. c ∷ q) d.1, ap (λ q. encode_utf8 c ++ q) d.2 ∙ sym r.1)
     ]
@@ -89,12 +89,12 @@ ends_ascii (c ∷ pc) front a h e =
     no_bytes [] e = refl
     no_bytes (c ∷ pc) e = let f = first_byte c in absurd (cc (ap (λ q. q ++ encode_utf8_all pc) (sym f.2) ∙ e))
 
-    one_front : (a : ℕ) (u v : List ℕ) → a ∷ [] ≡ u ++ a ∷ v → u ≡ []
-    one_front a [] v e = refl
-    one_front a (b ∷ u) v e = absurd (no_cons u v a (cc e))
+    one_prefix : (a : ℕ) (u v : List ℕ) → a ∷ [] ≡ u ++ a ∷ v → u ≡ []
+    one_prefix a [] v e = refl
+    one_prefix a (b ∷ u) v e = absurd (no_cons u v a (cc e))
 
-    no_more : (c : ℕ) (pc front : List ℕ) (a : ℕ) → a ∷ encode_utf8_all pc ≡ a ∷ [] → pc ≡ []
-    no_more c pc front a e = no_bytes pc (cc e)
+    no_more : (c : ℕ) (pc prefix : List ℕ) (a : ℕ) → a ∷ encode_utf8_all pc ≡ a ∷ [] → pc ≡ []
+    no_more c pc prefix a e = no_bytes pc (cc e)
 
 -- ---- where the bytes of two characters part
 
@@ -133,22 +133,22 @@ parts (a ∷ xs) (b ∷ ys) = more_parts (eqb a b) a b xs ys refl (parts xs ys)
 
 -- what two characters' bytes begin with alike, and how that of c goes on as no other that t's would
 pub record Apart (t c n : ℕ) : Type 0 where
-  pub front : List ℕ
+  pub prefix : List ℕ
   pub next : ℕ
-  pub behind : List ℕ
+  pub after : List ℕ
   pub other : List ℕ
-  pub size : length front ≡ n
-  pub is : encode_utf8 c ≡ front ++ next ∷ behind
-  pub along : encode_utf8 t ≡ front ++ other
-  pub parted : (z : List ℕ) → encode_utf8 t ≡ front ++ next ∷ z → ⊥
+  pub size : length prefix ≡ n
+  pub is : encode_utf8 c ≡ prefix ++ next ∷ after
+  pub along : encode_utf8 t ≡ prefix ++ other
+  pub parted : (z : List ℕ) → encode_utf8 t ≡ prefix ++ next ∷ z → ⊥
 
 pub apart : (t c : ℕ) → eqb c t ≡ false → Apart t c (common_prefix_length (encode_utf8 t) (encode_utf8 c))
 apart t c e =
     elim (parts (encode_utf8 t) (encode_utf8 c)) [
       | inl p ↦ record {
-        front = common (encode_utf8 t) (encode_utf8 c);
+        prefix = common (encode_utf8 t) (encode_utf8 c);
         next = p.0;
-        behind = p.1;
+        after = p.1;
         other = p.2;
         size = length-common (encode_utf8 t) (encode_utf8 c);
         is = p.3;

@@ -22,18 +22,18 @@ use Rattle.doc_grammar.proofs.Tells.{TellsStart, TellsName, TellsBad}
 use Rattle.doc_grammar.proofs.Lift.{lifted, lift_begins}
 use Rattle.doc_grammar.proofs.Prefix as x
 
--- The bytes of c go on with the document along `front`, and with one more along no character.
+-- The bytes of c go on with the document along `prefix`, and with one more along no character.
 pub record Cut (pc : List ℕ) (s : State) (c : ℕ) (y : Why) : Type 0 where
-  pub front : List ℕ
+  pub prefix : List ℕ
   pub next : ℕ
-  pub behind : List ℕ
-  pub is : encode_utf8 c ≡ front ++ next ∷ behind
-  pub begins : BeginsOne strict (encode_utf8_all pc ++ front)
-  pub others : (l : Limits) → step l s (class c) c ≡ dead y → (a : ℕ) (v : List ℕ) → encode_utf8 a ≡ front ++ next ∷ v → Dead l s (class a) a
+  pub after : List ℕ
+  pub is : encode_utf8 c ≡ prefix ++ next ∷ after
+  pub begins : BeginsOne strict (encode_utf8_all pc ++ prefix)
+  pub others : (l : Limits) → step l s (class c) c ≡ dead y → (a : ℕ) (v : List ℕ) → encode_utf8 a ≡ prefix ++ next ∷ v → Dead l s (class a) a
 
 -- what begins some document, its prefixes begin
-pub front_begins : (l : Limits) (p q : List ℕ) → BeginsOne l (p ++ q) → BeginsOne l p
-front_begins l p q (rest, tree, d) = (q ++ rest, tree, subst (λ z. IsDocument l z tree) (append_assoc p q rest) d)
+pub prefix_begins : (l : Limits) (p q : List ℕ) → BeginsOne l (p ++ q) → BeginsOne l p
+prefix_begins l p q (rest, tree, d) = (q ++ rest, tree, subst (λ z. IsDocument l z tree) (append_assoc p q rest) d)
 
 pub on_step : (l : Limits) (p : List ℕ) (b : ℕ) (s t : State) (o : List Event) → Leads l m.start p s o → step l s (class b) b ≡ go t → Begins l (p ++ b ∷ [])
 on_step l p b s t o h e =
@@ -44,17 +44,17 @@ pub one_more : (p : List ℕ) (b : ℕ) → encode_utf8_all (p ++ b ∷ []) ≡ 
 one_more p b = encodes-append p (b ∷ []) ∙ ap (λ z. encode_utf8_all p ++ z) (append-nil (encode_utf8 b))
 
 -- a prefix of the bytes of a character that leads on
-along_begins : (l : Limits) (p : List ℕ) (t : ℕ) (front other : List ℕ) → encode_utf8 t ≡ front ++ other → Begins l (p ++ t ∷ []) → BeginsOne l (encode_utf8_all p ++ front)
-along_begins l p t front other e h =
-    front_begins l (encode_utf8_all p ++ front) other (subst (λ z. BeginsOne l z) (one_more p t ∙ ap (λ z. encode_utf8_all p ++ z) e ∙ sym (append_assoc (encode_utf8_all p) front other)) (lift_begins l (p ++ t ∷ []) h))
+along_begins : (l : Limits) (p : List ℕ) (t : ℕ) (prefix other : List ℕ) → encode_utf8 t ≡ prefix ++ other → Begins l (p ++ t ∷ []) → BeginsOne l (encode_utf8_all p ++ prefix)
+along_begins l p t prefix other e h =
+    prefix_begins l (encode_utf8_all p ++ prefix) other (subst (λ z. BeginsOne l z) (one_more p t ∙ ap (λ z. encode_utf8_all p ++ z) e ∙ sym (append_assoc (encode_utf8_all p) prefix other)) (lift_begins l (p ++ t ∷ []) h))
 
 unfoldable pub wholly_cut : (pc : List ℕ) (s : State) (o : List Event) (c : ℕ) (y : Why) → IsWholly y → Keeps s pc → Leads strict m.start pc s o → Cut pc s c y
 wholly_cut pc s o c y i k h =
     let f = first_byte c in
     record {
-      front = [];
+      prefix = [];
       next = f.0;
-      behind = f.1;
+      after = f.1;
       is = f.2;
       begins = subst (λ z. BeginsOne strict z) (sym (append-nil (encode_utf8_all pc))) (lift_begins strict pc (x.lead_begins strict pc s o h));
       others = λ l e a v q. dead_alike l s pc c a f.0 f.1 v y k i e f.2 q;
@@ -65,8 +65,8 @@ not_true : (t : Bool) → (t ≡ true → ⊥) → t ≡ false
 not_true true h = absurd (h refl)
 not_true false h = refl
 
-differs : (a t : ℕ) (front v : List ℕ) (b : ℕ) → ((z : List ℕ) → encode_utf8 t ≡ front ++ b ∷ z → ⊥) → encode_utf8 a ≡ front ++ b ∷ v → eqb a t ≡ false
-differs a t front v b p q = not_true (eqb a t) (λ h. p v (ap encode_utf8 (sym (eqb-true a t h)) ∙ q))
+differs : (a t : ℕ) (prefix v : List ℕ) (b : ℕ) → ((z : List ℕ) → encode_utf8 t ≡ prefix ++ b ∷ z → ⊥) → encode_utf8 a ≡ prefix ++ b ∷ v → eqb a t ≡ false
+differs a t prefix v b p q = not_true (eqb a t) (λ h. p v (ap encode_utf8 (sym (eqb-true a t h)) ∙ q))
 
 guard_false : (y : Why) (t : Bool) (s : State) → t ≡ false → is_dead (guard y t s) ≡ true
 guard_false y true s e = cc
@@ -77,17 +77,17 @@ name_cut pc o c ns t todo y e h =
     let d = apart t c e in
     let s = m.end_tag_name ns (t ∷ todo) in
     record {
-      front = d.front;
+      prefix = d.prefix;
       next = d.next;
-      behind = d.behind;
+      after = d.after;
       is = d.is;
-      begins = along_begins strict pc t d.front d.other d.along (on_step strict pc t s (m.end_tag_name ns todo) o h (ap (λ z. guard (partly t t) z (m.end_tag_name ns todo)) (eq-eqb t t refl)));
-      others = λ l f a v q. guard_false (partly t a) (eqb a t) (m.end_tag_name ns todo) (differs a t d.front v d.next d.parted q);
+      begins = along_begins strict pc t d.prefix d.other d.along (on_step strict pc t s (m.end_tag_name ns todo) o h (ap (λ z. guard (partly t t) z (m.end_tag_name ns todo)) (eq-eqb t t refl)));
+      others = λ l f a v q. guard_false (partly t a) (eqb a t) (m.end_tag_name ns todo) (differs a t d.prefix v d.next d.parted q);
     }
 
-low_char : (a : ℕ) (front v : List ℕ) (b : ℕ) → a < 128 → encode_utf8 a ≡ front ++ b ∷ v → b ≡ a
+low_char : (a : ℕ) (prefix v : List ℕ) (b : ℕ) → a < 128 → encode_utf8 a ≡ prefix ++ b ∷ v → b ≡ a
 low_char a [] v b h e = let z = encode_ascii a h in cc
-low_char a (x ∷ front) v b h e = let z = encode_ascii a h in absurd (none front v b (cc (z, e)))
+low_char a (x ∷ prefix) v b h e = let z = encode_ascii a h in absurd (none prefix v b (cc (z, e)))
   where
     none : (u v : List ℕ) (b : ℕ) → [] ≡ u ++ b ∷ v → ⊥
     none [] v b e = cc
@@ -101,13 +101,13 @@ start_dead l a h e = pick (eqb a 65279) e (high_class a h)
     pick false f (inl k) = ap (λ z. is_dead (step_after_byte_order_mark (partly 65279 a) z)) k
     pick false f (inr k) = ap (λ z. is_dead (step_after_byte_order_mark (partly 65279 a) z)) k
 
-start_others : (l : Limits) (c a : ℕ) (front behind v : List ℕ) (b : ℕ) (y : Why) → encode_utf8 c ≡ front ++ b ∷ behind → encode_utf8 a ≡ front ++ b ∷ v → ((z : List ℕ) → encode_utf8 65279 ≡ front ++ b ∷ z → ⊥) → step l m.start (class c) c ≡ dead y → Dead l m.start (class a) a
-start_others l c a front behind v b y e q p f =
+start_others : (l : Limits) (c a : ℕ) (prefix after v : List ℕ) (b : ℕ) (y : Why) → encode_utf8 c ≡ prefix ++ b ∷ after → encode_utf8 a ≡ prefix ++ b ∷ v → ((z : List ℕ) → encode_utf8 65279 ≡ prefix ++ b ∷ z → ⊥) → step l m.start (class c) c ≡ dead y → Dead l m.start (class a) a
+start_others l c a prefix after v b y e q p f =
     elim (cases_lt b 128) [
-      | inl lt ↦ let z : a ≡ c = ascii_of a front v b q lt ∙ sym (ascii_of c front behind b e lt) in subst (λ n. Dead l m.start (class n) n) (sym z) (ap is_dead f)
+      | inl lt ↦ let z : a ≡ c = ascii_of a prefix v b q lt ∙ sym (ascii_of c prefix after b e lt) in subst (λ n. Dead l m.start (class n) n) (sym z) (ap is_dead f)
       | inr le ↦ elim (cases_lt a 128) [
-        | inl lt ↦ let z = low_char a front v b lt q in absurd (omega (arith, z, lt, le))
-        | inr high ↦ start_dead l a high (differs a 65279 front v b p q)
+        | inl lt ↦ let z = low_char a prefix v b lt q in absurd (omega (arith, z, lt, le))
+        | inr high ↦ start_dead l a high (differs a 65279 prefix v b p q)
       ]
     ]
 
@@ -115,12 +115,12 @@ start_cut : (pc : List ℕ) (o : List Event) (c : ℕ) (y : Why) → eqb c 65279
 start_cut pc o c y e h =
     let d = apart 65279 c e in
     record {
-      front = d.front;
+      prefix = d.prefix;
       next = d.next;
-      behind = d.behind;
+      after = d.after;
       is = d.is;
-      begins = along_begins strict pc 65279 d.front d.other d.along (on_step strict pc 65279 m.start m.after_byte_order_mark o h refl);
-      others = λ l f a v q. start_others l c a d.front d.behind v d.next y d.is q d.parted f;
+      begins = along_begins strict pc 65279 d.prefix d.other d.along (on_step strict pc 65279 m.start m.after_byte_order_mark o h refl);
+      others = λ l f a v q. start_others l c a d.prefix d.after v d.next y d.is q d.parted f;
     }
 
 -- the two characters past ASCII that may stand nowhere
@@ -151,9 +151,9 @@ class_fffd = refl
 
 bad_cut : (pc : List ℕ) (s : State) (o : List Event) (c b : ℕ) (y : Why) (u : State) → encode_utf8 c ≡ 239 ∷ 191 ∷ b ∷ [] → Leads strict m.start pc s o → step strict s Letter 65533 ≡ go u → Cut pc s c y
 bad_cut pc s o c b y u e h g = record {
-  front = 239 ∷ 191 ∷ [];
+  prefix = 239 ∷ 191 ∷ [];
   next = b;
-  behind = [];
+  after = [];
   is = e;
   begins = along_begins strict pc 65533 (239 ∷ 191 ∷ []) (189 ∷ []) encode_fffd (on_step strict pc 65533 s u o h (ap (λ k. step strict s k 65533) class_fffd ∙ g));
   others = λ l f a v q. let z = encode_last c b a v e q in subst (λ n. Dead l s (class n) n) (sym z) (ap is_dead f);
@@ -162,7 +162,7 @@ bad_cut pc s o c b y u e h g = record {
 -- how far the bytes of a character lead that ends all documents, and that the reason tells it
 pub record PartCut (pc : List ℕ) (s : State) (c n : ℕ) : Type 0 where
   pub cut : Cut pc s c (w.Partly n)
-  pub size : length cut.front ≡ n
+  pub size : length cut.prefix ≡ n
 
 pub part_cut : (pc : List ℕ) (s : State) (o : List Event) (c n : ℕ) → IsScalar c → Leads strict m.start pc s o → TellsStart s c n ⊎ (TellsName s c n ⊎ TellsBad s (class c) c n) → PartCut pc s c n
 unfolding start_cut name_cut bad_cut
@@ -179,11 +179,11 @@ part_cut pc s o c n i h (inr (inr (u, k, j, f, g))) =
     ]
 
 -- no character that shares one byte more leads on
-pub blocks : (l : Limits) (pc : List ℕ) (s : State) (o : List Event) (c : ℕ) (y : Why) (k : Cut pc s c y) → Leads l m.start pc s o → step l s (class c) c ≡ dead y → (a : ℕ) (v : List ℕ) → encode_utf8 a ≡ k.front ++ k.next ∷ v → Begins l (pc ++ a ∷ []) → ⊥
+pub blocks : (l : Limits) (pc : List ℕ) (s : State) (o : List Event) (c : ℕ) (y : Why) (k : Cut pc s c y) → Leads l m.start pc s o → step l s (class c) c ≡ dead y → (a : ℕ) (v : List ℕ) → encode_utf8 a ≡ k.prefix ++ k.next ∷ v → Begins l (pc ++ a ∷ []) → ⊥
 blocks l pc s o c y k h e a v q begins =
     let r = dead_from (step l s (class a) a) (k.others l e a v q) in
     x.dead_end l r.0 pc a begins.0 s o begins.1 h r.1 (subst (λ z. Document l z begins.1) (append_assoc pc (a ∷ []) begins.0) begins.2)
 
 pub cut_longest : (pc : List ℕ) (s : State) (o : List Event) (c : ℕ) (rest : List ℕ) (y : Why) (k : Cut pc s c y) → Leads strict m.start pc s o → step strict s (class c) c ≡ dead y
-    → IsLongestOf strict ((encode_utf8_all pc ++ k.front) ++ k.next ∷ (k.behind ++ rest)) (encode_utf8_all pc ++ k.front)
-cut_longest pc s o c rest y k h e = lifted strict pc c k.front k.next k.behind rest k.is k.begins (blocks strict pc s o c y k h e)
+    → IsLongestOf strict ((encode_utf8_all pc ++ k.prefix) ++ k.next ∷ (k.after ++ rest)) (encode_utf8_all pc ++ k.prefix)
+cut_longest pc s o c rest y k h e = lifted strict pc c k.prefix k.next k.after rest k.is k.begins (blocks strict pc s o c y k h e)

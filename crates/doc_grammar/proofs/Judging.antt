@@ -25,7 +25,7 @@ use Rattle.doc_grammar.proofs.Keeps.{Keeps, keeps}
 use Rattle.doc_grammar.proofs.Tells.{Tells, tells_step}
 use Rattle.doc_grammar.proofs.Limits.{Lifted, deeper_step, repeated_step, lift_leads, IsHarmless, lifted_dead, IsQuiet, no_quiet}
 use Rattle.doc_grammar.proofs.Lift.{other_char, lift_begins}
-use Rattle.doc_grammar.proofs.Cuts.{Cut, part_cut, wholly_cut, blocks, cut_longest, front_begins, on_step, one_more, two_bad, encode_fffd, encode_fffe, encode_ffff}
+use Rattle.doc_grammar.proofs.Cuts.{Cut, part_cut, wholly_cut, blocks, cut_longest, prefix_begins, on_step, one_more, two_bad, encode_fffd, encode_fffe, encode_ffff}
 use Rattle.doc_grammar.proofs.Prefix as x
 use Rattle.doc_grammar.proofs.Backward as back
 use Rattle.doc_grammar.proofs.Forward as forth
@@ -39,69 +39,69 @@ not_document : (pc : List ℕ) (c : ℕ) (rest : List ℕ) (s : State) (o : List
 not_document pc c rest s o y h e tree (text, f, d) =
     x.dead_end strict y pc c rest s o tree h e (subst (λ z. Document strict z tree) (sym (encodes_same (pc ++ c ∷ rest) text f)) d)
 
-regroup : (pc : List ℕ) (c : ℕ) (rest front behind : List ℕ) (b : ℕ) → encode_utf8 c ≡ front ++ b ∷ behind → (encode_utf8_all pc ++ front) ++ b ∷ (behind ++ encode_utf8_all rest) ≡ encode_utf8_all (pc ++ c ∷ rest)
-regroup pc c rest front behind b e =
-    append_assoc (encode_utf8_all pc) front (b ∷ (behind ++ encode_utf8_all rest))
-    ∙ ap (λ z. encode_utf8_all pc ++ z) (sym (append_assoc front (b ∷ behind) (encode_utf8_all rest)) ∙ ap (λ z. z ++ encode_utf8_all rest) (sym e))
+regroup : (pc : List ℕ) (c : ℕ) (rest prefix after : List ℕ) (b : ℕ) → encode_utf8 c ≡ prefix ++ b ∷ after → (encode_utf8_all pc ++ prefix) ++ b ∷ (after ++ encode_utf8_all rest) ≡ encode_utf8_all (pc ++ c ∷ rest)
+regroup pc c rest prefix after b e =
+    append_assoc (encode_utf8_all pc) prefix (b ∷ (after ++ encode_utf8_all rest))
+    ∙ ap (λ z. encode_utf8_all pc ++ z) (sym (append_assoc prefix (b ∷ after) (encode_utf8_all rest)) ∙ ap (λ z. z ++ encode_utf8_all rest) (sym e))
     ∙ sym (encodes-append pc (c ∷ rest))
 
 -- where the machine stops, with a rule for the end of the longest prefix
 shown : (pc : List ℕ) (c : ℕ) (rest : List ℕ) (s : State) (o : List Event) (y : Why) (k : Cut pc s c y) (rule : Rule) (place : ℕ) → IsUtf8 (encode_utf8_all (pc ++ c ∷ rest)) → Leads strict m.start pc s o → step strict s (class c) c ≡ dead y
-    → IsRule rule (encode_utf8_all pc ++ k.front) (k.next ∷ (k.behind ++ encode_utf8_all rest)) place → IsBroken (encode_utf8_all (pc ++ c ∷ rest)) rule place
+    → IsRule rule (encode_utf8_all pc ++ k.prefix) (k.next ∷ (k.after ++ encode_utf8_all rest)) place → IsBroken (encode_utf8_all (pc ++ c ∷ rest)) rule place
 shown pc c rest s o y k rule place u h e r =
-    let g = regroup pc c rest k.front k.behind k.next k.is in
+    let g = regroup pc c rest k.prefix k.after k.next k.is in
     record {
       text = u;
       none = λ tree d. not_document pc c rest s o y h e tree d;
       shown = (
-        encode_utf8_all pc ++ k.front,
-        k.next ∷ (k.behind ++ encode_utf8_all rest),
+        encode_utf8_all pc ++ k.prefix,
+        k.next ∷ (k.after ++ encode_utf8_all rest),
         sym g,
-        subst (λ z. IsLongestOf strict z (encode_utf8_all pc ++ k.front)) g (cut_longest pc s o c (encode_utf8_all rest) y k h e),
+        subst (λ z. IsLongestOf strict z (encode_utf8_all pc ++ k.prefix)) g (cut_longest pc s o c (encode_utf8_all rest) y k h e),
         r,
       );
     }
 
 -- a limit that is lifted does not lead on, where it was not the reason
 not_lifted : (l : Limits) → ((s : State) (k : Class) (b : ℕ) → Lifted (step strict s k b) (step l s k b)) → (pc : List ℕ) (s : State) (o : List Event) (c : ℕ) (y : Why) (k : Cut pc s c y) → IsHarmless y → Leads strict m.start pc s o → step strict s (class c) c ≡ dead y
-    → BeginsOne l ((encode_utf8_all pc ++ k.front) ++ k.next ∷ []) → ⊥
+    → BeginsOne l ((encode_utf8_all pc ++ k.prefix) ++ k.next ∷ []) → ⊥
 not_lifted l f pc s o c y k q h e (rest, tree, (text, g, d)) =
     let dead_too = lifted_dead y (step strict s (class c) c) (step l s (class c) c) q e (f s (class c) c) in
-    other_char l pc c k.front k.next k.behind rest tree k.is (blocks l pc s o c y k (lift_leads l f pc m.start s o h) dead_too) text d
-    (sym g ∙ append_assoc (encode_utf8_all pc ++ k.front) (k.next ∷ []) rest ∙ append_assoc (encode_utf8_all pc) k.front (k.next ∷ rest))
+    other_char l pc c k.prefix k.next k.after rest tree k.is (blocks l pc s o c y k (lift_leads l f pc m.start s o h) dead_too) text d
+    (sym g ∙ append_assoc (encode_utf8_all pc ++ k.prefix) (k.next ∷ []) rest ∙ append_assoc (encode_utf8_all pc) k.prefix (k.next ∷ rest))
 
 no_deep : (pc : List ℕ) (s : State) (o : List Event) (c : ℕ) (y : Why) (k : Cut pc s c y) (rest : List ℕ) → IsHarmless y → Leads strict m.start pc s o → step strict s (class c) c ≡ dead y
-    → (n : ℕ) → IsTooDeep (encode_utf8_all pc ++ k.front) (k.next ∷ rest) n → ⊥
+    → (n : ℕ) → IsTooDeep (encode_utf8_all pc ++ k.prefix) (k.next ∷ rest) n → ⊥
 no_deep pc s o c y k rest q h e n r =
-    let z : k.next ≡ r.behind.0 = cc r.behind.2 in
-    not_lifted deeper deeper_step pc s o c y k q h e (subst (λ b. BeginsOne deeper ((encode_utf8_all pc ++ k.front) ++ b ∷ [])) (sym z) r.behind.4)
+    let z : k.next ≡ r.after.0 = cc r.after.2 in
+    not_lifted deeper deeper_step pc s o c y k q h e (subst (λ b. BeginsOne deeper ((encode_utf8_all pc ++ k.prefix) ++ b ∷ [])) (sym z) r.after.4)
 
 no_twice : (pc : List ℕ) (s : State) (o : List Event) (c : ℕ) (y : Why) (k : Cut pc s c y) (rest : List ℕ) → IsHarmless y → Leads strict m.start pc s o → step strict s (class c) c ≡ dead y
-    → (n : ℕ) → IsTwice (encode_utf8_all pc ++ k.front) (k.next ∷ rest) n → ⊥
+    → (n : ℕ) → IsTwice (encode_utf8_all pc ++ k.prefix) (k.next ∷ rest) n → ⊥
 no_twice pc s o c y k rest q h e n r =
-    let z : k.next ≡ r.behind.0 = cc r.behind.2 in
-    not_lifted repeated repeated_step pc s o c y k q h e (subst (λ b. BeginsOne repeated ((encode_utf8_all pc ++ k.front) ++ b ∷ [])) (sym z) r.behind.4)
+    let z : k.next ≡ r.after.0 = cc r.after.2 in
+    not_lifted repeated repeated_step pc s o c y k q h e (subst (λ b. BeginsOne repeated ((encode_utf8_all pc ++ k.prefix) ++ b ∷ [])) (sym z) r.after.4)
 
 -- an ASCII byte that follows the prefix is the character, and the prefix is the text before it
-alone : (c b : ℕ) (front behind : List ℕ) → encode_utf8 c ≡ front ++ b ∷ behind → b < 128 → (c ≡ b) × (front ≡ [])
-alone c b front behind e h =
-    let z = ascii_of c front behind b e h in
-    let y : b ∷ [] ≡ front ++ b ∷ behind = sym (encode_ascii b h) ∙ ap encode_utf8 (sym z) ∙ e in
-    (z, none front y)
+alone : (c b : ℕ) (prefix after : List ℕ) → encode_utf8 c ≡ prefix ++ b ∷ after → b < 128 → (c ≡ b) × (prefix ≡ [])
+alone c b prefix after e h =
+    let z = ascii_of c prefix after b e h in
+    let y : b ∷ [] ≡ prefix ++ b ∷ after = sym (encode_ascii b h) ∙ ap encode_utf8 (sym z) ∙ e in
+    (z, none prefix y)
   where
     empty_cons : (u v : List ℕ) (b : ℕ) → [] ≡ u ++ b ∷ v → ⊥
     empty_cons [] v b e = cc
     empty_cons (a ∷ u) v b e = cc
 
-    none : (u : List ℕ) → b ∷ [] ≡ u ++ b ∷ behind → u ≡ []
+    none : (u : List ℕ) → b ∷ [] ≡ u ++ b ∷ after → u ≡ []
     none [] y = refl
-    none (a ∷ u) y = absurd (empty_cons u behind b (cc y))
+    none (a ∷ u) y = absurd (empty_cons u after b (cc y))
 
 quiet_doctype : (pc : List ℕ) (s : State) (o : List Event) (c : ℕ) (y : Why) (k : Cut pc s c y) (rest : List ℕ) → IsQuiet y → Leads strict m.start pc s o → step strict s (class c) c ≡ dead y
-    → (n : ℕ) → IsDoctype (encode_utf8_all pc ++ k.front) (k.next ∷ rest) n → ⊥
+    → (n : ℕ) → IsDoctype (encode_utf8_all pc ++ k.prefix) (k.next ∷ rest) n → ⊥
 quiet_doctype pc s o c y k rest q h e n r =
-    let z : k.next ≡ 68 = cc r.behind.1 in
-    let a = alone c k.next k.front k.behind k.is (subst (λ b. b < 128) (sym z) (omega arith)) in
+    let z : k.next ≡ 68 = cc r.after.1 in
+    let a = alone c k.next k.prefix k.after k.is (subst (λ b. b < 128) (sym z) (omega arith)) in
     let p : encode_utf8_all pc ≡ (r.before.0 ++ 60 ∷ []) ++ 33 ∷ [] =
     sym (append-nil (encode_utf8_all pc)) ∙ ap (λ w. encode_utf8_all pc ++ w) (sym a.1) ∙ r.before.1 ∙ sym (append_assoc r.before.0 (60 ∷ []) (33 ∷ [])) in
     let i = ends_ascii pc (r.before.0 ++ 60 ∷ []) 33 (omega arith) p in
@@ -110,14 +110,14 @@ quiet_doctype pc s o c y k rest q h e n r =
     no_quiet j.0 s o y q (subst (λ w. Leads strict m.start w s o) t h) (subst (λ w. step strict s (class w) w ≡ dead y) (a.0 ∙ z) e)
 
 malformed : (pc : List ℕ) (c : ℕ) (rest : List ℕ) (s : State) (o : List Event) (y : Why) (k : Cut pc s c y) → IsHarmless y → IsUtf8 (encode_utf8_all (pc ++ c ∷ rest)) → Leads strict m.start pc s o → step strict s (class c) c ≡ dead y
-    → ((n : ℕ) → IsDoctype (encode_utf8_all pc ++ k.front) (k.next ∷ (k.behind ++ encode_utf8_all rest)) n → ⊥)
-    → (place : ℕ) → place ≡ length (encode_utf8_all pc) + length k.front → IsBroken (encode_utf8_all (pc ++ c ∷ rest)) Malformed place
+    → ((n : ℕ) → IsDoctype (encode_utf8_all pc ++ k.prefix) (k.next ∷ (k.after ++ encode_utf8_all rest)) n → ⊥)
+    → (place : ℕ) → place ≡ length (encode_utf8_all pc) + length k.prefix → IsBroken (encode_utf8_all (pc ++ c ∷ rest)) Malformed place
 malformed pc c rest s o y k q u h e d place f =
     shown pc c rest s o y k Malformed place u h e (
-      f ∙ sym (length-append (encode_utf8_all pc) k.front),
+      f ∙ sym (length-append (encode_utf8_all pc) k.prefix),
       d,
-      no_deep pc s o c y k (k.behind ++ encode_utf8_all rest) q h e,
-      no_twice pc s o c y k (k.behind ++ encode_utf8_all rest) q h e,
+      no_deep pc s o c y k (k.after ++ encode_utf8_all rest) q h e,
+      no_twice pc s o c y k (k.after ++ encode_utf8_all rest) q h e,
     )
 
 no_more : (pc : List ℕ) → encode_utf8_all pc ++ [] ≡ encode_utf8_all pc
@@ -131,27 +131,27 @@ plain_fault : (pc : List ℕ) (c : ℕ) (rest : List ℕ) (s : State) (o : List 
 unfolding wholly_cut
 plain_fault pc c rest s o u h e =
     let k = wholly_cut pc s o c w.Plain tt (state_keeps pc s o h) h in
-    malformed pc c rest s o w.Plain k tt u h e (quiet_doctype pc s o c w.Plain k (k.behind ++ encode_utf8_all rest) tt h e) (length (encode_utf8_all pc)) (omega arith)
+    malformed pc c rest s o w.Plain k tt u h e (quiet_doctype pc s o c w.Plain k (k.after ++ encode_utf8_all rest) tt h e) (length (encode_utf8_all pc)) (omega arith)
 
 partly_fault : (pc : List ℕ) (c : ℕ) (rest : List ℕ) (s : State) (o : List Event) (n : ℕ) → IsScalar c → IsUtf8 (encode_utf8_all (pc ++ c ∷ rest)) → Leads strict m.start pc s o → step strict s (class c) c ≡ dead (w.Partly n)
     → IsBroken (encode_utf8_all (pc ++ c ∷ rest)) Malformed (length (encode_utf8_all pc) + n)
 partly_fault pc c rest s o n i u h e =
     let t = part_cut pc s o c n i h (subst (Tells s (class c) c) e (tells_step s (class c) c)) in
     let k = t.cut in
-    malformed pc c rest s o (w.Partly n) k tt u h e (quiet_doctype pc s o c (w.Partly n) k (k.behind ++ encode_utf8_all rest) tt h e) (length (encode_utf8_all pc) + n) (ap (λ z. length (encode_utf8_all pc) + z) (sym t.size))
+    malformed pc c rest s o (w.Partly n) k tt u h e (quiet_doctype pc s o c (w.Partly n) k (k.after ++ encode_utf8_all rest) tt h e) (length (encode_utf8_all pc) + n) (ap (λ z. length (encode_utf8_all pc) + z) (sym t.size))
 
 -- the bytes after `<!`
-bang_front : (pc : List ℕ) (s : State) (c : ℕ) (o : List Event) → Leads strict m.start pc s o → step strict s (class c) c ≡ dead w.Bang → (front : List ℕ) × (encode_utf8_all pc ≡ encode_utf8_all front ++ 60 ∷ 33 ∷ [])
-bang_front pc s c o h e =
+bang_prefix : (pc : List ℕ) (s : State) (c : ℕ) (o : List Event) → Leads strict m.start pc s o → step strict s (class c) c ≡ dead w.Bang → (prefix : List ℕ) × (encode_utf8_all pc ≡ encode_utf8_all prefix ++ 60 ∷ 33 ∷ [])
+bang_prefix pc s c o h e =
     let k = subst (Tells s (class c) c) e (tells_step s (class c) c) in
-    let f : (front : List ℕ) × (pc ≡ front ++ 60 ∷ 33 ∷ []) = (subst (λ z. Keeps z pc) k.1 (state_keeps pc s o h)).1 in
+    let f : (prefix : List ℕ) × (pc ≡ prefix ++ 60 ∷ 33 ∷ []) = (subst (λ z. Keeps z pc) k.1 (state_keeps pc s o h)).1 in
     (f.0, ap encode_utf8_all f.1 ∙ encodes-append f.0 (60 ∷ 33 ∷ []) ∙ ap (λ z. encode_utf8_all f.0 ++ z) two)
   where
     two : encode_utf8_all (60 ∷ 33 ∷ []) ≡ 60 ∷ 33 ∷ []
     two = ap (λ z. z ++ (encode_utf8 33 ++ [])) (encode_ascii 60 (omega arith)) ∙ ap (λ z. 60 ∷ (z ++ [])) (encode_ascii 33 (omega arith))
 
-front_length : (p front t : List ℕ) → p ≡ front ++ t → length p - length t ≡ length front
-front_length p front t e = let q = ap length e in omega (arith, q, length-append front t)
+prefix_length : (p prefix t : List ℕ) → p ≡ prefix ++ t → length p - length t ≡ length prefix
+prefix_length p prefix t e = let q = ap length e in omega (arith, q, length-append prefix t)
 
 fault_bang : (pc : List ℕ) (c : ℕ) (rest : List ℕ) (s : State) (o : List Event) → IsUtf8 (encode_utf8_all (pc ++ c ∷ rest)) → Leads strict m.start pc s o → step strict s (class c) c ≡ dead w.Bang
     → (t : Bool) → t ≡ starts_with eqb (encode_utf8_all (c ∷ rest)) doctype
@@ -159,18 +159,18 @@ fault_bang : (pc : List ℕ) (c : ℕ) (rest : List ℕ) (s : State) (o : List E
 unfolding wholly_cut
 fault_bang pc c rest s o u h e true q r d =
     let k = wholly_cut pc s o c w.Bang tt (state_keeps pc s o h) h in
-    let f = bang_front pc s c o h e in
-    let behind = encode_utf8_all (c ∷ rest) in
-    let g : k.next ∷ (k.behind ++ encode_utf8_all rest) ≡ behind = ap (λ z. z ++ encode_utf8_all rest) (sym k.is) in
+    let f = bang_prefix pc s c o h e in
+    let after = encode_utf8_all (c ∷ rest) in
+    let g : k.next ∷ (k.after ++ encode_utf8_all rest) ≡ after = ap (λ z. z ++ encode_utf8_all rest) (sym k.is) in
     subst (λ z. IsBroken (encode_utf8_all (pc ++ c ∷ rest)) z.0 z.1) (sym d)
     (shown pc c rest s o w.Bang k Doctype (length (encode_utf8_all pc) - 2) u h e
-    record { before = (encode_utf8_all f.0, no_more pc ∙ f.1, front_length (encode_utf8_all pc) (encode_utf8_all f.0) (60 ∷ 33 ∷ []) f.1); behind = (drop 7 behind, g ∙ (starts_is Decides-eqb behind doctype true q).0 refl) })
+    record { before = (encode_utf8_all f.0, no_more pc ∙ f.1, prefix_length (encode_utf8_all pc) (encode_utf8_all f.0) (60 ∷ 33 ∷ []) f.1); after = (drop 7 after, g ∙ (starts_is Decides-eqb after doctype true q).0 refl) })
 fault_bang pc c rest s o u h e false q r d =
     let k = wholly_cut pc s o c w.Bang tt (state_keeps pc s o h) h in
-    let behind = encode_utf8_all (c ∷ rest) in
-    let g : k.next ∷ (k.behind ++ encode_utf8_all rest) ≡ behind = ap (λ z. z ++ encode_utf8_all rest) (sym k.is) in
+    let after = encode_utf8_all (c ∷ rest) in
+    let g : k.next ∷ (k.after ++ encode_utf8_all rest) ≡ after = ap (λ z. z ++ encode_utf8_all rest) (sym k.is) in
     subst (λ z. IsBroken (encode_utf8_all (pc ++ c ∷ rest)) z.0 z.1) (sym d)
-    (malformed pc c rest s o w.Bang k tt u h e (λ n r. let y : false ≡ true = (starts_is Decides-eqb behind doctype false q).1 r.behind.0 (sym g ∙ r.behind.1) in cc) (length (encode_utf8_all pc)) (omega arith))
+    (malformed pc c rest s o w.Bang k tt u h e (λ n r. let y : false ≡ true = (starts_is Decides-eqb after doctype false q).1 r.after.0 (sym g ∙ r.after.1) in cc) (length (encode_utf8_all pc)) (omega arith))
 
 -- the letter that begins an element, or one with the same first byte
 deep_letter : (c b : ℕ) (u : List ℕ) → IsScalar c → encode_utf8 c ≡ b ∷ u → (class c ≡ Letter) ⊎ ((class c ≡ Bad) × (128 ≤ c)) → (d : ℕ) × (v : List ℕ) × (class d ≡ Letter) × (encode_utf8 d ≡ b ∷ v)
@@ -196,7 +196,7 @@ begins_name c b u e (inr (k, h)) = inr (high_byte c [] u b e h)
 -- the first byte of a character that leads on
 byte_begins : (l : Limits) (pc : List ℕ) (d b : ℕ) (v : List ℕ) → encode_utf8 d ≡ b ∷ v → Begins l (pc ++ d ∷ []) → BeginsOne l ((encode_utf8_all pc ++ []) ++ b ∷ [])
 byte_begins l pc d b v e h =
-    front_begins l ((encode_utf8_all pc ++ []) ++ b ∷ []) v (subst (λ z. BeginsOne l z)
+    prefix_begins l ((encode_utf8_all pc ++ []) ++ b ∷ []) v (subst (λ z. BeginsOne l z)
     (one_more pc d ∙ ap (λ z. encode_utf8_all pc ++ z) e ∙ ap (λ z. z ++ b ∷ v) (sym (no_more pc)) ∙ sym (append_assoc (encode_utf8_all pc ++ []) (b ∷ []) v)) (lift_begins l (pc ++ d ∷ []) h))
 
 fault_deep : (pc : List ℕ) (c : ℕ) (rest : List ℕ) (s : State) (o : List Event) → IsScalar c → IsUtf8 (encode_utf8_all (pc ++ c ∷ rest)) → Leads strict m.start pc s o → step strict s (class c) c ≡ dead w.Deep
@@ -205,15 +205,15 @@ unfolding wholly_cut
 fault_deep pc c rest s o i u h e =
     let t = subst (Tells s (class c) c) e (tells_step s (class c) c) in
     let k = wholly_cut pc s o c w.Deep tt (state_keeps pc s o h) h in
-    let f : (front : List ℕ) × (pc ≡ front ++ 60 ∷ []) = (subst (λ z. Keeps z pc) t.1 (state_keeps pc s o h)).1 in
+    let f : (prefix : List ℕ) × (pc ≡ prefix ++ 60 ∷ []) = (subst (λ z. Keeps z pc) t.1 (state_keeps pc s o h)).1 in
     let g : encode_utf8_all pc ≡ encode_utf8_all f.0 ++ 60 ∷ [] = ap encode_utf8_all f.1 ∙ one_more f.0 60 ∙ ap (λ z. encode_utf8_all f.0 ++ z) (encode_ascii 60 (omega arith)) in
-    let d = deep_letter c k.next k.behind i k.is t.2 in
+    let d = deep_letter c k.next k.after i k.is t.2 in
     let up = lift_leads deeper deeper_step pc m.start s o h in
     let y = on_step deeper pc d.0 s (m.tag_name t.0 (d.0 ∷ [])) o up (ap (λ z. step deeper s z d.0) d.2 ∙ t.3 d.0) in
     shown pc c rest s o w.Deep k TooDeep (length (encode_utf8_all pc) - 1) u h e
     record {
-      before = (encode_utf8_all f.0, no_more pc ∙ g, front_length (encode_utf8_all pc) (encode_utf8_all f.0) (60 ∷ []) g);
-      behind = (k.next, k.behind ++ encode_utf8_all rest, refl, begins_name c k.next k.behind k.is t.2, byte_begins deeper pc d.0 k.next d.1 d.3 y);
+      before = (encode_utf8_all f.0, no_more pc ∙ g, prefix_length (encode_utf8_all pc) (encode_utf8_all f.0) (60 ∷ []) g);
+      after = (k.next, k.after ++ encode_utf8_all rest, refl, begins_name c k.next k.after k.is t.2, byte_begins deeper pc d.0 k.next d.1 d.3 y);
     }
 
 low_end : (c : ℕ) → (class c ≡ Blank) ⊎ (class c ≡ Equal) → c < 128
@@ -227,7 +227,7 @@ fault_twice pc c rest s o n u h e =
     let t = subst (Tells s (class c) c) e (tells_step s (class c) c) in
     let k = wholly_cut pc s o c (w.Twice n) tt (state_keeps pc s o h) h in
     let name = t.3 in
-    let f : (front : List ℕ) × (a : ℕ) × (pc ≡ front ++ a ∷ name) × (class a ≡ Blank) × IsName name = (subst (λ z. Keeps z pc) t.5 (state_keeps pc s o h)).2 in
+    let f : (prefix : List ℕ) × (a : ℕ) × (pc ≡ prefix ++ a ∷ name) × (class a ≡ Blank) × IsName name = (subst (λ z. Keeps z pc) t.5 (state_keeps pc s o h)).2 in
     let g : encode_utf8_all pc ≡ encode_utf8_all f.0 ++ f.1 ∷ encode_utf8_all name =
     ap encode_utf8_all f.2 ∙ encodes-append f.0 (f.1 ∷ name) ∙ ap (λ z. encode_utf8_all f.0 ++ (z ++ encode_utf8_all name)) (encode_ascii f.1 (blank_low f.1 f.3)) in
     let size = ap length g in
@@ -238,7 +238,7 @@ fault_twice pc c rest s o n u h e =
     shown pc c rest s o (w.Twice n) k AttributeTwice (length (encode_utf8_all pc) - n) u h e
     record {
       before = (encode_utf8_all f.0, f.1, name, no_more pc ∙ g, f.3, f.4, omega (arith, size, it, length-append (encode_utf8_all f.0) (f.1 ∷ encode_utf8_all name)));
-      behind = (k.next, k.behind ++ encode_utf8_all rest, refl, subst (λ z. (class z ≡ Blank) ⊎ (class z ≡ Equal)) (sym same) t.7, byte_begins repeated pc c k.next k.behind k.is y);
+      after = (k.next, k.after ++ encode_utf8_all rest, refl, subst (λ z. (class z ≡ Blank) ⊎ (class z ≡ Equal)) (sym same) t.7, byte_begins repeated pc c k.next k.after k.is y);
     }
 
 -- a character that no document goes on with
@@ -264,8 +264,8 @@ end_fault p s o u h q =
         bytes,
         [],
         sym (append-nil bytes),
-        record { front = ([], sym (append-nil bytes)); begins = lift_begins strict p (x.lead_begins strict p s o h); longest = λ z rest e g. let k = ap length e in omega (arith, k, length-append z rest) },
-        (refl, λ n r. no_cons r.behind.1, λ n r. no_cons r.behind.2, λ n r. no_cons r.behind.2),
+        record { prefix = ([], sym (append-nil bytes)); begins = lift_begins strict p (x.lead_begins strict p s o h); longest = λ z rest e g. let k = ap length e in omega (arith, k, length-append z rest) },
+        (refl, λ n r. no_cons r.after.1, λ n r. no_cons r.after.2, λ n r. no_cons r.after.2),
       );
     }
 

@@ -33,10 +33,10 @@ low_all (t ∷ todo) = ltb t 128 && (not (eqb 60 t) && low_all todo)
 pub record Low (t : ℕ) (todo : List ℕ) : Type 0 where
   pub ascii : t < 128
   pub other : eqb 60 t ≡ false
-  pub behind : low_all todo ≡ true
+  pub after : low_all todo ≡ true
 
 low_parts : (t : ℕ) (todo : List ℕ) (u v : Bool) → u ≡ ltb t 128 → v ≡ eqb 60 t → u && (not v && low_all todo) ≡ true → Low t todo
-low_parts t todo true false e f h = record { ascii = grind (arith, nat_tests); other = sym f; behind = h }
+low_parts t todo true false e f h = record { ascii = grind (arith, nat_tests); other = sym f; after = h }
 low_parts t todo true true e f h = cc
 low_parts t todo false v e f h = cc
 
@@ -47,7 +47,7 @@ low t todo h = low_parts t todo (ltb t 128) (eqb 60 t) refl refl h
 abbrev pub Keeps : State → List ℕ → Type 0
 Keeps m.start f = Unit {0}
 Keeps m.after_byte_order_mark f = Unit {0}
-Keeps m.document_tag_open f = (front : List ℕ) × (f ≡ front ++ 60 ∷ [])
+Keeps m.document_tag_open f = (prefix : List ℕ) × (f ≡ prefix ++ 60 ∷ [])
 Keeps m.document_processing_instruction f = Unit {0}
 Keeps (m.document_instruction_target n) f = Unit {0}
 Keeps m.before_version f = Unit {0}
@@ -61,8 +61,8 @@ Keeps (m.setting_value part q t todo) f = low_all (map (fold_for part) (t ∷ to
 Keeps (m.setting_value_end part q) f = Unit {0}
 Keeps m.declaration_end f = Unit {0}
 Keeps (m.content p) f = GoodPlace p
-Keeps (m.tag_open p) f = GoodPlace p × ((front : List ℕ) × (f ≡ front ++ 60 ∷ []))
-Keeps (m.markup_declaration p) f = GoodPlace p × ((front : List ℕ) × (f ≡ front ++ 60 ∷ 33 ∷ []))
+Keeps (m.tag_open p) f = GoodPlace p × ((prefix : List ℕ) × (f ≡ prefix ++ 60 ∷ []))
+Keeps (m.markup_declaration p) f = GoodPlace p × ((prefix : List ℕ) × (f ≡ prefix ++ 60 ∷ 33 ∷ []))
 Keeps (m.comment_start p) f = GoodPlace p
 Keeps (m.comment p) f = GoodPlace p
 Keeps (m.comment_dash p) f = GoodPlace p
@@ -77,8 +77,8 @@ Keeps (m.cdata_section n ns) f = AllOf names n × AllNames ns
 Keeps (m.cdata_section_bracket n ns) f = AllOf names n × AllNames ns
 Keeps (m.cdata_section_end n ns) f = AllOf names n × AllNames ns
 Keeps (m.tag_name p n) f = GoodPlace p × AllOf names n
-Keeps (m.before_attribute_name p n xs) f = GoodPlace p × AllOf names n × ((front : List ℕ) × (c : ℕ) × (f ≡ front ++ c ∷ []) × (class c ≡ Blank))
-Keeps (m.attribute_name p n xs y) f = GoodPlace p × AllOf names n × ((front : List ℕ) × (c : ℕ) × (f ≡ front ++ c ∷ y) × (class c ≡ Blank) × IsName y)
+Keeps (m.before_attribute_name p n xs) f = GoodPlace p × AllOf names n × ((prefix : List ℕ) × (c : ℕ) × (f ≡ prefix ++ c ∷ []) × (class c ≡ Blank))
+Keeps (m.attribute_name p n xs y) f = GoodPlace p × AllOf names n × ((prefix : List ℕ) × (c : ℕ) × (f ≡ prefix ++ c ∷ y) × (class c ≡ Blank) × IsName y)
 Keeps (m.after_attribute_name p n xs y) f = GoodPlace p × AllOf names n
 Keeps (m.before_attribute_value p n xs y) f = GoodPlace p × AllOf names n
 Keeps (m.attribute_value p n xs y q v r) f = GoodPlace p × AllOf names n
@@ -137,15 +137,15 @@ keep_tag p n xs Greater b f e h = (h.1, stack_good p h.0)
 keep_tag p n xs k b f e h = tt
 
 attribute_name_more : (p : Place) (n : List ℕ) (xs : List Pair) (y : List ℕ) (b : ℕ) (f : List ℕ) → names (class b) ≡ true → Keeps (m.attribute_name p n xs y) f → Keeps (m.attribute_name p n xs (y ++ b ∷ [])) (f ++ b ∷ [])
-attribute_name_more p n xs y b f e (g, a, (front, c, d, s, i)) = (g, a, (front, c, ap (λ z. z ++ b ∷ []) d ∙ append_assoc front (c ∷ y) (b ∷ []), s, name_push y b i e))
+attribute_name_more p n xs y b f e (g, a, (prefix, c, d, s, i)) = (g, a, (prefix, c, ap (λ z. z ++ b ∷ []) d ∙ append_assoc prefix (c ∷ y) (b ∷ []), s, name_push y b i e))
 
-less_more : (b : ℕ) (f : List ℕ) → class b ≡ Less → (front : List ℕ) × (f ++ b ∷ [] ≡ front ++ 60 ∷ [])
+less_more : (b : ℕ) (f : List ℕ) → class b ≡ Less → (prefix : List ℕ) × (f ++ b ∷ [] ≡ prefix ++ 60 ∷ [])
 less_more b f e = (f, ap (λ z. f ++ z ∷ []) (less_is b e))
 
-bang_more : (b : ℕ) (f : List ℕ) → class b ≡ Bang → ((front : List ℕ) × (f ≡ front ++ 60 ∷ [])) → (front : List ℕ) × (f ++ b ∷ [] ≡ front ++ 60 ∷ 33 ∷ [])
-bang_more b f e (front, d) = (front, ap (λ z. z ++ b ∷ []) d ∙ append_assoc front (60 ∷ []) (b ∷ []) ∙ ap (λ z. front ++ 60 ∷ z ∷ []) (bang_is b e))
+bang_more : (b : ℕ) (f : List ℕ) → class b ≡ Bang → ((prefix : List ℕ) × (f ≡ prefix ++ 60 ∷ [])) → (prefix : List ℕ) × (f ++ b ∷ [] ≡ prefix ++ 60 ∷ 33 ∷ [])
+bang_more b f e (prefix, d) = (prefix, ap (λ z. z ++ b ∷ []) d ∙ append_assoc prefix (60 ∷ []) (b ∷ []) ∙ ap (λ z. prefix ++ 60 ∷ z ∷ []) (bang_is b e))
 
-keep_tag_open : (p : Place) (k : Class) (b : ℕ) (f : List ℕ) → class b ≡ k → GoodPlace p → ((front : List ℕ) × (f ≡ front ++ 60 ∷ [])) → Kept (f ++ b ∷ []) (step_tag_open strict p k b)
+keep_tag_open : (p : Place) (k : Class) (b : ℕ) (f : List ℕ) → class b ≡ k → GoodPlace p → ((prefix : List ℕ) × (f ≡ prefix ++ 60 ∷ [])) → Kept (f ++ b ∷ []) (step_tag_open strict p k b)
 keep_tag_open before Bang b f e h d = (h, bang_more b f e d)
 keep_tag_open (within []) Bang b f e h d = (h, bang_more b f e d)
 keep_tag_open (within (n ∷ ns)) Bang b f e h d = (h, bang_more b f e d)
@@ -191,7 +191,7 @@ keep_step (m.between_settings part) Blank b f e h = tt
 keep_step (m.between_settings part) Question b f e h = tt
 keep_step (m.between_settings part) k b f e h = keep_part part b (f ++ b ∷ [])
 keep_step (m.setting_name part t []) k b f e h = kept_guard (f ++ b ∷ []) w.Plain (eqb b t) (m.after_setting_name part) tt
-keep_step (m.setting_name part t (u ∷ todo)) k b f e h = kept_guard (f ++ b ∷ []) w.Plain (eqb b t) (m.setting_name part u todo) (low t (u ∷ todo) h).behind
+keep_step (m.setting_name part t (u ∷ todo)) k b f e h = kept_guard (f ++ b ∷ []) w.Plain (eqb b t) (m.setting_name part u todo) (low t (u ∷ todo) h).after
 keep_step (m.after_setting_name part) Blank b f e h = tt
 keep_step (m.after_setting_name part) Equal b f e h = tt
 keep_step (m.after_setting_name part) k b f e h = tt
@@ -202,7 +202,7 @@ keep_step (m.before_setting_value part) k b f e h = tt
 keep_step (m.standalone_value q) k b f e h = kept_cond (f ++ b ∷ []) (eqb b 121) _ _ refl (kept_guard (f ++ b ∷ []) w.Plain (eqb b 110) (m.setting_value standalone q 111 []) refl)
 keep_step (m.setting_value part q t []) k b f e h = kept_guard (f ++ b ∷ []) w.Plain (eqb (fold_for part b) (fold_for part t)) (m.setting_value_end part q) tt
 keep_step (m.setting_value part q t (u ∷ todo)) k b f e h =
-    kept_guard (f ++ b ∷ []) w.Plain (eqb (fold_for part b) (fold_for part t)) (m.setting_value part q u todo) (low (fold_for part t) (map (fold_for part) (u ∷ todo)) h).behind
+    kept_guard (f ++ b ∷ []) w.Plain (eqb (fold_for part b) (fold_for part t)) (m.setting_value part q u todo) (low (fold_for part t) (map (fold_for part) (u ∷ todo)) h).after
 keep_step (m.setting_value_end part q) k b f e h = kept_guard (f ++ b ∷ []) w.Plain (eqb b (quote_char q)) (m.after_setting part) tt
 keep_step m.declaration_end Greater b f e h = tt
 keep_step m.declaration_end k b f e h = tt
@@ -244,7 +244,7 @@ keep_step (m.instruction_text p) k b f e h = h
 keep_step (m.instruction_end p) Bad b f e h = tt
 keep_step (m.instruction_end p) k b f e h = h
 keep_step (m.cdata_start n ns t []) k b f e h = kept_guard (f ++ b ∷ []) w.Plain (eqb b t) (m.cdata_section n ns) h.0
-keep_step (m.cdata_start n ns t (u ∷ todo)) k b f e h = kept_guard (f ++ b ∷ []) w.Plain (eqb b t) (m.cdata_start n ns u todo) (h.0, (low t (u ∷ todo) h.1).behind)
+keep_step (m.cdata_start n ns t (u ∷ todo)) k b f e h = kept_guard (f ++ b ∷ []) w.Plain (eqb b t) (m.cdata_start n ns u todo) (h.0, (low t (u ∷ todo) h.1).after)
 keep_step (m.cdata_section n ns) Bad b f e h = tt
 keep_step (m.cdata_section n ns) k b f e h = h
 keep_step (m.cdata_section_bracket n ns) Bad b f e h = tt
@@ -256,7 +256,7 @@ keep_step (m.tag_name p n) Digit b f e h = (h.0, names_push n b h.1 (ap names e)
 keep_step (m.tag_name p n) Dash b f e h = (h.0, names_push n b h.1 (ap names e))
 keep_step (m.tag_name p n) Bad b f e h = tt
 keep_step (m.tag_name p n) k b f e h = keep_tag p n [] k b f e h
-keep_step (m.before_attribute_name p n xs) Letter b f e (g, a, (front, c, d, s)) = (g, a, (front, c, ap (λ z. z ++ b ∷ []) d ∙ append_assoc front (c ∷ []) (b ∷ []), s, (e, tt)))
+keep_step (m.before_attribute_name p n xs) Letter b f e (g, a, (prefix, c, d, s)) = (g, a, (prefix, c, ap (λ z. z ++ b ∷ []) d ∙ append_assoc prefix (c ∷ []) (b ∷ []), s, (e, tt)))
 keep_step (m.before_attribute_name p n xs) Bad b f e h = tt
 keep_step (m.before_attribute_name p n xs) k b f e h = keep_tag p n xs k b f e (h.0, h.1)
 keep_step (m.attribute_name p n xs y) Letter b f e h = attribute_name_more p n xs y b f (ap names e) h
@@ -296,7 +296,7 @@ keep_step (m.reference h) k b f e g =
     (kept_cond f2 (eqb b 113) _ _ (g, refl) (kept_cond f2 (eqb b 35) _ _ g (kept_guard f2 w.Plain (eqb b 97) (m.reference_a h) g))))
 keep_step (m.reference_a h) k b f e g = kept_cond (f ++ b ∷ []) (eqb b 109) _ _ (g, refl) (kept_guard (f ++ b ∷ []) w.Plain (eqb b 112) _ (g, refl))
 keep_step (m.named_reference h code t []) k b f e g = kept_guard (f ++ b ∷ []) w.Plain (eqb b t) (after_reference h code) (after_reference_good h code (f ++ b ∷ []) g.0)
-keep_step (m.named_reference h code t (u ∷ todo)) k b f e g = kept_guard (f ++ b ∷ []) w.Plain (eqb b t) (m.named_reference h code u todo) (g.0, (low t (u ∷ todo) g.1).behind)
+keep_step (m.named_reference h code t (u ∷ todo)) k b f e g = kept_guard (f ++ b ∷ []) w.Plain (eqb b t) (m.named_reference h code u todo) (g.0, (low t (u ∷ todo) g.1).after)
 keep_step (m.numeric_reference h) k b f e g = kept_cond (f ++ b ∷ []) (eqb b 120) _ _ g (digit_good h ten 0 b (f ++ b ∷ []) g)
 keep_step (m.hexadecimal_reference h) k b f e g = digit_good h sixteen 0 b (f ++ b ∷ []) g
 keep_step (m.reference_digits h base n) k b f e g = kept_cond (f ++ b ∷ []) (eqb b 59) _ _ (kept_guard (f ++ b ∷ []) w.Plain (is_char n) (after_reference h n) (after_reference_good h n (f ++ b ∷ []) g)) (digit_good h base n b (f ++ b ∷ []) g)

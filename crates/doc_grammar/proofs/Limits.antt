@@ -186,12 +186,12 @@ then_along P Q (go s) o h g = (s, o, h, g)
 then_along P Q (emit s es) o h g = (s, g.0, h, g.2)
 
 -- after `<!` the `D` ends nothing quietly
-pub no_quiet : (front : List ℕ) (t : State) (o : List Event) (y : Why) → IsQuiet y → Leads strict m.start (front ++ 60 ∷ 33 ∷ []) t o → step strict t (class 68) 68 ≡ dead y → ⊥
-no_quiet front t o y q h e =
-    let d = lead_split front (60 ∷ 33 ∷ []) m.start t o h in
-    let k = keeps front m.start d.0 d.1 [] tt d.3 in
+pub no_quiet : (prefix : List ℕ) (t : State) (o : List Event) (y : Why) → IsQuiet y → Leads strict m.start (prefix ++ 60 ∷ 33 ∷ []) t o → step strict t (class 68) 68 ≡ dead y → ⊥
+no_quiet prefix t o y q h e =
+    let d = lead_split prefix (60 ∷ 33 ∷ []) m.start t o h in
+    let k = keeps prefix m.start d.0 d.1 [] tt d.3 in
     let a = then_along (λ v o. Leads strict v (33 ∷ []) t o) AfterBang (step strict d.0 (class 60) 60) d.2
-    (subst (λ c. Then AfterBang (step strict d.0 c 60)) (sym class_less) (after_less d.0 front k)) d.4 in
+    (subst (λ c. Then AfterBang (step strict d.0 c 60)) (sym class_less) (after_less d.0 prefix k)) d.4 in
     let b = then_along (λ v o. Leads strict v [] t o) (λ u. NotQuiet (step strict u Letter 68)) (step strict a.0 (class 33) 33) a.1
     (subst (λ c. Then (λ u. NotQuiet (step strict u Letter 68)) (step strict a.0 c 33)) (sym class_bang) a.2) a.3 in
     let c : NotQuiet (step strict t Letter 68) = subst (λ u. NotQuiet (step strict u Letter 68)) b.3.0 b.2 in

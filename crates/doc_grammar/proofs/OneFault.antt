@@ -14,20 +14,20 @@ use Rattle.doc_grammar.proofs.Classes.{class_of_D, blank_low, equal_is}
 use Rattle.doc_grammar.proofs.Bytes.{ascii_inside, all_named}
 use Rattle.doc_grammar.proofs.Prefix as x
 
-same_front : (p q u v : List ℕ) → length p ≡ length q → p ++ u ≡ q ++ v → p ≡ q
-same_front [] [] u v h e = refl
-same_front [] (b ∷ q) u v h e = absurd (omega (arith, h))
-same_front (a ∷ p) [] u v h e = absurd (omega (arith, h))
-same_front (a ∷ p) (b ∷ q) u v h e =
+same_prefix : (p q u v : List ℕ) → length p ≡ length q → p ++ u ≡ q ++ v → p ≡ q
+same_prefix [] [] u v h e = refl
+same_prefix [] (b ∷ q) u v h e = absurd (omega (arith, h))
+same_prefix (a ∷ p) [] u v h e = absurd (omega (arith, h))
+same_prefix (a ∷ p) (b ∷ q) u v h e =
     let e2 : p ++ u ≡ q ++ v = cc in
     let e3 : a ≡ b = cc in
-    let r : p ≡ q = same_front p q u v (omega (arith, h)) e2 in cc
+    let r : p ≡ q = same_prefix p q u v (omega (arith, h)) e2 in cc
 
 one_longest : (bytes p q u v : List ℕ) → IsLongestOf strict bytes p → IsLongestOf strict bytes q → bytes ≡ p ++ u → bytes ≡ q ++ v → p ≡ q
 one_longest bytes p q u v hp hq e f =
     let a = hp.longest q v f hq.begins in
     let b = hq.longest p u e hp.begins in
-    same_front p q u v (omega (arith, a, b)) (sym e ∙ f)
+    same_prefix p q u v (omega (arith, a, b)) (sym e ∙ f)
 
 -- the last byte
 no_snoc : (f : List ℕ) (a : ℕ) → f ++ a ∷ [] ≡ [] → ⊥
@@ -55,7 +55,7 @@ letter_apart b c u v e (inr h) k = let z : b ≡ c = cc in let y = low_end c k i
 not_longer : (f g n m : List ℕ) (c d : ℕ) → f ++ c ∷ encode_utf8_all n ≡ g ++ d ∷ encode_utf8_all m → IsName n → class d ≡ Blank → length g ≤ length f
 not_longer f g n m c d e h k =
     elim (cases_lt (length f) (length g)) [
-      | inl lt ↦ let r = x.longer_front strict f g (c ∷ encode_utf8_all n) (d ∷ encode_utf8_all m) e lt in
+      | inl lt ↦ let r = x.longer_prefix strict f g (c ∷ encode_utf8_all n) (d ∷ encode_utf8_all m) e lt in
           let z : encode_utf8_all n ≡ r.1 ++ d ∷ encode_utf8_all m = cc r.3 in
           let y = ascii_inside names n r.1 (encode_utf8_all m) d (blank_low d k) (all_named n h) z in
           let w = ap names k in absurd (cc (y, w))
@@ -81,10 +81,10 @@ both p u TooDeep TooDeep a b h k =
     (refl, h.before.2 ∙ ap length (append_cancel_right h.before.0 k.before.0 (60 ∷ []) (sym h.before.1 ∙ k.before.1)) ∙ sym k.before.2)
 both p u Doctype TooDeep a b h k = absurd (last_apart h.before.0 k.before.0 (sym h.before.1 ∙ k.before.1))
 both p u TooDeep Doctype a b h k = absurd (last_apart k.before.0 h.before.0 (sym k.before.1 ∙ h.before.1))
-both p u Doctype AttributeTwice a b h k = absurd (letter_apart 68 k.behind.0 _ _ (sym h.behind.1 ∙ k.behind.2) (inl class_of_D) k.behind.3)
-both p u AttributeTwice Doctype a b h k = absurd (letter_apart 68 h.behind.0 _ _ (sym k.behind.1 ∙ h.behind.2) (inl class_of_D) h.behind.3)
-both p u TooDeep AttributeTwice a b h k = absurd (letter_apart h.behind.0 k.behind.0 _ _ (sym h.behind.2 ∙ k.behind.2) h.behind.3 k.behind.3)
-both p u AttributeTwice TooDeep a b h k = absurd (letter_apart k.behind.0 h.behind.0 _ _ (sym k.behind.2 ∙ h.behind.2) k.behind.3 h.behind.3)
+both p u Doctype AttributeTwice a b h k = absurd (letter_apart 68 k.after.0 _ _ (sym h.after.1 ∙ k.after.2) (inl class_of_D) k.after.3)
+both p u AttributeTwice Doctype a b h k = absurd (letter_apart 68 h.after.0 _ _ (sym k.after.1 ∙ h.after.2) (inl class_of_D) h.after.3)
+both p u TooDeep AttributeTwice a b h k = absurd (letter_apart h.after.0 k.after.0 _ _ (sym h.after.2 ∙ k.after.2) h.after.3 k.after.3)
+both p u AttributeTwice TooDeep a b h k = absurd (letter_apart k.after.0 h.after.0 _ _ (sym k.after.2 ∙ h.after.2) k.after.3 h.after.3)
 both p u AttributeTwice AttributeTwice a b h k =
     let e = sym h.before.3 ∙ k.before.3 in
     let i = not_longer h.before.0 k.before.0 h.before.2 k.before.2 h.before.1 k.before.1 e h.before.5 k.before.4 in

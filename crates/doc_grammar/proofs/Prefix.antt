@@ -73,20 +73,20 @@ module _ (l : Limits) where
       subst (λ w. along (λ u. Run l u more) w r.0) e r.1
 
   -- two prefixes of one list: the longer one goes on after the shorter
-  pub longer_front : (p q x y : List ℕ) → p ++ x ≡ q ++ y → length p < length q → (b : ℕ) × (more : List ℕ) × (q ≡ p ++ b ∷ more) × (x ≡ b ∷ (more ++ y))
-  longer_front [] [] x y e h = absurd (omega (arith, h))
-  longer_front [] (b ∷ q) x y e h = (b, q, refl, e)
-  longer_front (a ∷ p) [] x y e h = absurd (omega (arith, h))
-  longer_front (a ∷ p) (b ∷ q) x y e h =
+  pub longer_prefix : (p q x y : List ℕ) → p ++ x ≡ q ++ y → length p < length q → (b : ℕ) × (more : List ℕ) × (q ≡ p ++ b ∷ more) × (x ≡ b ∷ (more ++ y))
+  longer_prefix [] [] x y e h = absurd (omega (arith, h))
+  longer_prefix [] (b ∷ q) x y e h = (b, q, refl, e)
+  longer_prefix (a ∷ p) [] x y e h = absurd (omega (arith, h))
+  longer_prefix (a ∷ p) (b ∷ q) x y e h =
       let e2 : p ++ x ≡ q ++ y = cc in
       let e3 : b ≡ a = cc in
-      let r = longer_front p q x y e2 (omega (arith, h)) in
+      let r = longer_prefix p q x y e2 (omega (arith, h)) in
       (r.0, r.1, ap (λ z. b ∷ z) r.2 ∙ ap (λ z. z ∷ (p ++ r.0 ∷ r.1)) e3, r.3)
 
   not_longer : (y : Why) (p : List ℕ) (b : ℕ) (rest : List ℕ) (t : State) (o : List Event) → Leads l start p t o → step l t (class b) b ≡ dead y → (q more : List ℕ) → p ++ b ∷ rest ≡ q ++ more → Begins l q → length q ≤ length p
   not_longer y p b rest t o h e q more f g =
       elim (cases_lt (length p) (length q)) [
-        | inl lt ↦ let d = longer_front p q (b ∷ rest) more f lt in
+        | inl lt ↦ let d = longer_prefix p q (b ∷ rest) more f lt in
             let s : d.0 ≡ b = cc d.3 in
             absurd (dead_end y p b (d.1 ++ g.0) t o g.1 h e
             (subst (λ z. Document l z g.1) (ap (λ z. z ++ g.0) d.2 ∙ append_assoc p (d.0 ∷ d.1) g.0 ∙ ap (λ z. p ++ z ∷ (d.1 ++ g.0)) s) g.2))
@@ -95,7 +95,7 @@ module _ (l : Limits) where
 
   pub dead_longest : (y : Why) (p : List ℕ) (b : ℕ) (rest : List ℕ) (t : State) (o : List Event) → Leads l start p t o → step l t (class b) b ≡ dead y → IsLongest l (p ++ b ∷ rest) p
   dead_longest y p b rest t o h e = record {
-    front = (b ∷ rest, refl);
+    prefix = (b ∷ rest, refl);
     begins = lead_begins p t o h;
     longest = λ q more f g. not_longer y p b rest t o h e q more f g;
   }

@@ -47,9 +47,9 @@ four_bytes (named quot) text =
     let h = at_least (38 ∷ 113 ∷ 117 ∷ 111 ∷ 116 ∷ 59 ∷ []) text in
     omega (arith, h)
 four_bytes (numbered base c digits) text =
-    let behind = c ∷ (digits ++ 59 ∷ text) in
-    let marked = at_least (38 ∷ 35 ∷ []) (base_mark base ++ behind) in
-    let unmarked = size_append (base_mark base) behind in
+    let after = c ∷ (digits ++ 59 ∷ text) in
+    let marked = at_least (38 ∷ 35 ∷ []) (base_mark base ++ after) in
+    let unmarked = size_append (base_mark base) after in
     let one = at_least (c ∷ []) (digits ++ 59 ∷ text) in
     let many = size_append digits (59 ∷ text) in
     let last = at_least (59 ∷ []) text in
@@ -63,16 +63,16 @@ raw_cases true blank c = omega arith
 raw_cases false true c = omega (arith, size_cons 32 [], (len_utf8_bounds c).0)
 raw_cases false false c = omega (arith, size_cons c [])
 
-raw_size : (behind_return : Bool) (c : ℕ) → size (raw_value behind_return c) ≤ len_utf8 c
-raw_size behind_return c = raw_cases (behind_return && (c == 10)) (is_blank c) c
+raw_size : (after_return : Bool) (c : ℕ) → size (raw_value after_return c) ≤ len_utf8 c
+raw_size after_return c = raw_cases (after_return && (c == 10)) (is_blank c) c
 
 -- what a reference names has at most four bytes; any other character of a value is one of the text, or a space in its place
-pub value_size : (behind_return : Bool) (ps : List Piece) (text : List ℕ) → size (value_of behind_return ps) + size text ≤ size (print_value ps text)
-value_size behind_return [] text = omega arith
-value_size behind_return (raw c ∷ ps) text =
+pub value_size : (after_return : Bool) (ps : List Piece) (text : List ℕ) → size (value_of after_return ps) + size text ≤ size (print_value ps text)
+value_size after_return [] text = omega arith
+value_size after_return (raw c ∷ ps) text =
     let rest = value_size (c == 13) ps text in
-    omega (arith, rest, size_append (raw_value behind_return c) (value_of (c == 13) ps), raw_size behind_return c, size_cons c (print_value ps text))
-value_size behind_return (ref r ∷ ps) text =
+    omega (arith, rest, size_append (raw_value after_return c) (value_of (c == 13) ps), raw_size after_return c, size_cons c (print_value ps text))
+value_size after_return (ref r ∷ ps) text =
     let rest = value_size false ps text in
     omega (arith, rest, size_cons (code_of r) (value_of false ps), (len_utf8_bounds (code_of r)).1, four_bytes r (print_value ps text))
 

@@ -20,7 +20,7 @@ BeginsOne l p = (rest : List ℕ) × (tree : List Event) × IsDocument l (p ++ r
 
 -- p is the longest prefix of the bytes that some document begins with
 pub record IsLongestOf (l : Limits) (bytes p : List ℕ) : Type 0 where
-  pub front : (rest : List ℕ) × (bytes ≡ p ++ rest)
+  pub prefix : (rest : List ℕ) × (bytes ≡ p ++ rest)
   pub begins : BeginsOne l p
   pub longest : (q rest : List ℕ) → bytes ≡ q ++ rest → BeginsOne l q → length q ≤ length p
 
@@ -30,8 +30,8 @@ doctype = codes "DOCTYPE"
 
 -- p ends in `<!`, and `DOCTYPE` follows (28)
 pub record IsDoctype (p rest : List ℕ) (place : ℕ) : Type 0 where
-  pub before : (front : List ℕ) × (p ≡ front ++ codes "<!") × (place ≡ length front)
-  pub behind : (more : List ℕ) × (rest ≡ doctype ++ more)
+  pub before : (prefix : List ℕ) × (p ≡ prefix ++ codes "<!") × (place ≡ length prefix)
+  pub after : (more : List ℕ) × (rest ≡ doctype ++ more)
 
 -- a byte that begins a character that may begin a name
 abbrev pub BeginsName : ℕ → Type 0
@@ -39,17 +39,17 @@ BeginsName b = (class b ≡ Letter) ⊎ (0x80 ≤ b)
 
 -- p ends in `<`, and the next byte begins the name of an element that stands too deep
 pub record IsTooDeep (p rest : List ℕ) (place : ℕ) : Type 0 where
-  pub before : (front : List ℕ) × (p ≡ front ++ codes "<") × (place ≡ length front)
-  pub behind :
+  pub before : (prefix : List ℕ) × (p ≡ prefix ++ codes "<") × (place ≡ length prefix)
+  pub after :
       (b : ℕ) × (more : List ℕ) × (rest ≡ b ∷ more) × BeginsName b × BeginsOne deeper (p ++ b ∷ [])
 
 -- p ends in the name of an attribute that its tag has already, and white space or `=` shows that it
 -- ends there
 pub record IsTwice (p rest : List ℕ) (place : ℕ) : Type 0 where
   pub before :
-      (front : List ℕ) × (c : ℕ) × (name : List ℕ) × (p ≡ front ++ c ∷ encode_utf8_all name)
-      × (class c ≡ Blank) × IsName name × (place ≡ length front + 1)
-  pub behind :
+      (prefix : List ℕ) × (c : ℕ) × (name : List ℕ) × (p ≡ prefix ++ c ∷ encode_utf8_all name)
+      × (class c ≡ Blank) × IsName name × (place ≡ length prefix + 1)
+  pub after :
       (b : ℕ) × (more : List ℕ) × (rest ≡ b ∷ more) × ((class b ≡ Blank) ⊎ (class b ≡ Equal))
       × BeginsOne repeated (p ++ b ∷ [])
 

@@ -27,8 +27,8 @@ is_xml name = bytes_eq (map fold_case name) (codes "xml")
 
 abbrev pub starts : List ℕ → List ℕ → Bool
 starts text [] = true
-starts [] (e ∷ front) = false
-starts (c ∷ text) (e ∷ front) = (c == e) && starts text front
+starts [] (e ∷ prefix) = false
+starts (c ∷ text) (e ∷ prefix) = (c == e) && starts text prefix
 
 -- characters among which the ending does not stand
 abbrev pub IsFree : List ℕ → List ℕ → Type 0
@@ -214,14 +214,14 @@ IsValue q (ref r ∷ ps) = IsReference r × IsValue q ps
 -- raw white space becomes a space (3.3.3);
 -- a line feed right after a carriage return belongs to it (2.11)
 abbrev pub raw_value : Bool → ℕ → List ℕ
-raw_value behind_return c =
-    if behind_return && (c == code "\n") then [] else (if is_blank c then code " " else c) ∷ []
+raw_value after_return c =
+    if after_return && (c == code "\n") then [] else (if is_blank c then code " " else c) ∷ []
 
 -- what the pieces mean, where the one before them is a raw carriage return or is none
 abbrev pub value_of : Bool → List Piece → List ℕ
-value_of behind_return [] = []
-value_of behind_return (raw c ∷ ps) = raw_value behind_return c ++ value_of (c == code "\r") ps
-value_of behind_return (ref r ∷ ps) = code_of r ∷ value_of false ps
+value_of after_return [] = []
+value_of after_return (raw c ∷ ps) = raw_value after_return c ++ value_of (c == code "\r") ps
+value_of after_return (ref r ∷ ps) = code_of r ∷ value_of false ps
 
 -- an attribute, with the white space around its parts; at least one character of it stands before
 -- the name
@@ -443,6 +443,6 @@ Begins l p = (rest : List ℕ) × (tree : List Event) × Document l (p ++ rest) 
 
 -- p is the longest prefix of the text that some document begins with
 pub record IsLongest (l : Limits) (text p : List ℕ) : Type 0 where
-  pub front : (rest : List ℕ) × (text ≡ p ++ rest)
+  pub prefix : (rest : List ℕ) × (text ≡ p ++ rest)
   pub begins : Begins l p
   pub longest : (q rest : List ℕ) → text ≡ q ++ rest → Begins l q → length q ≤ length p

@@ -39,11 +39,12 @@ Complete =
 -- the reason of a character that ends its run is the rule that the bytes break
 abbrev pub Judged : Type 0
 Judged =
-    (front : List ℕ) (c : ℕ) (rest : List ℕ) (s : State) (out : List Event) (why : Why) → IsScalar c
-    → IsUtf8 (encode_utf8_all (front ++ c ∷ rest)) → Leads strict start front s out
+    (prefix : List ℕ) (c : ℕ) (rest : List ℕ) (s : State) (out : List Event) (why : Why) →
+    IsScalar c
+    → IsUtf8 (encode_utf8_all (prefix ++ c ∷ rest)) → Leads strict start prefix s out
     → step strict s (class c) c ≡ dead why
-    → let found = judged why (encode_utf8_all (c ∷ rest)) (length (encode_utf8_all front)) in
-    IsBroken (encode_utf8_all (front ++ c ∷ rest)) found.0 found.1
+    → let found = judged why (encode_utf8_all (c ∷ rest)) (length (encode_utf8_all prefix)) in
+    IsBroken (encode_utf8_all (prefix ++ c ∷ rest)) found.0 found.1
 
 -- where the text ends in another state than a final one, it ends too early
 abbrev pub Cut : Type 0

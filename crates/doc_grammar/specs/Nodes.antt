@@ -49,15 +49,15 @@ outer (n ∷ ns) = ns
 
 -- the nodes of what begins and ends, after these, inside the elements with these numbers, the
 -- innermost first
-abbrev pub nodes_behind : List Event → List ℕ → List Node → List Node
-nodes_behind [] around nodes = nodes
-nodes_behind (begin name attrs ∷ events) around nodes =
-    nodes_behind events (length nodes ∷ around) (nodes ++ node name attrs (innermost around) ∷ [])
-nodes_behind (close ∷ events) around nodes = nodes_behind events (outer around) nodes
+abbrev pub nodes_after : List Event → List ℕ → List Node → List Node
+nodes_after [] around nodes = nodes
+nodes_after (begin name attrs ∷ events) around nodes =
+    nodes_after events (length nodes ∷ around) (nodes ++ node name attrs (innermost around) ∷ [])
+nodes_after (close ∷ events) around nodes = nodes_after events (outer around) nodes
 
 -- the nodes of a document
 abbrev pub nodes_of : List Event → List Node
-nodes_of events = nodes_behind events [] []
+nodes_of events = nodes_after events [] []
 
 -- the bytes are a document with these nodes
 abbrev pub Denotes : List ℕ → List Node → Type 0

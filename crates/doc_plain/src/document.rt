@@ -19,10 +19,10 @@ fn put(parts: &mut Parts, from: usize, to: usize) {
 
 /// An element with its start tag, its content and its end tag (39).
 fn is_long(text: &[u8], contents: &Parts, at: usize) -> bool {
-    for front in 0..text.len() {
-        if let Some(name) = start_name(&text[..front]) {
-            for back in front..text.len() {
-                let from = at.saturating_add(front);
+    for prefix in 0..text.len() {
+        if let Some(name) = start_name(&text[..prefix]) {
+            for back in prefix..text.len() {
+                let from = at.saturating_add(prefix);
                 let to = at.saturating_add(back);
                 if has(contents, from, to) && end_name(&text[back..]) == Some(name) {
                     return true;
@@ -37,8 +37,8 @@ fn is_long(text: &[u8], contents: &Parts, at: usize) -> bool {
 fn elements(text: &[u8]) -> Parts {
     let mut found = [0; MOST];
     let mut contents = [0; MOST];
-    for behind in 0..text.len() + 1 {
-        let from = text.len() - behind;
+    for after in 0..text.len() + 1 {
+        let from = text.len() - after;
         put(&mut contents, from, from);
         for to in from + 1..text.len() + 1 {
             let part = &text[from..to];

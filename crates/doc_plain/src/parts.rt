@@ -55,8 +55,8 @@ fn contains(text: &[u8], part: &[u8]) -> bool {
 }
 
 /// What stands between a beginning and an end that don't overlap.
-pub(crate) fn between<'a>(text: &'a [u8], front: &[u8], back: &[u8]) -> Option<&'a [u8]> {
-    match text.strip_prefix(front) {
+pub(crate) fn between<'a>(text: &'a [u8], prefix: &[u8], back: &[u8]) -> Option<&'a [u8]> {
+    match text.strip_prefix(prefix) {
         Some(rest) => rest.strip_suffix(back),
         None => None,
     }

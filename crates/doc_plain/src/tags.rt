@@ -18,8 +18,8 @@ fn is_given(text: &[u8]) -> bool {
     for at in 0..text.len() {
         if text[at] == b'=' && is_space(&text[..at]) {
             let rest = &text[at + 1..];
-            for behind in 0..rest.len() {
-                if is_space(&rest[..behind]) && is_value(&rest[behind..]) {
+            for after in 0..rest.len() {
+                if is_space(&rest[..after]) && is_value(&rest[after..]) {
                     return true;
                 }
             }

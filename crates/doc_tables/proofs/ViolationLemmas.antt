@@ -37,7 +37,7 @@ module _ {R : Type 0} (number : R → ℕ) (Violates : R → ℕ → Type 0) whe
 
   -- where the elements below the end keep all rules, and those past it, none is broken
   pub all_sound : (end : ℕ) → ((k : ℕ) → end ≤ k → BreaksNoRule Violates k) → ((k : ℕ) → k < end → BreaksNoRule Violates k) → HasNoViolation Violates
-  all_sound end past below rule k h = elim (cases_lt k end) [ inl lower ↦ below k lower rule h | inr behind ↦ past k behind rule h ]
+  all_sound end past below rule k h = elim (cases_lt k end) [ inl lower ↦ below k lower rule h | inr after ↦ past k after rule h ]
 
   -- where one is the first, the document isn't sound
   pub none_sound : (k : ℕ) (rule : R) → IsFirstViolation number Violates k rule → HasNoViolation Violates → ⊥

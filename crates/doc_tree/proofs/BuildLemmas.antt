@@ -13,9 +13,9 @@ pub below_snoc : (n : ℕ) (ks : List ℕ) (k : ℕ) → AllBelow n ks → k < n
 below_snoc n [] k a h = (h, tt)
 below_snoc n (j ∷ ks) k a h = (a.0, below_snoc n ks k a.1 h)
 
-pub below_front : (n : ℕ) (ks js : List ℕ) → AllBelow n (ks ++ js) → AllBelow n ks
-below_front n [] js a = tt
-below_front n (k ∷ ks) js a = (a.0, below_front n ks js a.1)
+pub below_prefix : (n : ℕ) (ks js : List ℕ) → AllBelow n (ks ++ js) → AllBelow n ks
+below_prefix n [] js a = tt
+below_prefix n (k ∷ ks) js a = (a.0, below_prefix n ks js a.1)
 
 pub reverse_snoc : (ks : List ℕ) (k : ℕ) → reverse (ks ++ k ∷ []) ≡ k ∷ reverse ks
 reverse_snoc ks k = reverse-append ks (k ∷ [])
@@ -66,7 +66,7 @@ begun_view self old new tree mid more x y k v e f g h i =
     ∙ ap (λ z. two (z ∷ reverse old) (mid ++ y ∷ [])) f ∙ ap (λ z. two (length z ∷ reverse old) (z ++ y ∷ [])) (sym e))
 
 pub popped_below : (n : ℕ) (old new : List ℕ) (last : Option ℕ) → AllBelow n old → old ≡ new ++ option_to_list last → AllBelow n new
-popped_below n old new last a e = below_front n new (option_to_list last) (subst (AllBelow n) e a)
+popped_below n old new last a e = below_prefix n new (option_to_list last) (subst (AllBelow n) e a)
 
 pub starts_below : (old around : List ℕ) (tree mid : List Node) (p q : Option ℕ) → AllBelow (length tree) old → mid ≡ tree → around ≡ old → ((count : ℕ) → AllBelow count around → IsBelow count p) → q ≡ p → IsBelow (length mid) q
 starts_below old around tree mid p q a e f h g =

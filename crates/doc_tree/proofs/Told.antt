@@ -3,7 +3,7 @@ use Rattle.std.proofs.Common.{◌≡◌, ℕ, List, [], ◌++◌, Ok, Err, Resul
 use Rattle.std.proofs.lemmas.List.{append-nil}
 use Rattle.doc_grammar.specs.Grammar.{Event}
 use Rattle.doc_grammar.specs.Faults.{IsFault}
-use Rattle.doc_grammar.specs.Nodes.{Node, Denotes, nodes_of, nodes_behind}
+use Rattle.doc_grammar.specs.Nodes.{Node, Denotes, nodes_of, nodes_after}
 use Rattle.doc_grammar.specs.declared.reasons.Rule.{Rule}
 use Rattle.doc_grammar.proofs.CallerLemmas.{one_tree, one_fault}
 use Rattle.doc_events.proofs.CallerLemmas.{no_document}
@@ -29,5 +29,5 @@ pub built_tree : (events : List Event) (around : List ℕ) (nodes : List Node) �
 built_tree events around nodes h = h [] ∙ ap nodes_of (append-nil events)
 
 -- events more were built
-pub built_more : (events es : List Event) (around around2 : List ℕ) (nodes nodes2 : List Node) → HasBuilt events around nodes → ((more : List Event) → nodes_behind more around2 nodes2 ≡ nodes_behind (es ++ more) around nodes) → HasBuilt (events ++ es) around2 nodes2
+pub built_more : (events es : List Event) (around around2 : List ℕ) (nodes nodes2 : List Node) → HasBuilt events around nodes → ((more : List Event) → nodes_after more around2 nodes2 ≡ nodes_after (es ++ more) around nodes) → HasBuilt (events ++ es) around2 nodes2
 built_more events es around around2 nodes nodes2 h k = λ more. k more ∙ h (es ++ more) ∙ ap nodes_of (sym (append_assoc events es more))

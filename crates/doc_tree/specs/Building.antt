@@ -1,7 +1,7 @@
 -- The nodes that are built.
 use Rattle.std.specs.Prelude.{◌≡◌, ℕ, ◌<◌, List, [], ◌∷◌, ◌++◌}
 use Rattle.doc_grammar.specs.Grammar.{Event}
-use Rattle.doc_grammar.specs.Nodes.{Node, nodes_behind, nodes_of}
+use Rattle.doc_grammar.specs.Nodes.{Node, nodes_after, nodes_of}
 
 -- the numbers of so many nodes
 abbrev pub AllBelow : ℕ → List ℕ → Type 0
@@ -12,4 +12,4 @@ AllBelow n (k ∷ ks) = (k < n) × AllBelow n ks
 -- gives the nodes of all
 abbrev pub HasBuilt : List Event → List ℕ → List Node → Type 0
 HasBuilt events around nodes =
-    (more : List Event) → nodes_behind more around nodes ≡ nodes_of (events ++ more)
+    (more : List Event) → nodes_after more around nodes ≡ nodes_of (events ++ more)

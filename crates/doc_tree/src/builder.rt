@@ -6,7 +6,7 @@ ghost use Rattle.doc_tree.specs.Building.{AllBelow};
 ghost use Rattle.doc_tree.specs.Elements.{IsBelow};
 ghost use Rattle.doc_grammar.specs.declared.reasons.Rule.{Rule};
 ghost use Rattle.doc_grammar.specs.Grammar as g;
-ghost use Rattle.doc_grammar.specs.Nodes.{nodes_behind};
+ghost use Rattle.doc_grammar.specs.Nodes.{nodes_after};
 ghost use Rattle.doc_events.specs.Pairs.{pair_of};
 ghost use Rattle.doc_events.specs.View.{events_at};
 ghost use Rattle.doc_events.specs.Answers.{Faults};
@@ -87,8 +87,8 @@ impl Builder {
 
     /// What the reader's last character completed.
     fn take(self, alloc: Global, token: Token, reader: &Reader) -> Result<Builder, AllocError>
-        ensures { IfOk result (λ b. (more : List g.Event) → nodes_behind more b.0 b.1
-            ≡ nodes_behind (events_at token reader.now ++ more) self.0 self.1) }
+        ensures { IfOk result (λ b. (more : List g.Event) → nodes_after more b.0 b.1
+            ≡ nodes_after (events_at token reader.now ++ more) self.0 self.1) }
     {
         match token {
             Token::Nothing => Ok(self),

@@ -38,7 +38,7 @@ use Rattle.system_model.specs.Sound.{IsRole, IsSound, IsTiming}
 use Rattle.system_model.proofs.CallerLemmas.{true_false, Placed, events_of, place_of}
 use Rattle.run_model.specs.Initial.{interval_in, shift_in}
 use Rattle.system_model.specs.Values.{is_active}
-use Rattle.slot_calls.specs.Log.{Asking, Sent}
+use Rattle.slot_calls.specs.Log.{ComponentCall, Sent}
 use Rattle.slot_calls.specs.Stage.{IsAnswered, IsGoodOf, shapes, shapes_of}
 use Rattle.event_iteration.specs.Questions as Q
 use Rattle.event_iteration.specs.Questions.{AreRunning, InstanceMode, IsActive, MayTell, first_reply, is_asked, is_asked_after, is_changing, modes}
@@ -186,15 +186,15 @@ pub record IsOne (shape : Shape) (i : ℕ) (call : Call) (reply : Reply) (log : 
   pub is : log ≡ record { component = i; exchange = record { call = call; result = Ok reply } } ∷ []
   pub good : grade_of shape call reply ≡ G.Good
 
-one_sent : (ss : List Shape) (i : ℕ) (call : Call) (shape : Shape) (reply : Reply) (s : Sent) → slice_get ss i ≡ Some shape → ◌≡◌ {A = Asking} (record { component = s.component; call = s.exchange.call }) (record { component = i; call = call }) → IsGoodOf ss s →
+one_sent : (ss : List Shape) (i : ℕ) (call : Call) (shape : Shape) (reply : Reply) (s : Sent) → slice_get ss i ≡ Some shape → ◌≡◌ {A = ComponentCall} (record { component = s.component; call = s.exchange.call }) (record { component = i; call = call }) → IsGoodOf ss s →
     Some reply ≡ result_ok s.exchange.result → IsOne shape i call reply (s ∷ [])
 one_sent ss i call shape reply s at is good told = by s.exchange.result refl (good shape) told
   where
     component : s.component ≡ i
-    component = ap (λ (a : Asking). a.component) is
+    component = ap (λ (a : ComponentCall). a.component) is
 
     call_is : s.exchange.call ≡ call
-    call_is = ap (λ (a : Asking). a.call) is
+    call_is = ap (λ (a : ComponentCall). a.call) is
 
     by : (r : Result Reply PeerFault) → s.exchange.result ≡ r → MatchResult r (λ x. grade_of (get_or ss s.component shape) s.exchange.call x ≡ G.Good) (λ fault. ⊥) → Some reply ≡ result_ok r → IsOne shape i call reply (s ∷ [])
     by (Ok x) result_is g same =

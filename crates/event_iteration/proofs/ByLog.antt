@@ -3,7 +3,7 @@ use Rattle.std.proofs.Common.{◌≡◌, ℕ, ℤ, Bool, List, [], ◌++◌, Con
 use Rattle.std.specs.Prelude.{◌==◌, if◌then◌else◌}
 use Rattle.fmu_peer.specs.Machine.{Machine, MachineState}
 use Rattle.system_model.specs.declared.system.Component.{Component}
-use Rattle.system_model.specs.Ports.{numbers}
+use Rattle.system_model.specs.Ports.{port_numbers}
 use Rattle.system_model.specs.Sound.{IsSound}
 use Rattle.run_model.specs.AfterInstant.{asks_again, asks_for_end, written}
 use Rattle.run_model.specs.Initial as I
@@ -37,9 +37,9 @@ pub use Rattle.event_iteration.proofs.Stages.{AreAll, IsRead, all_on, configured
 pub use Rattle.event_iteration.proofs.Timing.{IsAsked, IsQuestionOf, IsTimingOf, asked_interval, first_timers_are, fixed_read, intervals_read, next_timers_are, timings_are, timings_read}
 use Rattle.event_iteration.proofs.Updating.{any_is, events_are, states_updated}
 pub use Rattle.event_iteration.proofs.WalkAnswers.{last_alone_is_bad}
-pub use Rattle.event_iteration.proofs.WalkOnce.{Differ, each_call_once, own_append, seen_behind, twice_on, use_kept, use_stays}
+pub use Rattle.event_iteration.proofs.WalkOnce.{Differ, each_call_once, own_append, seen_after_all, twice_on, use_kept, use_stays}
 use Rattle.event_iteration.proofs.WalksBack.{finding_back, instant_back, setting_back, walked_to}
-pub use Rattle.event_iteration.proofs.Walking.{all_front}
+pub use Rattle.event_iteration.proofs.Walking.{all_prefix}
 
 -- ---- walks that have come as far as these ports, by what is told of a solution
 
@@ -48,7 +48,7 @@ pub record InitialSoFar (r : Run) (W : List (Option ℤ)) (taken : List ℕ) (va
   pub same : (q : ℕ) → Contains taken q → value values q ≡ value W q
   pub states : (i : ℕ) (c : Component) (m : Machine) (z : MachineState) → IsFmu r (I.initializing r) i c m z → state_by m z (part i log) ≡ state_written r.system.ports (only_at taken (written_at_port r.system.ports W)) i m z
 
-pub initial_so_far : (r : Run) → IsSound r.system → AreMachines r → (W : List (Option ℤ)) → I.SolvesInitially r W → (taken rest : List ℕ) → numbers r.system.initial_order ≡ taken ++ rest → (values : List (Option ℤ)) (log : List Sent) →
+pub initial_so_far : (r : Run) → IsSound r.system → AreMachines r → (W : List (Option ℤ)) → I.SolvesInitially r W → (taken rest : List ℕ) → port_numbers r.system.initial_order ≡ taken ++ rest → (values : List (Option ℤ)) (log : List Sent) →
     Explains r.system (initially r.system) (no_values r.system) taken values log → AreReplies r (I.initializing r) log → InitialSoFar r W taken values log
 initial_so_far r sound machines W solved taken rest is values log told replies =
     let back = finding_back r.system sound taken rest is values log told in
@@ -60,7 +60,7 @@ pub record InstantSoFar (r : Run) (s : Situation) (W : List (Option ℤ)) (taken
   pub states : (i : ℕ) (c : Component) (m : Machine) (z : MachineState) → IsFmu r s.states i c m z →
       state_by m z (part i log) ≡ (if c.shape.has_event_mode then state_written r.system.ports (only_at taken (written_at_port r.system.ports W)) i m z else z)
 
-pub instant_so_far : (r : Run) → IsSound r.system → AreMachines r → (s : Situation) → IsSituation r s → (ticks : ℕ → Bool) → AreTicks r.system r.plan.start s.timers s.t s.n ticks → (W : List (Option ℤ)) → Solves r s W → (taken rest : List ℕ) → numbers r.system.instant_order ≡ taken ++ rest →
+pub instant_so_far : (r : Run) → IsSound r.system → AreMachines r → (s : Situation) → IsSituation r s → (ticks : ℕ → Bool) → AreTicks r.system r.plan.start s.timers s.t s.n ticks → (W : List (Option ℤ)) → Solves r s W → (taken rest : List ℕ) → port_numbers r.system.instant_order ≡ taken ++ rest →
     (values : List (Option ℤ)) (log : List Sent) → Explains r.system (in_instant ticks (s.n == 0)) s.before taken values log → AreReplies r s.states log → InstantSoFar r s W taken values log
 instant_so_far r sound machines s situation ticks are_ticks W solved taken rest is values log told replies =
     let back = instant_back r.system sound ticks (s.n == 0) s.before situation.before taken rest is values log told in
@@ -71,7 +71,7 @@ instant_so_far r sound machines s situation ticks are_ticks W solved taken rest 
 
 pub initial_by_log : InitialByLog
 initial_by_log r values log sound machines told replies =
-    let order = numbers r.system.initial_order in
+    let order = port_numbers r.system.initial_order in
     let back = finding_back r.system sound order [] (sym (append-nil order)) values log told in
     let W = solvable_initially r sound machines in
     record {
@@ -90,7 +90,7 @@ fixed_by_log r values log sound machines answered replies =
 
 pub instant_by_log : InstantByLog
 instant_by_log r s ticks values log sound machines situation are_ticks places told replies =
-    let order = numbers r.system.instant_order in
+    let order = port_numbers r.system.instant_order in
     let rules = in_instant ticks (s.n == 0) in
     let back = walked_to r.system rules s.before order values log places (instant_back r.system sound ticks (s.n == 0) s.before situation.before order [] (sym (append-nil order)) values log told) in
     (solves r sound machines s situation ticks are_ticks values log back replies, states_are r sound machines s situation ticks are_ticks values log back replies)

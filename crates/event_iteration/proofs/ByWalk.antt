@@ -6,16 +6,16 @@ use Rattle.fmu_peer.specs.CloseAll.{Instance}
 use Rattle.system_model.specs.Needs.{Needs, NeedsInitially, is_unclocked_at}
 use Rattle.system_model.specs.Orders.{IsOrder}
 use Rattle.system_model.specs.declared.system.System.{System}
-use Rattle.system_model.specs.Ports.{numbers}
+use Rattle.system_model.specs.Ports.{port_numbers}
 use Rattle.system_model.specs.Sound.{IsSound}
 use Rattle.run_model.specs.Machines.{AreFitting}
 use Rattle.slot_calls.specs.declared.bad_answer.BadAnswer.{BadAnswer}
 use Rattle.slot_calls.specs.Stage.{shapes, shapes_of}
 use Rattle.event_iteration.specs.Explains.{Walks}
-use Rattle.event_iteration.specs.Initialization.{IsInitializing, initially, no_values}
+use Rattle.event_iteration.specs.Initialization.{IsInInitialization, initially, no_values}
 use Rattle.event_iteration.specs.Instants.{BeginsInstant, in_instant}
 use Rattle.event_iteration.specs.Turns.{Rules}
-use Rattle.event_iteration.specs.Waits.{Goes, MayWalk, untold}
+use Rattle.event_iteration.specs.Waits.{MayWalk, WalkOutcome, untold}
 use Rattle.event_iteration.proofs.Finding.{about_initially}
 use Rattle.event_iteration.proofs.InInstant as N
 use Rattle.event_iteration.proofs.InInstant.{about_instant}
@@ -29,11 +29,11 @@ shapes_untold (x ∷ is) = ap (λ (l : List Shape). x.view.fixed.shape ∷ l) (s
 
 -- a walk is told by its log
 pub walks_by : (IsAmong : ℕ → Type 0) (NeedsOf : ℕ → ℕ → Type 0) (system : System) (rules : Rules) → AreAbout NeedsOf system rules → (before : List (Option ℤ)) (order : List ℕ) → IsOrder IsAmong NeedsOf order → length before ≡ length system.ports →
-    (values : List (Option ℤ)) (olds news : List Instance) (result : Result (Unit {0}) BadAnswer) → Goes system rules before order values olds news result → Walks system rules before order values olds news result
+    (values : List (Option ℤ)) (olds news : List Instance) (result : Result (Unit {0}) BadAnswer) → WalkOutcome system rules before order values olds news result → Walks system rules before order values olds news result
 walks_by IsAmong NeedsOf system rules about before order ordered len values olds news (Ok x) (log, told, walked) =
     walked_all IsAmong NeedsOf system rules about before order ordered len olds news log told values walked
 walks_by IsAmong NeedsOf system rules about before order ordered len values olds news (Err bad) ends = record {
-  log = ends.front ++ ends.last ∷ [];
+  log = ends.prefix ++ ends.last ∷ [];
   told = ends.told;
   says = (
     ends.values,
@@ -42,10 +42,10 @@ walks_by IsAmong NeedsOf system rules about before order ordered len values olds
       p = ends.p;
       rest = ends.rest;
       order_is = ends.order_is;
-      front = ends.front;
+      prefix = ends.prefix;
       last = ends.last;
       log_is = refl;
-      told = explained IsAmong NeedsOf system rules about before order ordered len ends.taken (ends.p ∷ ends.rest) ends.values ends.front ends.order_is ends.walked;
+      told = explained IsAmong NeedsOf system rules about before order ordered len ends.taken (ends.p ∷ ends.rest) ends.values ends.prefix ends.order_is ends.walked;
       stops = ends.stops;
     },
   );
@@ -58,24 +58,24 @@ module _ (system : System) (sound : IsSound system) (olds : List Instance) (same
   -- ---- an instant
 
   module _ (ticks : ℕ → Bool) (is_first : Bool) (before : List (Option ℤ)) (len : length before ≡ length system.ports) where
-    pub may_walk_in_instant : AreFitting system before → All (λ (x : Instance). BeginsInstant x.view) olds → MayWalk system (in_instant ticks is_first) before (numbers system.instant_order) olds
+    pub may_walk_in_instant : AreFitting system before → All (λ (x : Instance). BeginsInstant x.view) olds → MayWalk system (in_instant ticks is_first) before (port_numbers system.instant_order) olds
     may_walk_in_instant fits begins taken p rest values log mids is walked told =
         N.may_turn system sound ticks is_first before len fits (map untold olds) mids same_untold
         (all_instances untold (λ (x : Instance). BeginsInstant x.view) olds (λ k d lt. let b = begins k d lt in record { running = b.running; unset = b.unset; room = b.room }))
         taken values log told walked rest p is
 
-    pub walks_in_instant : (values : List (Option ℤ)) (news : List Instance) (result : Result (Unit {0}) BadAnswer) → Goes system (in_instant ticks is_first) before (numbers system.instant_order) values olds news result →
-        Walks system (in_instant ticks is_first) before (numbers system.instant_order) values olds news result
+    pub walks_in_instant : (values : List (Option ℤ)) (news : List Instance) (result : Result (Unit {0}) BadAnswer) → WalkOutcome system (in_instant ticks is_first) before (port_numbers system.instant_order) values olds news result →
+        Walks system (in_instant ticks is_first) before (port_numbers system.instant_order) values olds news result
     walks_in_instant values news result goes =
-        walks_by (λ q. q < length system.ports) (Needs system) system (in_instant ticks is_first) (about_instant system ticks is_first) before (numbers system.instant_order) sound.instant_order len values olds news result goes
+        walks_by (λ q. q < length system.ports) (Needs system) system (in_instant ticks is_first) (about_instant system ticks is_first) before (port_numbers system.instant_order) sound.instant_order len values olds news result goes
 
   -- ---- Initialization Mode
 
-  pub may_walk_initially : All (λ (x : Instance). IsInitializing x.view) olds → MayWalk system (initially system) (no_values system) (numbers system.initial_order) olds
+  pub may_walk_initially : All (λ (x : Instance). IsInInitialization x.view) olds → MayWalk system (initially system) (no_values system) (port_numbers system.initial_order) olds
   may_walk_initially initializing taken p rest values log mids is walked told =
-      R.may_turn system sound (no_values system) (places_none system) (fits_none system) (map untold olds) mids same_untold (all_instances untold (λ (x : Instance). IsInitializing x.view) olds (λ k d lt. initializing k d lt)) taken values log told walked p
+      R.may_turn system sound (no_values system) (places_none system) (fits_none system) (map untold olds) mids same_untold (all_instances untold (λ (x : Instance). IsInInitialization x.view) olds (λ k d lt. initializing k d lt)) taken values log told walked p
 
-  pub walks_initially : (values : List (Option ℤ)) (news : List Instance) (result : Result (Unit {0}) BadAnswer) → Goes system (initially system) (no_values system) (numbers system.initial_order) values olds news result →
-      Walks system (initially system) (no_values system) (numbers system.initial_order) values olds news result
+  pub walks_initially : (values : List (Option ℤ)) (news : List Instance) (result : Result (Unit {0}) BadAnswer) → WalkOutcome system (initially system) (no_values system) (port_numbers system.initial_order) values olds news result →
+      Walks system (initially system) (no_values system) (port_numbers system.initial_order) values olds news result
   walks_initially values news result goes =
-      walks_by (λ q. is_unclocked_at system.ports q ≡ true) (NeedsInitially system) system (initially system) (about_initially system) (no_values system) (numbers system.initial_order) sound.initial_order (places_none system) values olds news result goes
+      walks_by (λ q. is_unclocked_at system.ports q ≡ true) (NeedsInitially system) system (initially system) (about_initially system) (no_values system) (port_numbers system.initial_order) sound.initial_order (places_none system) values olds news result goes

@@ -7,7 +7,7 @@ use Rattle.system_model.specs.declared.system.Component.{Component}
 use Rattle.system_model.specs.declared.system.Port.{Port}
 use Rattle.system_model.specs.declared.system.System.{System}
 use Rattle.system_model.specs.Needs.{is_unclocked}
-use Rattle.system_model.specs.Ports.{is_clock_role, numbers}
+use Rattle.system_model.specs.Ports.{is_clock_role, port_numbers}
 use Rattle.system_model.specs.Sound.{IsSound}
 use Rattle.system_model.proofs.CallerLemmas.{at_contains, true_false, clock_at, events_of, place_of}
 use Rattle.system_model.specs.Values.{is_present}
@@ -44,14 +44,14 @@ module _ (system : System) (sound : IsSound system) (c : Component) (plain : c.s
       by false clock = clock
 
   -- nor has one
-  clockless_of : (p : ℕ) (port : Port) → slice_get system.ports p ≡ Some port → slice_get system.components port.component.0 ≡ Some c → (length port.clocks == 0) ≡ true
+  pub clockless_of : (p : ℕ) (port : Port) → slice_get system.ports p ≡ Some port → slice_get system.components port.component.0 ≡ Some c → (length port.clocks == 0) ≡ true
   clockless_of p port is of = by port.clocks refl
     where
       by : (cs : List PortId) → port.clocks ≡ cs → (length cs == 0) ≡ true
       by [] same = refl
       by (x ∷ xs) same =
           let placed = place_of system sound p port is in
-          let clock = clock_at system sound p port placed x.0 (at_contains (numbers port.clocks) 0 x.0 (ap (λ cs. slice_get (numbers cs) 0) same)) in
+          let clock = clock_at system sound p port placed x.0 (at_contains (port_numbers port.clocks) 0 x.0 (ap (λ cs. slice_get (port_numbers cs) 0) same)) in
           absurd (true_false (sym clock.role ∙ no_clock_of x.0 clock.clock clock.is (ap (slice_get system.components) clock.component ∙ of)))
 
   pub present_of : (p : ℕ) (port : Port) (values : List (Option ℤ)) → slice_get system.ports p ≡ Some port → slice_get system.components port.component.0 ≡ Some c → is_present port values ≡ true

@@ -44,7 +44,7 @@ module _ (system : System) (sound : IsSound system) (now : List (Option ℤ)) wh
   abbrev Written : List ℕ → List Sent → Type 0
   Written taken log = (i : ℕ) (c : Component) → slice_get system.components i ≡ Some c → (m : Machine) (z : MachineState) → state_by m z (part i log) ≡ midst taken m z i c
 
-  module _ (pre : List ℕ) (p : ℕ) (reply : Option Reply) (values next : List (Option ℤ)) (front sent : List Sent) (here : Here NoNeeds pre p) (was : Written pre front) (turn : Turn system (before_step now) p reply values next sent) where
+  module _ (pre : List ℕ) (p : ℕ) (reply : Option Reply) (values next : List (Option ℤ)) (prefix sent : List Sent) (here : Here NoNeeds pre p) (was : Written pre prefix) (turn : Turn system (before_step now) p reply values next sent) where
     abbrev port : Port
     port = turn.port
 
@@ -68,8 +68,8 @@ module _ (system : System) (sound : IsSound system) (now : List (Option ℤ)) wh
         ∙ ap (write_if m port.reference mid) (sym (written_at-is system.ports now p port turn.is))
         ∙ writes_at_port system sound p port turn.is pre here.fresh at_port m z
 
-    written_more : Written (pre ++ p ∷ []) (front ++ sent)
-    written_more i c of m z = state_more turn front m z (midst pre m z) (midst (pre ++ p ∷ []) m z) (written_by_turn m z turn.component.shape.has_event_mode refl)
+    written_more : Written (pre ++ p ∷ []) (prefix ++ sent)
+    written_more i c of m z = state_more turn prefix m z (midst pre m z) (midst (pre ++ p ∷ []) m z) (written_by_turn m z turn.component.shape.has_event_mode refl)
         (λ k d other. ap (λ y. if d.shape.has_event_mode then z else y) (keeps_beside system p port turn.is pre at_port k other m z)) i c of (was i c of m z)
 
   written_at_last : (q : ℕ) → only_at (port_order system) at_port q ≡ at_port q
@@ -91,7 +91,7 @@ module _ (system : System) (sound : IsSound system) (now : List (Option ℤ)) wh
     state_is i c of m z =
         (along (λ q. q < length system.ports) NoNeeds system (before_step now) now (port_order system) (in_order system) len (λ taken v l. Written taken l)
         (λ j d at n y. nothing d.shape.has_event_mode j n y)
-        (λ pre p reply v next front sent here n was turn. written_more pre p reply v next front sent here was turn)
+        (λ pre p reply v next prefix sent here n was turn. written_more pre p reply v next prefix sent here was turn)
         (port_order system) [] values log (sym (append-nil (port_order system))) walked).1 i c of m z
         ∙ ap (λ w. if c.shape.has_event_mode then z else state_written system.ports w i m z) all_written_at_last
       where

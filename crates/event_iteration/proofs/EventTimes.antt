@@ -17,7 +17,7 @@ use Rattle.fmu_peer.specs.declared.peer.Exchange.{Exchange}
 use Rattle.fmu_peer.specs.declared.peer.PeerFault.{PeerFault}
 use Rattle.tick_schedule.specs.Timetable.{Timetable, with_event}
 use Rattle.run_model.specs.AfterInstant.{event_after, if_later}
-use Rattle.slot_calls.specs.Log.{Asking, Sent, asking_of, askings}
+use Rattle.slot_calls.specs.Log.{ComponentCall, Sent, component_call, component_calls}
 use Rattle.system_model.specs.declared.system.Component.{Component}
 use Rattle.system_model.specs.declared.system.System.{System}
 use Rattle.slot_calls.specs.Stage.{has_events, shapes_of, to_those_from}
@@ -57,24 +57,24 @@ told_later t (shape ∷ shapes) log = by (has_events shape) (told_later t shapes
 
 -- ---- one after the others
 
-abbrev ask_update : ℕ → Asking
+abbrev ask_update : ℕ → ComponentCall
 ask_update k = record { component = k; call = C.Update }
 
-abbrev updates_from : ℕ → List Shape → List Asking
+abbrev updates_from : ℕ → List Shape → List ComponentCall
 updates_from k shapes = to_those_from k has_events (λ (shape : Shape). C.Update) shapes
 
-told_append : (t k : ℕ) (xs ys : List Shape) (log more : List Sent) → askings log ≡ updates_from k xs → events_told t (xs ++ ys) (log ++ more) ≡ events_told t xs log ++ events_told t ys more
+told_append : (t k : ℕ) (xs ys : List Shape) (log more : List Sent) → component_calls log ≡ updates_from k xs → events_told t (xs ++ ys) (log ++ more) ≡ events_told t xs log ++ events_told t ys more
 told_append t k [] ys [] more is = refl
 told_append t k [] ys (s ∷ log) more is = absurd (cc)
 told_append t k (x ∷ xs) ys log more is = by (has_events x) log is (λ rest rest_is. told_append t (k + 1) xs ys rest more rest_is)
   where
-    by : (b : Bool) (some : List Sent) → askings some ≡ (if b then ask_update k ∷ updates_from (k + 1) xs else updates_from (k + 1) xs) →
-        ((rest : List Sent) → askings rest ≡ updates_from (k + 1) xs → events_told t (xs ++ ys) (rest ++ more) ≡ events_told t xs rest ++ events_told t ys more) →
+    by : (b : Bool) (some : List Sent) → component_calls some ≡ (if b then ask_update k ∷ updates_from (k + 1) xs else updates_from (k + 1) xs) →
+        ((rest : List Sent) → component_calls rest ≡ updates_from (k + 1) xs → events_told t (xs ++ ys) (rest ++ more) ≡ events_told t xs rest ++ events_told t ys more) →
         (if b then first_event t (some ++ more) ∷ events_told t (xs ++ ys) (other_answers (some ++ more)) else None ∷ events_told t (xs ++ ys) (some ++ more))
         ≡ (if b then first_event t some ∷ events_told t xs (other_answers some) else None ∷ events_told t xs some) ++ events_told t ys more
     by false some e on = ap (λ (es : List (Option ℕ)). None ∷ es) (on some e)
     by true [] e on = absurd (cc)
-    by true (s ∷ some) e on = ap (λ (es : List (Option ℕ)). event_by t s.exchange.result ∷ es) (on some (rest_same (asking_of s) (ask_update k) (askings some) (updates_from (k + 1) xs) e))
+    by true (s ∷ some) e on = ap (λ (es : List (Option ℕ)). event_by t s.exchange.result ∷ es) (on some (rest_same (component_call s) (ask_update k) (component_calls some) (updates_from (k + 1) xs) e))
 
 -- the shape of a component
 pub shape_there : (system : System) (ss : List Shape) → ss ≡ shapes_of system → (place : ℕ) (component : Component) → slice_get system.components place ≡ Some component → (place < length ss) × (get_or ss place component.shape ≡ component.shape)
@@ -91,8 +91,8 @@ pub record TellsUpTo (t place : ℕ) (shapes : List Shape) (first table : Timeta
 pub tells_none : (t : ℕ) (shapes : List Shape) (table : Timetable) → TellsUpTo t 0 shapes table table []
 tells_none t shapes table = record { clocks = refl; many = refl; told = refl }
 
-module _ (t place : ℕ) (shapes : List Shape) (first table next : Timetable) (log : List Sent) (shape : Shape) (front : TellsUpTo t place shapes first table log) (within : place < length table.events) (inside : place < length shapes)
-    (is : get_or shapes place shape ≡ shape) (sent : askings log ≡ updates_from 0 (take place shapes)) where
+module _ (t place : ℕ) (shapes : List Shape) (first table next : Timetable) (log : List Sent) (shape : Shape) (prefix : TellsUpTo t place shapes first table log) (within : place < length table.events) (inside : place < length shapes)
+    (is : get_or shapes place shape ≡ shape) (sent : component_calls log ≡ updates_from 0 (take place shapes)) where
   more_shapes : take (place + 1) shapes ≡ take place shapes ++ shape ∷ []
   more_shapes = take_more shapes place shape inside ∙ ap (λ (x : Shape). take place shapes ++ x ∷ []) is
 
@@ -100,9 +100,9 @@ module _ (t place : ℕ) (shapes : List Shape) (first table next : Timetable) (l
   tells_one event more goes one =
       let events : next.events ≡ set table.events place event = ap (λ (x : Timetable). x.events) goes in
       record {
-        clocks = goes ∙ ap (λ (x : Timetable). with_event x place event) front.clocks ∙ ap (λ (es : List (Option ℕ)). with_events first es) (sym events);
-        many = ap length events ∙ length-set table.events place event ∙ front.many;
-        told = ap (take (place + 1)) events ∙ take_more_set table.events place event within ∙ ap₂ (λ (xs ys : List (Option ℕ)). xs ++ ys) front.told (sym one)
+        clocks = goes ∙ ap (λ (x : Timetable). with_event x place event) prefix.clocks ∙ ap (λ (es : List (Option ℕ)). with_events first es) (sym events);
+        many = ap length events ∙ length-set table.events place event ∙ prefix.many;
+        told = ap (take (place + 1)) events ∙ take_more_set table.events place event within ∙ ap₂ (λ (xs ys : List (Option ℕ)). xs ++ ys) prefix.told (sym one)
             ∙ sym (ap (λ (xs : List Shape). events_told t xs (log ++ more)) more_shapes ∙ told_append t 0 (take place shapes) (shape ∷ []) log more sent);
       }
 

@@ -16,7 +16,7 @@ use Rattle.system_model.specs.declared.system.Role.TheVariants.{Input, Output, C
 use Rattle.system_model.specs.declared.system.Port.{Port}
 use Rattle.system_model.specs.declared.system.System.{System}
 use Rattle.system_model.specs.Needs.{InitiallyByFeed, NeedsInitially, is_unclocked, is_unclocked_at}
-use Rattle.system_model.specs.Ports.{is_output_role, numbers, source_of}
+use Rattle.system_model.specs.Ports.{is_output_role, port_numbers, source_of}
 use Rattle.system_model.specs.Sound.{IsSound}
 use Rattle.system_model.proofs.CallerLemmas.{true_false}
 use Rattle.run_model.specs.Run.{IsFmu, Run, at_fmu}
@@ -84,8 +84,8 @@ module _ (r : Run) (sound : IsSound r.system) (machines : AreMachines r) (W : Li
     pub left : (q : ℕ) → (Contains taken q → ⊥) → value values q ≡ None
     pub states : (i : ℕ) (c : Component) (m : Machine) (s : MachineState) → IsFmu r (initializing r) i c m s → state_by m s (part i log) ≡ midst taken i m s
 
-  module _ (pre : List ℕ) (p : ℕ) (reply : Option Reply) (values next : List (Option ℤ)) (front sent : List Sent) (here : Here (NeedsInitially r.system) pre p) (len : length values ≡ length r.system.ports)
-      (was : Midst pre values front) (turn : Turn r.system (initially r.system) p reply values next sent) (replies : AreReplies r (initializing r) (front ++ sent)) where
+  module _ (pre : List ℕ) (p : ℕ) (reply : Option Reply) (values next : List (Option ℤ)) (prefix sent : List Sent) (here : Here (NeedsInitially r.system) pre p) (len : length values ≡ length r.system.ports)
+      (was : Midst pre values prefix) (turn : Turn r.system (initially r.system) p reply values next sent) (replies : AreReplies r (initializing r) (prefix ++ sent)) where
     abbrev port : Port
     port = turn.port
 
@@ -113,13 +113,13 @@ module _ (r : Run) (sound : IsSound r.system) (machines : AreMachines r) (W : Li
       shown_reply : (o : Option Reply) → reply ≡ o → IsPaired turn.component.shape (Some get) o → seen port o ≡ shown mine.0 (state_with r.system.ports W port.component.0 mine.0 mine.1) port
       shown_reply None is paired = absurd paired
       shown_reply (Some x) is paired =
-          let own : RepliesBy mine.0 mine.1 (part port.component.0 front ++ exchanges_of call reply) = subst (RepliesBy mine.0 mine.1) (part_more turn front) (replies port.component.0 turn.component mine.0 mine.1 mine.2) in
-          let behind = replies_back mine.0 (get_or (shapes_of r.system) port.component.0 turn.component.shape) mine.1 (part port.component.0 front) (exchanges_of call reply)
-          (λ k d w. (quiet_part r.system port.component.0 turn.component.shape front was.quiet k d w).1) own in
-          let state : state_by mine.0 mine.1 (part port.component.0 front) ≡ midst pre port.component.0 mine.0 mine.1 = was.states port.component.0 turn.component mine.0 mine.1 mine.2 in
+          let own : RepliesBy mine.0 mine.1 (part port.component.0 prefix ++ exchanges_of call reply) = subst (RepliesBy mine.0 mine.1) (part_more turn prefix) (replies port.component.0 turn.component mine.0 mine.1 mine.2) in
+          let after = replies_back mine.0 (get_or (shapes_of r.system) port.component.0 turn.component.shape) mine.1 (part port.component.0 prefix) (exchanges_of call reply)
+          (λ k d w. (quiet_part r.system port.component.0 turn.component.shape prefix was.quiet k d w).1) own in
+          let state : state_by mine.0 mine.1 (part port.component.0 prefix) ≡ midst pre port.component.0 mine.0 mine.1 = was.states port.component.0 turn.component mine.0 mine.1 mine.2 in
           let one : RepliesBy mine.0 (midst pre port.component.0 mine.0 mine.1) (record { call = get; result = Ok x } ∷ []) =
           subst (λ z. RepliesBy mine.0 z (record { call = get; result = Ok x } ∷ [])) state
-          (subst (λ (es : List Exchange). RepliesBy mine.0 (state_by mine.0 mine.1 (part port.component.0 front)) es) (ap₂ exchanges_of call_is is) behind) in
+          (subst (λ (es : List Exchange). RepliesBy mine.0 (state_by mine.0 mine.1 (part port.component.0 prefix)) es) (ap₂ exchanges_of call_is is) after) in
           ap (value_in port.kind) (one.0 ∙ looks_initially r sound machines p port turn.is (ap is_output_role same) read W solves pre here.needed turn.component mine.0 mine.1 mine.2 get refl)
 
     -- the value that the port takes is the solution's
@@ -169,23 +169,23 @@ module _ (r : Run) (sound : IsSound r.system) (machines : AreMachines r) (W : Li
         ∙ ap (write_if m port.reference (midst pre port.component.0 m s)) (sym (written_at-is r.system.ports W p port turn.is))
         ∙ writes_at_port r.system sound p port turn.is pre here.fresh at_port m s
 
-    midst_more : Midst (pre ++ p ∷ []) next (front ++ sent)
+    midst_more : Midst (pre ++ p ∷ []) next (prefix ++ sent)
     midst_more = record {
-      quiet = All-append (IsQuiet r.system) front sent was.quiet
+      quiet = All-append (IsQuiet r.system) prefix sent was.quiet
           (subst (All (IsQuiet r.system)) (sym turn.sent_is) (sent_quiet r.system port.component.0 turn.component turn.of call reply (λ k asks. asks_quietly port.role r.system.ports (is_read r.system.ports p) port values k asks) turn.paired));
       taken_values = λ q m. push_cases pre p q m
           (λ old. next_beside turn q (λ same. here.fresh (subst (Contains pre) same old)) ∙ was.taken_values q old)
           (λ same. subst (λ x. value next x ≡ value W x) same next_is_W);
       left = λ q m. next_beside turn q (λ same. m (subst (Contains (pre ++ p ∷ [])) (sym same) (Contains-push pre p))) ∙ was.left q (λ old. m (Contains-append_left pre (p ∷ []) q old));
-      states = λ i c m s fmu. state_more turn front m s (λ k d. midst pre k m s) (λ k d. midst (pre ++ p ∷ []) k m s) (written_on m s) (λ k d other. keeps_beside r.system p port turn.is pre at_port k other m s) i c fmu.component
+      states = λ i c m s fmu. state_more turn prefix m s (λ k d. midst pre k m s) (λ k d. midst (pre ++ p ∷ []) k m s) (written_on m s) (λ k d other. keeps_beside r.system p port turn.is pre at_port k other m s) i c fmu.component
           (was.states i c m s fmu);
     }
 
   -- all along the walk
-  pub midst_along : (taken rest : List ℕ) (values : List (Option ℤ)) (log : List Sent) → numbers r.system.initial_order ≡ taken ++ rest → Walked r.system (initially r.system) (no_values r.system) taken values log → AreReplies r (initializing r) log →
+  pub midst_along : (taken rest : List ℕ) (values : List (Option ℤ)) (log : List Sent) → port_numbers r.system.initial_order ≡ taken ++ rest → Walked r.system (initially r.system) (no_values r.system) taken values log → AreReplies r (initializing r) log →
       (length values ≡ length r.system.ports) × Midst taken values log
   midst_along taken rest values log is walked replies =
-      let all = along (λ q. is_unclocked_at r.system.ports q ≡ true) (NeedsInitially r.system) r.system (initially r.system) (no_values r.system) (numbers r.system.initial_order) sound.initial_order (length-map r.system.ports (λ (x : Port). None))
+      let all = along (λ q. is_unclocked_at r.system.ports q ≡ true) (NeedsInitially r.system) r.system (initially r.system) (no_values r.system) (port_numbers r.system.initial_order) sound.initial_order (length-map r.system.ports (λ (x : Port). None))
       (λ t v l. AreReplies r (initializing r) l → Midst t v l)
       (λ none. record {
         quiet = All-nil (IsQuiet r.system);
@@ -193,14 +193,14 @@ module _ (r : Run) (sound : IsSound r.system) (machines : AreMachines r) (W : Li
         left = λ q m. none_at r.system.ports q;
         states = λ i c m s fmu. sym (nothing_at_first r.system at_port i m s);
       })
-      (λ pre p reply v next front sent here len was turn h. midst_more pre p reply v next front sent here len (was (replies_first r (initializing r) front sent h)) turn h)
+      (λ pre p reply v next prefix sent here len was turn h. midst_more pre p reply v next prefix sent here len (was (replies_first r (initializing r) prefix sent h)) turn h)
       taken rest values log is walked in
       (all.0, all.1 replies)
 
   -- at the end
-  module _ (values : List (Option ℤ)) (log : List Sent) (walked : Walked r.system (initially r.system) (no_values r.system) (numbers r.system.initial_order) values log) (replies : AreReplies r (initializing r) log) where
-    end : (length values ≡ length r.system.ports) × Midst (numbers r.system.initial_order) values log
-    end = midst_along (numbers r.system.initial_order) [] values log (sym (append-nil (numbers r.system.initial_order))) walked replies
+  module _ (values : List (Option ℤ)) (log : List Sent) (walked : Walked r.system (initially r.system) (no_values r.system) (port_numbers r.system.initial_order) values log) (replies : AreReplies r (initializing r) log) where
+    end : (length values ≡ length r.system.ports) × Midst (port_numbers r.system.initial_order) values log
+    end = midst_along (port_numbers r.system.initial_order) [] values log (sym (append-nil (port_numbers r.system.initial_order))) walked replies
 
     pub values_are : values ≡ W
     values_are = ext_get_or None values W (end.0 ∙ sym solves.places) (λ p lt. by p lt (is_unclocked_at r.system.ports p) refl)
@@ -219,10 +219,10 @@ module _ (r : Run) (sound : IsSound r.system) (machines : AreMachines r) (W : Li
 
 -- the walk over a system finds the solution
 pub solves_for_machines : (system : System) → IsSound system → (olds news : List Instance) (values : List (Option ℤ)) (log : List Sent) → Told log olds news →
-    Walked system (initially system) (no_values system) (numbers system.initial_order) values log → SolvesForMachines system values olds news
+    Walked system (initially system) (no_values system) (port_numbers system.initial_order) values log → SolvesForMachines system values olds news
 solves_for_machines system sound olds news values log told walked r same machines at =
     let sound_own = subst IsSound (sym same) sound in
-    let own = subst (λ (x : System). Walked x (initially x) (no_values x) (numbers x.initial_order) values log) (sym same) walked in
+    let own = subst (λ (x : System). Walked x (initially x) (no_values x) (port_numbers x.initial_order) values log) (sym same) walked in
     let here : List MachineState = initializing r in
     let W = solvable_initially r sound_own machines in
     let replies = are_replies r here olds news at log told in

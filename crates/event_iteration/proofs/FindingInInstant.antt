@@ -18,7 +18,7 @@ use Rattle.system_model.specs.declared.system.Role.TheVariants.{Input, Output, C
 use Rattle.system_model.specs.declared.system.Port.{Port}
 use Rattle.system_model.specs.declared.system.System.{System}
 use Rattle.system_model.specs.Needs.{ByFeed, Needs}
-use Rattle.system_model.specs.Ports.{is_clock_role, is_output_role, numbers, source_of}
+use Rattle.system_model.specs.Ports.{is_clock_role, is_output_role, port_numbers, source_of}
 use Rattle.system_model.specs.Sound.{IsSound}
 use Rattle.system_model.proofs.CallerLemmas.{true_false}
 use Rattle.run_model.specs.Run.{IsFmu, Run, Situation, at_fmu}
@@ -69,8 +69,8 @@ module _ (r : Run) (sound : IsSound r.system) (machines : AreMachines r) (s : Si
       pub left : (q : ℕ) → (Contains taken q → ⊥) → value values q ≡ value s.before q
       pub states : (i : ℕ) (c : Component) (m : Machine) (z : MachineState) → IsFmu r s.states i c m z → state_by m z (part i log) ≡ midst taken c.shape.has_event_mode i m z
 
-    module _ (pre : List ℕ) (p : ℕ) (reply : Option Reply) (values next : List (Option ℤ)) (front sent : List Sent) (here : Here (Needs r.system) pre p) (len : length values ≡ length r.system.ports)
-        (was : Midst pre values front) (turn : Turn r.system (in_instant ticks (s.n == 0)) p reply values next sent) (replies : AreReplies r s.states (front ++ sent)) where
+    module _ (pre : List ℕ) (p : ℕ) (reply : Option Reply) (values next : List (Option ℤ)) (prefix sent : List Sent) (here : Here (Needs r.system) pre p) (len : length values ≡ length r.system.ports)
+        (was : Midst pre values prefix) (turn : Turn r.system (in_instant ticks (s.n == 0)) p reply values next sent) (replies : AreReplies r s.states (prefix ++ sent)) where
       abbrev port : Port
       port = turn.port
 
@@ -110,18 +110,18 @@ module _ (r : Run) (sound : IsSound r.system) (machines : AreMachines r) (s : Si
       events_of : is_clock_role port.role ≡ true → events ≡ true
       events_of clock = clock_events r.system sound p port turn.component turn.is turn.of clock
 
-      state_mid : state_by mine.0 mine.1 (part port.component.0 front) ≡ midst pre events port.component.0 mine.0 mine.1
+      state_mid : state_by mine.0 mine.1 (part port.component.0 prefix) ≡ midst pre events port.component.0 mine.0 mine.1
       state_mid = was.states port.component.0 turn.component mine.0 mine.1 mine.2
 
       -- a reply is the machine's, in the midst
       replied : (k : Call) (x : Reply) → reply ≡ Some x → call ≡ Some k → x ≡ mine.0.look (midst pre events port.component.0 mine.0 mine.1) k
       replied k x is asks =
-          let own : RepliesBy mine.0 mine.1 (part port.component.0 front ++ exchanges_of call reply) = subst (RepliesBy mine.0 mine.1) (part_more turn front) (replies port.component.0 turn.component mine.0 mine.1 mine.2) in
-          let behind = replies_back mine.0 (get_or (shapes_of r.system) port.component.0 turn.component.shape) mine.1 (part port.component.0 front) (exchanges_of call reply)
-          (good_in_part (shapes_of r.system) front (all_good ReadsOrSets r.system pre front was.calls) port.component.0 turn.component.shape) own in
+          let own : RepliesBy mine.0 mine.1 (part port.component.0 prefix ++ exchanges_of call reply) = subst (RepliesBy mine.0 mine.1) (part_more turn prefix) (replies port.component.0 turn.component mine.0 mine.1 mine.2) in
+          let after = replies_back mine.0 (get_or (shapes_of r.system) port.component.0 turn.component.shape) mine.1 (part port.component.0 prefix) (exchanges_of call reply)
+          (good_in_part (shapes_of r.system) prefix (all_good ReadsOrSets r.system pre prefix was.calls) port.component.0 turn.component.shape) own in
           let one : RepliesBy mine.0 (midst pre events port.component.0 mine.0 mine.1) (exchanges_of (Some k) (Some x)) =
           subst (λ z. RepliesBy mine.0 z (exchanges_of (Some k) (Some x))) state_mid
-          (subst (λ (es : List Exchange). RepliesBy mine.0 (state_by mine.0 mine.1 (part port.component.0 front)) es) (ap₂ exchanges_of asks is) behind) in
+          (subst (λ (es : List Exchange). RepliesBy mine.0 (state_by mine.0 mine.1 (part port.component.0 prefix)) es) (ap₂ exchanges_of asks is) after) in
           one.0
 
       -- what is seen without a call, and with one
@@ -259,14 +259,14 @@ module _ (r : Run) (sound : IsSound r.system) (machines : AreMachines r) (s : Si
       beside_on true i other m z = keeps_beside r.system p port turn.is pre at_port i other m z
       beside_on false i other m z = refl
 
-      midst_more : Midst (pre ++ p ∷ []) next (front ++ sent)
+      midst_more : Midst (pre ++ p ∷ []) next (prefix ++ sent)
       midst_more = record {
-        calls = calls_more ReadsOrSets r.system (in_instant ticks (s.n == 0)) (reads_or_sets r.system sound ticks (s.n == 0)) pre p reply values next front sent was.calls turn;
+        calls = calls_more ReadsOrSets r.system (in_instant ticks (s.n == 0)) (reads_or_sets r.system sound ticks (s.n == 0)) pre p reply values next prefix sent was.calls turn;
         taken_values = λ q m. push_cases pre p q m
             (λ old. next_beside turn q (λ same. here.fresh (subst (Contains pre) same old)) ∙ was.taken_values q old)
             (λ same. subst (λ x. value next x ≡ value W x) same next_is_W);
         left = λ q m. next_beside turn q (λ same. m (subst (Contains (pre ++ p ∷ [])) (sym same) (Contains-push pre p))) ∙ was.left q (λ old. m (Contains-append_left pre (p ∷ []) q old));
-        states = λ i c m z fmu. state_more turn front m z (λ k d. midst pre d.shape.has_event_mode k m z) (λ k d. midst (pre ++ p ∷ []) d.shape.has_event_mode k m z) (written_on events refl m z)
+        states = λ i c m z fmu. state_more turn prefix m z (λ k d. midst pre d.shape.has_event_mode k m z) (λ k d. midst (pre ++ p ∷ []) d.shape.has_event_mode k m z) (written_on events refl m z)
             (λ k d other. beside_on d.shape.has_event_mode k other m z) i c fmu.component (was.states i c m z fmu);
       }
 
@@ -275,10 +275,10 @@ module _ (r : Run) (sound : IsSound r.system) (machines : AreMachines r) (s : Si
     none_midst false i m z = refl
 
     -- all along the walk
-    pub midst_along : (taken rest : List ℕ) (values : List (Option ℤ)) (log : List Sent) → numbers r.system.instant_order ≡ taken ++ rest → Walked r.system (in_instant ticks (s.n == 0)) s.before taken values log → AreReplies r s.states log →
+    pub midst_along : (taken rest : List ℕ) (values : List (Option ℤ)) (log : List Sent) → port_numbers r.system.instant_order ≡ taken ++ rest → Walked r.system (in_instant ticks (s.n == 0)) s.before taken values log → AreReplies r s.states log →
         (length values ≡ length r.system.ports) × Midst taken values log
     midst_along taken rest values log is walked replies =
-        let all = along (λ q. q < length r.system.ports) (Needs r.system) r.system (in_instant ticks (s.n == 0)) s.before (numbers r.system.instant_order) sound.instant_order situation.before
+        let all = along (λ q. q < length r.system.ports) (Needs r.system) r.system (in_instant ticks (s.n == 0)) s.before (port_numbers r.system.instant_order) sound.instant_order situation.before
         (λ t v l. AreReplies r s.states l → Midst t v l)
         (λ none. record {
           calls = All-nil (IsCallOf ReadsOrSets r.system []);
@@ -286,17 +286,17 @@ module _ (r : Run) (sound : IsSound r.system) (machines : AreMachines r) (s : Si
           left = λ q m. refl;
           states = λ i c m z fmu. none_midst c.shape.has_event_mode i m z;
         })
-        (λ pre p reply v next front sent here len was turn h. midst_more pre p reply v next front sent here len (was (replies_first r s.states front sent h)) turn h)
+        (λ pre p reply v next prefix sent here len was turn h. midst_more pre p reply v next prefix sent here len (was (replies_first r s.states prefix sent h)) turn h)
         taken rest values log is walked in
         (all.0, all.1 replies)
 
   -- ---- at the end
-  module _ (values : List (Option ℤ)) (log : List Sent) (walked : Walked r.system (in_instant ticks (s.n == 0)) s.before (numbers r.system.instant_order) values log) (replies : AreReplies r s.states log) where
+  module _ (values : List (Option ℤ)) (log : List Sent) (walked : Walked r.system (in_instant ticks (s.n == 0)) s.before (port_numbers r.system.instant_order) values log) (replies : AreReplies r s.states log) where
     some : (W : List (Option ℤ)) × Solves r s W
     some = solvable r sound machines s situation.shapes (decided r s)
 
-    end : (length values ≡ length r.system.ports) × Midst some.0 some.1 (numbers r.system.instant_order) values log
-    end = midst_along some.0 some.1 (numbers r.system.instant_order) [] values log (sym (append-nil (numbers r.system.instant_order))) walked replies
+    end : (length values ≡ length r.system.ports) × Midst some.0 some.1 (port_numbers r.system.instant_order) values log
+    end = midst_along some.0 some.1 (port_numbers r.system.instant_order) [] values log (sym (append-nil (port_numbers r.system.instant_order))) walked replies
 
     values_are : some.0 ≡ values
     values_are = sym (ext_get_or None values some.0 (end.0 ∙ sym some.1.places) (λ p lt. end.1.taken_values p (sound.instant_order.each p (subst (λ n. p < n) end.0 lt))))
@@ -309,7 +309,7 @@ module _ (r : Run) (sound : IsSound r.system) (machines : AreMachines r) (s : Si
     pub state_is : (i : ℕ) (c : Component) (m : Machine) (z : MachineState) → IsFmu r s.states i c m z → state_by m z (part i log) ≡ (if c.shape.has_event_mode then state_with r.system.ports values i m z else z)
     state_is i c m z fmu = end.1.states i c m z fmu ∙ last c.shape.has_event_mode ∙ ap (λ (V : List (Option ℤ)). if c.shape.has_event_mode then state_with r.system.ports V i m z else z) values_are
       where
-        last : (b : Bool) → midst some.0 some.1 (numbers r.system.instant_order) b i m z ≡ (if b then state_with r.system.ports some.0 i m z else z)
+        last : (b : Bool) → midst some.0 some.1 (port_numbers r.system.instant_order) b i m z ≡ (if b then state_with r.system.ports some.0 i m z else z)
         last true = all_at_last r.system sound some.0 i m z
         last false = refl
 
@@ -317,11 +317,11 @@ module _ (r : Run) (sound : IsSound r.system) (machines : AreMachines r) (s : Si
     states_are = each_same r s.states (λ i c m z. state_by m z (part i log)) (λ i c m z. if c.shape.has_event_mode then state_with r.system.ports values i m z else z) state_is
 
     pub answers_good : All (IsGoodOf (shapes_of r.system)) log
-    answers_good = all_good ReadsOrSets r.system (numbers r.system.instant_order) log end.1.calls
+    answers_good = all_good ReadsOrSets r.system (port_numbers r.system.instant_order) log end.1.calls
 
 -- the walk over a system finds the solution
 pub solves_in_instant : (system : System) → IsSound system → (t : ℕ) (is_first : Bool) (table : Timetable) → StandsAt system t is_first table → (olds news : List Instance) (before values : List (Option ℤ)) (log : List Sent) → Told log olds news →
-    Walked system (in_instant (is_due_at table t) is_first) before (numbers system.instant_order) values log → SolvesInInstant system table t is_first before values olds news
+    Walked system (in_instant (is_due_at table t) is_first) before (port_numbers system.instant_order) values log → SolvesInInstant system table t is_first before values olds news
 solves_in_instant system sound t is_first table stands olds news before values log told walked r s same start machines situation at first timers was there =
     let sound_own = subst IsSound (sym same) sound in
     let ticks = is_due_at table t in
@@ -331,9 +331,9 @@ solves_in_instant system sound t is_first table stands olds news before values l
     (subst (λ xs. AreTicks system table.start xs s.t s.n ticks) (sym timers)
     (subst (λ n. AreTicks system table.start (timers_in table) n s.n ticks) (sym at) (are_ticks system t is_first table stands s.n first)))) in
     let own =
-    subst (λ (x : System). Walked x (in_instant ticks (s.n == 0)) s.before (numbers x.instant_order) values log) (sym same)
-    (subst (λ b. Walked system (in_instant ticks b) s.before (numbers system.instant_order) values log) (sym first)
-    (subst (λ V. Walked system (in_instant ticks is_first) V (numbers system.instant_order) values log) (sym was) walked)) in
+    subst (λ (x : System). Walked x (in_instant ticks (s.n == 0)) s.before (port_numbers x.instant_order) values log) (sym same)
+    (subst (λ b. Walked system (in_instant ticks b) s.before (port_numbers system.instant_order) values log) (sym first)
+    (subst (λ V. Walked system (in_instant ticks is_first) V (port_numbers system.instant_order) values log) (sym was) walked)) in
     let replies = are_replies r s.states olds news there log told in (
       solves r sound_own machines s situation ticks own_ticks values log own replies,
       subst (λ (ss : List MachineState). AreAt r ss news) (states_are r sound_own machines s situation ticks own_ticks values log own replies) (told_on r s.states olds news there log told (answers_good r sound_own machines s situation ticks own_ticks values log own replies)),
@@ -342,7 +342,7 @@ solves_in_instant system sound t is_first table stands olds news before values l
 -- ---- the time-based Clocks that tick are those that are due
 
 pub tells_ticks : (system : System) → IsSound system → (t : ℕ) (is_first : Bool) (table : Timetable) (before values : List (Option ℤ)) (log : List Sent) →
-    Explains system (in_instant (is_due_at table t) is_first) before (numbers system.instant_order) values log → TellsTicks system table t values
+    Explains system (in_instant (is_due_at table t) is_first) before (port_numbers system.instant_order) values log → TellsTicks system table t values
 tells_ticks system sound t is_first table before values log told p port is time =
     ap is_active (told.taken_values p port is (sound.instant_order.each p (slice_get_within system.ports p port is))) ∙ by port.role time
   where

@@ -23,11 +23,11 @@ use Rattle.run_model.specs.Initial.{interval_in, shift_in}
 use Rattle.run_model.specs.Run.{Timer, Never, Every}
 use Rattle.run_model.specs.Timers.{armed_after, fixed}
 use Rattle.slot_calls.specs.declared.bad_answer.BadAnswer.{BadAnswer}
-use Rattle.slot_calls.specs.Log.{Asking, Sent, Told, askings}
+use Rattle.slot_calls.specs.Log.{ComponentCall, Sent, Told, component_calls}
 use Rattle.slot_calls.specs.Stage.{IsAnswered, Stage, StopsAt, shapes, shapes_of}
-use Rattle.slot_calls.proofs.CallerLemmas.{answered_none, answered_on, shapes_same, stops_front, stops_on, told_none, told_on}
+use Rattle.slot_calls.proofs.CallerLemmas.{answered_none, answered_on, shapes_same, stops_on, stops_prefix, told_none, told_on}
 use Rattle.event_iteration.specs.Clocks.{IsNextFrom, StandsAt, first_place, first_table, timer_in, timers_in}
-use Rattle.event_iteration.specs.Intervals.{Fixes, first_told_by, first_told_in, log_behind, shifted_timer, timing_calls, timing_calls_in, timing_calls_of, told_timer}
+use Rattle.event_iteration.specs.Intervals.{Fixes, first_told_by, first_told_in, log_after, shifted_timer, timing_calls, timing_calls_in, timing_calls_of, told_timer}
 use Rattle.event_iteration.specs.Questions.{FixSays, FixesPort, IsEntered, IsFirstPlace, IsFixed, IsFixedUpTo, IsShifted, first_reply, is_asked, is_changing, modes}
 use Rattle.event_iteration.proofs.Answering.{one_answer}
 use Rattle.event_iteration.proofs.Fmus.{got}
@@ -57,7 +57,7 @@ fixes_none port per_second p table is none unchanging first = record {
   log = [];
   told = told_none is;
   says = (
-    subst (λ (cs : List Asking). IsAnswered (shapes is) cs []) (sym (no_calls port.role port none unchanging)) (answered_none (shapes is)),
+    subst (λ (cs : List ComponentCall). IsAnswered (shapes is) cs []) (sym (no_calls port.role port none unchanging)) (answered_none (shapes is)),
     record {
       place = first_place port.role;
       is = sym (ap (λ (cs : List ClockState). record table { clocks = cs }) (set_same table.clocks p (first_place port.role) first));
@@ -67,10 +67,10 @@ fixes_none port per_second p table is none unchanging first = record {
   );
 }
 
-abbrev pub ask_interval : Port → Asking
+abbrev pub ask_interval : Port → ComponentCall
 ask_interval port = record { component = port.component.0; call = C.GetInterval port.reference }
 
-abbrev pub ask_shift : Port → Asking
+abbrev pub ask_shift : Port → ComponentCall
 ask_shift port = record { component = port.component.0; call = C.GetShift port.reference }
 
 -- one that is asked
@@ -79,7 +79,7 @@ module _ (port : Port) (answered : port.role ≡ TimeClock Answered) (per_second
   fixes_cut bad stage = record {
     log = stage.log;
     told = stage.told;
-    says = subst (λ (r : Role). StopsAt (shapes olds) (timing_calls_of r port) bad stage.log) (sym answered) (stops_front (shapes olds) (ask_interval port ∷ []) (ask_shift port ∷ []) bad stage.log stage.says);
+    says = subst (λ (r : Role). StopsAt (shapes olds) (timing_calls_of r port) bad stage.log) (sym answered) (stops_prefix (shapes olds) (ask_interval port ∷ []) (ask_shift port ∷ []) bad stage.log stage.says);
   }
 
   module _ (interval : Reply) (one : Stage (ask_interval port ∷ []) first_reply olds mids (Ok (Some interval))) (news : List Instance) where
@@ -148,15 +148,15 @@ calls_append : (xs ys : List Port) → timing_calls_in (xs ++ ys) ≡ timing_cal
 calls_append [] ys = refl
 calls_append (x ∷ xs) ys = ap (λ cs. timing_calls_of x.role x ++ cs) (calls_append xs ys) ∙ sym (append_assoc (timing_calls_of x.role x) (timing_calls_in xs) (timing_calls_in ys))
 
-told_append : (per_second start : ℕ) (xs ys : List Port) (log more : List Sent) → askings log ≡ timing_calls_in xs →
+told_append : (per_second start : ℕ) (xs ys : List Port) (log more : List Sent) → component_calls log ≡ timing_calls_in xs →
     first_told_in per_second start (xs ++ ys) (log ++ more) ≡ first_told_in per_second start xs log ++ first_told_in per_second start ys more
 told_append per_second start [] ys [] more is = refl
 told_append per_second start [] ys (s ∷ log) more is = absurd (cc)
 told_append per_second start (x ∷ xs) ys log more is = by x.role log is (λ rest rest_is. told_append per_second start xs ys rest more rest_is)
   where
-    by : (role : Role) (some : List Sent) → askings some ≡ timing_calls_of role x ++ timing_calls_in xs →
-        ((rest : List Sent) → askings rest ≡ timing_calls_in xs → first_told_in per_second start (xs ++ ys) (rest ++ more) ≡ first_told_in per_second start xs rest ++ first_told_in per_second start ys more) →
-        first_told_by role per_second start (some ++ more) ∷ first_told_in per_second start (xs ++ ys) (log_behind role (some ++ more)) ≡ first_told_by role per_second start some ∷ (first_told_in per_second start xs (log_behind role some) ++ first_told_in per_second start ys more)
+    by : (role : Role) (some : List Sent) → component_calls some ≡ timing_calls_of role x ++ timing_calls_in xs →
+        ((rest : List Sent) → component_calls rest ≡ timing_calls_in xs → first_told_in per_second start (xs ++ ys) (rest ++ more) ≡ first_told_in per_second start xs rest ++ first_told_in per_second start ys more) →
+        first_told_by role per_second start (some ++ more) ∷ first_told_in per_second start (xs ++ ys) (log_after role (some ++ more)) ≡ first_told_by role per_second start some ∷ (first_told_in per_second start xs (log_after role some) ++ first_told_in per_second start ys more)
     by (TimeClock Answered) [] e on = absurd (cc)
     by (TimeClock Answered) (a ∷ []) e on = absurd (cc)
     by (TimeClock Answered) (a ∷ b ∷ rest) e on = ap (λ ts. told_timer per_second (a ∷ b ∷ rest) ∷ ts) (on rest (cc))
@@ -191,7 +191,7 @@ fixing_none system per_second table is first =
       events = refl;
       fixed = record {
         len = ap length places ∙ length-map system.ports (λ (port : Port). first_place port.role);
-        behind = λ q port place lt. absurd (omega (arith, lt));
+        after = λ q port place lt. absurd (omega (arith, lt));
         ahead = λ q port le at. ap (λ xs. slice_get xs q) places ∙ slice_get-map (λ (x : Port). first_place x.role) system.ports q ∙ ap (option_map (λ (x : Port). first_place x.role)) at;
       };
       timers = refl;
@@ -210,18 +210,18 @@ module _ (system : System) (per_second k : ℕ) (port : Port) (is : slice_get sy
   split_calls : timing_calls system ≡ (timing_calls_in (take k system.ports) ++ timing_calls_of port.role port) ++ timing_calls_in (drop (k + 1) system.ports)
   split_calls = ap timing_calls_in (sym (take-append-drop (k + 1) system.ports)) ∙ calls_append (take (k + 1) system.ports) (drop (k + 1) system.ports) ∙ ap (λ cs. cs ++ timing_calls_in (drop (k + 1) system.ports)) more_calls
 
-  module _ (first table next : Timetable) (olds mids news : List Instance) (alike : shapes olds ≡ shapes_of system) (front : Fixing system per_second k first table olds mids) where
+  module _ (first table next : Timetable) (olds mids news : List Instance) (alike : shapes olds ≡ shapes_of system) (prefix : Fixing system per_second k first table olds mids) where
     shapes_mid : shapes mids ≡ shapes_of system
-    shapes_mid = shapes_same front.log olds mids front.told ∙ alike
+    shapes_mid = shapes_same prefix.log olds mids prefix.told ∙ alike
 
     -- up to a bad answer
     pub fixing_until : (bad : BadAnswer) → FixesPort port per_second k table next mids news (Err bad) → Fixes system per_second first.start (timers_in next) olds news (Err bad)
     fixing_until bad turn = record {
-      log = front.log ++ turn.log;
-      told = told_on olds mids news front.log turn.log front.told turn.told;
-      says = subst (λ (cs : List Asking). StopsAt (shapes_of system) cs bad (front.log ++ turn.log)) (sym split_calls)
-          (stops_front (shapes_of system) (timing_calls_in (take k system.ports) ++ timing_calls_of port.role port) (timing_calls_in (drop (k + 1) system.ports)) bad (front.log ++ turn.log)
-          (stops_on (shapes_of system) (timing_calls_in (take k system.ports)) (timing_calls_of port.role port) front.log turn.log front.answered bad (subst (λ (ss : List Shape). StopsAt ss (timing_calls_of port.role port) bad turn.log) shapes_mid turn.says)));
+      log = prefix.log ++ turn.log;
+      told = told_on olds mids news prefix.log turn.log prefix.told turn.told;
+      says = subst (λ (cs : List ComponentCall). StopsAt (shapes_of system) cs bad (prefix.log ++ turn.log)) (sym split_calls)
+          (stops_prefix (shapes_of system) (timing_calls_in (take k system.ports) ++ timing_calls_of port.role port) (timing_calls_in (drop (k + 1) system.ports)) bad (prefix.log ++ turn.log)
+          (stops_on (shapes_of system) (timing_calls_in (take k system.ports)) (timing_calls_of port.role port) prefix.log turn.log prefix.answered bad (subst (λ (ss : List Shape). StopsAt ss (timing_calls_of port.role port) bad turn.log) shapes_mid turn.says)));
     }
 
     -- one port more
@@ -233,40 +233,40 @@ module _ (system : System) (per_second k : ℕ) (port : Port) (is : slice_get sy
       good_turn = subst (λ (ss : List Shape). IsAnswered ss (timing_calls_of port.role port) turn.log) shapes_mid turn.says.0
 
       in_clocks : k < length table.clocks
-      in_clocks = let e = front.fixed.len in let w = within in omega (arith, e, w)
+      in_clocks = let e = prefix.fixed.len in let w = within in omega (arith, e, w)
 
       start_is : next.start ≡ table.start
       start_is = ap (λ (x : Timetable). x.start) done.is
 
       fixed_more : IsFixedUpTo system (k + 1) next
       fixed_more = record {
-        len = many_now table next k done.place in_clocks done.is ∙ front.fixed.len;
-        behind = λ q x place lt at at_place. (elim (cases_lt q k) as (λ c. IsFirstPlace next.start x.role place) [
+        len = many_now table next k done.place in_clocks done.is ∙ prefix.fixed.len;
+        after = λ q x place lt at at_place. (elim (cases_lt q k) as (λ c. IsFirstPlace next.start x.role place) [
           | inl below ↦
               subst (λ n. IsFirstPlace n x.role place) (sym start_is)
-              (front.fixed.behind q x place below at (sym (beside_now table next k done.place in_clocks done.is q (λ e. absurd (omega (arith, e, below)))) ∙ at_place))
+              (prefix.fixed.after q x place below at (sym (beside_now table next k done.place in_clocks done.is q (λ e. absurd (omega (arith, e, below)))) ∙ at_place))
           | inr past ↦
               let same_place : q ≡ k = omega (arith, lt, past) in
               let its : port ≡ x = same_Some _ _ (sym is ∙ ap (slice_get system.ports) (sym same_place) ∙ at) in
               let own : done.place ≡ place = same_Some _ _ (sym (place_now table next k done.place in_clocks done.is) ∙ ap (slice_get next.clocks) (sym same_place) ∙ at_place) in
               subst (λ n. IsFirstPlace n x.role place) (sym start_is) (subst (λ (y : Port). IsFirstPlace table.start y.role place) its (subst (IsFirstPlace table.start port.role) own done.first))
         ]);
-        ahead = λ q x le at. beside_now table next k done.place in_clocks done.is q (λ e. absurd (omega (arith, e, le))) ∙ front.fixed.ahead q x (omega (arith, le)) at;
+        ahead = λ q x le at. beside_now table next k done.place in_clocks done.is q (λ e. absurd (omega (arith, e, le))) ∙ prefix.fixed.ahead q x (omega (arith, le)) at;
       }
 
       pub fixing_more : modes news ≡ modes mids → Fixing system per_second (k + 1) first next olds news
       fixing_more modes_same = record {
-        log = front.log ++ turn.log;
-        told = told_on olds mids news front.log turn.log front.told turn.told;
-        answered = subst (λ (cs : List Asking). IsAnswered (shapes_of system) cs (front.log ++ turn.log)) (sym more_calls)
-            (answered_on (shapes_of system) (timing_calls_in (take k system.ports)) (timing_calls_of port.role port) front.log turn.log front.answered good_turn);
-        modes_are = modes_same ∙ front.modes_are;
-        start = start_is ∙ front.start;
-        stop = ap (λ (x : Timetable). x.stop) done.is ∙ front.stop;
-        events = ap (λ (x : Timetable). x.events) done.is ∙ front.events;
+        log = prefix.log ++ turn.log;
+        told = told_on olds mids news prefix.log turn.log prefix.told turn.told;
+        answered = subst (λ (cs : List ComponentCall). IsAnswered (shapes_of system) cs (prefix.log ++ turn.log)) (sym more_calls)
+            (answered_on (shapes_of system) (timing_calls_in (take k system.ports)) (timing_calls_of port.role port) prefix.log turn.log prefix.answered good_turn);
+        modes_are = modes_same ∙ prefix.modes_are;
+        start = start_is ∙ prefix.start;
+        stop = ap (λ (x : Timetable). x.stop) done.is ∙ prefix.stop;
+        events = ap (λ (x : Timetable). x.events) done.is ∙ prefix.events;
         fixed = fixed_more;
-        timers = timers_now table next k done.place in_clocks done.is ∙ ap₂ (λ ts (t : Timer). ts ++ t ∷ []) front.timers (done.timer ∙ ap (λ n. first_told_by port.role per_second n turn.log) front.start)
-            ∙ sym (ap (λ ps. first_told_in per_second first.start ps (front.log ++ turn.log)) more_ports ∙ told_append per_second first.start (take k system.ports) (port ∷ []) front.log turn.log front.answered.calls_are);
+        timers = timers_now table next k done.place in_clocks done.is ∙ ap₂ (λ ts (t : Timer). ts ++ t ∷ []) prefix.timers (done.timer ∙ ap (λ n. first_told_by port.role per_second n turn.log) prefix.start)
+            ∙ sym (ap (λ ps. first_told_in per_second first.start ps (prefix.log ++ turn.log)) more_ports ∙ told_append per_second first.start (take k system.ports) (port ∷ []) prefix.log turn.log prefix.answered.calls_are);
       }
 
 -- ---- all of them
@@ -292,13 +292,13 @@ module _ (system : System) (per_second k : ℕ) (first table : Timetable) (olds 
   fixing_stands first_is run = record {
     len = all.fixed.len;
     components = ap length all.events ∙ ap (λ (x : Timetable). length x.events) first_is ∙ length-map system.components (λ (c : Component). None);
-    places = λ p port place at at_place. (all.fixed.behind p port place (let w = slice_get_within system.ports p port at in let n = whole in omega (arith, w, n)) at at_place).of;
+    places = λ p port place at at_place. (all.fixed.after p port place (let w = slice_get_within system.ports p port at in let n = whole in omega (arith, w, n)) at at_place).of;
     next = all_by_place (IsNextFrom table.start first.start true) table.clocks (λ q place at_place.
         let w = slice_get_within table.clocks q place at_place in
         let port = port_there q (let e = all.fixed.len in omega (arith, e, w)) in
         let n = whole in
         subst (λ t. IsNextFrom table.start t true place) all.start
-        (all.fixed.behind q port.0 place (let e = all.fixed.len in omega (arith, e, w, n)) port.1 at_place).next);
+        (all.fixed.after q port.0 place (let e = all.fixed.len in omega (arith, e, w, n)) port.1 at_place).next);
     within = let e = all.stop in omega (arith, run, e);
   }
     where

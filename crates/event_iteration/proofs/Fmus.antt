@@ -145,26 +145,26 @@ none_reply shape (Some reply) paired = absurd paired
 
 -- ---- one turn and the states after it
 
-module _ {system : System} {rules : Rules} {p : ℕ} {reply : Option Reply} {values next : List (Option ℤ)} {sent : List Sent} (turn : Turn system rules p reply values next sent) (front : List Sent) where
+module _ {system : System} {rules : Rules} {p : ℕ} {reply : Option Reply} {values next : List (Option ℤ)} {sent : List Sent} (turn : Turn system rules p reply values next sent) (prefix : List Sent) where
   abbrev asked : Option Call
   asked = rules.asks p turn.port turn.component values
 
   abbrev own : ℕ
   own = turn.port.component.0
 
-  pub part_more : part own (front ++ sent) ≡ part own front ++ exchanges_of asked reply
-  part_more = part_append own front sent ∙ ap (λ es. part own front ++ es) (ap (part own) turn.sent_is ∙ part_own_of own asked reply)
+  pub part_more : part own (prefix ++ sent) ≡ part own prefix ++ exchanges_of asked reply
+  part_more = part_append own prefix sent ∙ ap (λ es. part own prefix ++ es) (ap (part own) turn.sent_is ∙ part_own_of own asked reply)
 
   -- where the call leads its FMU from this state to that, and each other FMU has the same, they are so after the turn
   pub state_more : (m : Machine) (z : MachineState) (old new : ℕ → Component → MachineState) → after_if m (old own turn.component) asked ≡ new own turn.component → ((i : ℕ) (c : Component) → (i ≡ own → ⊥) → old i c ≡ new i c) →
-      (i : ℕ) (c : Component) → slice_get system.components i ≡ Some c → state_by m z (part i front) ≡ old i c → state_by m z (part i (front ++ sent)) ≡ new i c
+      (i : ℕ) (c : Component) → slice_get system.components i ≡ Some c → state_by m z (part i prefix) ≡ old i c → state_by m z (part i (prefix ++ sent)) ≡ new i c
   state_more m z old new here beside i c of was = by_number i own
       (λ same.
       let its : turn.component ≡ c = same_Some _ _ (sym turn.of ∙ ap (slice_get system.components) (sym same) ∙ of) in
-      let so_far : state_by m z (part own front) ≡ old own turn.component = ap (λ k. state_by m z (part k front)) (sym same) ∙ was ∙ ap₂ old same (sym its) in
-      ap (λ k. state_by m z (part k (front ++ sent))) same ∙ ap (state_by m z) part_more ∙ state_by_append m z (part own front) (exchanges_of asked reply)
+      let so_far : state_by m z (part own prefix) ≡ old own turn.component = ap (λ k. state_by m z (part k prefix)) (sym same) ∙ was ∙ ap₂ old same (sym its) in
+      ap (λ k. state_by m z (part k (prefix ++ sent))) same ∙ ap (state_by m z) part_more ∙ state_by_append m z (part own prefix) (exchanges_of asked reply)
       ∙ ap (λ y. state_by m y (exchanges_of asked reply)) so_far ∙ state_by_one turn.component.shape m (old own turn.component) asked reply turn.paired ∙ here ∙ ap₂ new (sym same) its)
-      (λ other. ap (state_by m z) (part_append i front sent ∙ ap (λ es. part i front ++ es) (ap (part i) turn.sent_is ∙ part_other_of i own asked reply other) ∙ append-nil (part i front)) ∙ was ∙ beside i c other)
+      (λ other. ap (state_by m z) (part_append i prefix sent ∙ ap (λ es. part i prefix ++ es) (ap (part i) turn.sent_is ∙ part_other_of i own asked reply other) ∙ append-nil (part i prefix)) ∙ was ∙ beside i c other)
 
 -- ---- told machines
 
@@ -183,7 +183,7 @@ told_state shape m v w (e ∷ es) (mid, may, asked, rest) good s machine state =
     next (Err fault) asked g = absurd g
 
 -- what became of an FMU after a log
-pub record Behind (news : List Instance) (i : ℕ) (m : Machine) (s : MachineState) : Type 0 where
+pub record After (news : List Instance) (i : ℕ) (m : Machine) (s : MachineState) : Type 0 where
   pub instance : Instance
   pub is : slice_get news i ≡ Some instance
   pub machine : instance.view.fixed.machine ≡ Some m
@@ -208,7 +208,7 @@ module _ (r : Run) (states : List MachineState) (olds news : List Instance) (at 
       replies_of m x.0.view (part i log) y.0.view y.2 s x.2 x.3
 
   -- after good ones each tells its machine in the state after them
-  pub told_at : All (IsGoodOf (shapes_of r.system)) log → (i : ℕ) (c : Component) (m : Machine) (s : MachineState) → IsFmu r states i c m s → Behind news i m (state_by m s (part i log))
+  pub told_at : All (IsGoodOf (shapes_of r.system)) log → (i : ℕ) (c : Component) (m : Machine) (s : MachineState) → IsFmu r states i c m s → After news i m (state_by m s (part i log))
   told_at good i c m s fmu =
       let x = at i c m s fmu in
       let y = has_at i x.0 x.1 in

@@ -1,14 +1,11 @@
 -- A walk in which calls wait: how it goes on with a port, and what holds after the sending of those that wait.
-use Rattle.std.proofs.Common.{◌≡◌, ℕ, ◌≤◌, ◌+◌, ◌==◌, ◌⊎◌, inl, inr, ℤ, Bool, true, false, List, [], ◌∷◌, ◌++◌, Option, Some, None, Contains, refl, sym, ap, ap₂, ◌∙◌, subst, arith, append_assoc, append-nil, map, take, drop}
-use Rattle.std.specs.Prelude.{All, filter, if◌then◌else◌, slice_get, slice_set, ◌||◌}
+use Rattle.std.proofs.Common.{◌≡◌, ℕ, ◌+◌, ◌==◌, ◌⊎◌, inl, inr, ℤ, Bool, true, false, List, [], ◌∷◌, ◌++◌, Option, Some, None, Contains, refl, sym, ap, ap₂, ◌∙◌, subst, arith, append_assoc, append-nil, map, take, drop}
+use Rattle.std.specs.Prelude.{All, slice_get, slice_set}
 use Rattle.std.specs.List.{list_any}
 use Rattle.std.specs.Option.{option_and_then, option_map_or}
-use Rattle.std.proofs.lemmas.Bool.{ne_eqb}
-use Rattle.std.proofs.lemmas.List.{drop-append-le, length-take-le, take-append-drop}
-use Rattle.std.proofs.lemmas.List.Elements.{All-contains, All-contains_itself, All-filter, Contains-append_right, filter-append, filter_passes}
-use Rattle.std.proofs.lemmas.List.Folds.{list_any-append}
+use Rattle.std.proofs.lemmas.List.Elements.{All-contains, Contains-append_right}
 use Rattle.std.proofs.lemmas.Map.Made.{Contains-tail}
-use Rattle.std.proofs.lemmas.Option.{same_Some, slice_get_within}
+use Rattle.std.proofs.lemmas.Option.{same_Some}
 use Rattle.fmi_calls.specs.declared.call.Call.{Call}
 use Rattle.fmi_calls.specs.declared.call.Reply.{Reply}
 use Rattle.fmu_peer.specs.declared.peer.Exchange.{Exchange}
@@ -18,18 +15,18 @@ use Rattle.system_model.specs.declared.system.Port.{Port}
 use Rattle.system_model.specs.declared.system.Role.{Role}
 use Rattle.system_model.specs.declared.system.Role.TheVariants.{Input, Output, ClockInput, ClockOutput, TimeClock}
 use Rattle.system_model.specs.declared.system.System.{System}
-use Rattle.system_model.specs.Ports.{is_clock_role, is_output_role, numbers, source_of}
+use Rattle.system_model.specs.Ports.{is_clock_role, is_output_role, port_numbers, source_of}
 use Rattle.system_model.specs.Sound.{IsSound}
 use Rattle.system_model.specs.Values.{value}
 use Rattle.system_model.proofs.CallerLemmas.{clock_at, place_of, source_at, true_false}
-use Rattle.run_model.proofs.CallerLemmas.{none_in, push_cases}
+use Rattle.run_model.proofs.CallerLemmas.{none_in}
 use Rattle.slot_calls.specs.Log.{Sent}
 use Rattle.event_iteration.specs.declared.walk.Waiting.{Waiting}
 use Rattle.event_iteration.specs.Explains.{call_at}
 use Rattle.event_iteration.specs.Turns.{IsPaired, Rules, Walked, Went, sent_of}
-use Rattle.event_iteration.specs.Waits.{AreTurns, IsPlain, IsSilent, OfClock, OfSource, ReadsPort, StandsBehindReads, call_in, is_fed, is_fed_by, skipped, turned, value_behind, waits_in}
+use Rattle.event_iteration.specs.Waits.{AreTurns, IsInput, IsPlain, IsSilent, OfClock, OfSource, ReadsPort, StandsAfterReads, call_in, is_fed, is_fed_by, passed_in, turned, value_after, waits_in}
 use Rattle.event_iteration.proofs.Activity.{any_from}
-use Rattle.event_iteration.proofs.Turned.{contains_first, contains_next, turned_beside, turned_set, value_behind-is, value_behind_same}
+use Rattle.event_iteration.proofs.Turned.{contains_first, contains_next, turned_beside, turned_set, value_after-is, value_after_same}
 use Rattle.event_iteration.proofs.Walking.{by_number, call_at-is, more_order, split_order}
 
 -- ---- lists
@@ -39,31 +36,6 @@ contains_split [] q m = absurd (none_in q m)
 contains_split (x ∷ xs) q m = by_number x q
     (λ same. ([], xs, ap (λ (n : ℕ). n ∷ xs) same))
     (λ other. let r = contains_split xs q (Contains-tail x xs q other m) in (x ∷ r.0, r.1, ap (λ (l : List ℕ). x ∷ l) r.2))
-
-in_drop : (n : ℕ) (xs : List ℕ) (q : ℕ) → Contains (drop n xs) q → Contains xs q
-in_drop n xs q m = subst (λ (l : List ℕ). Contains l q) (take-append-drop n xs) (Contains-append_right (take n xs) (drop n xs) q m)
-
-in_filter : (f : ℕ → Bool) (xs : List ℕ) (q : ℕ) → Contains (filter f xs) q → Contains xs q
-in_filter f xs q m = All-contains (Contains xs) (filter f xs) q (All-filter f (Contains xs) xs (All-contains_itself xs)) m
-
-passed : (f : ℕ → Bool) (xs : List ℕ) (q : ℕ) → Contains (filter f xs) q → f q ≡ true
-passed f xs q m = All-contains (λ (x : ℕ). f x ≡ true) (filter f xs) q (filter_passes f xs) m
-
-filter_alike : (f g : ℕ → Bool) (xs : List ℕ) → ((x : ℕ) → Contains xs x → f x ≡ g x) → filter f xs ≡ filter g xs
-filter_alike f g [] h = refl
-filter_alike f g (x ∷ xs) h =
-    ap (λ (b : Bool). if b then x ∷ filter f xs else filter f xs) (h x (contains_first x xs))
-    ∙ ap (λ (l : List ℕ). if g x then x ∷ l else l) (filter_alike f g xs (λ y m. h y (contains_next x y xs m)))
-
-filter_none : (f : ℕ → Bool) → ((x : ℕ) → f x ≡ false) → (xs : List ℕ) → filter f xs ≡ []
-filter_none f h [] = refl
-filter_none f h (x ∷ xs) = ap (λ (b : Bool). if b then x ∷ filter f xs else filter f xs) (h x) ∙ filter_none f h xs
-
-filter_true : (f : ℕ → Bool) (p : ℕ) → f p ≡ true → filter f (p ∷ []) ≡ p ∷ []
-filter_true f p h = ap (λ (b : Bool). if b then p ∷ [] else []) h
-
-filter_false : (f : ℕ → Bool) (p : ℕ) → f p ≡ false → filter f (p ∷ []) ≡ []
-filter_false f p h = ap (λ (b : Bool). if b then p ∷ [] else []) h
 
 pub map_alike : {X : Type 0} (f g : ℕ → X) (xs : List ℕ) → ((x : ℕ) → Contains xs x → f x ≡ g x) → map f xs ≡ map g xs
 map_alike f g [] h = refl
@@ -85,22 +57,22 @@ cut (x ∷ xs) (y ∷ ys) c call left e =
 
 -- exchanges whose calls are these and one more
 pub record Pushed (es : List Exchange) (cs : List Call) (c : Call) : Type 0 where
-  pub front : List Exchange
+  pub prefix : List Exchange
   pub last : Exchange
-  pub is : es ≡ front ++ last ∷ []
-  pub calls : calls_in front ≡ cs
+  pub is : es ≡ prefix ++ last ∷ []
+  pub calls : calls_in prefix ≡ cs
   pub call : last.call ≡ c
 
 pub pushed : (cs : List Call) (c : Call) (es : List Exchange) → calls_in es ≡ cs ++ c ∷ [] → Pushed es cs c
 pushed [] c [] h = absurd (cc)
-pushed [] c (e ∷ []) h = record { front = []; last = e; is = refl; calls = refl; call = cc }
+pushed [] c (e ∷ []) h = record { prefix = []; last = e; is = refl; calls = refl; call = cc }
 pushed [] c (e ∷ f ∷ es) h = absurd (cc)
 pushed (x ∷ cs) c [] h = absurd (cc)
 pushed (x ∷ cs) c (e ∷ es) h =
     let head : e.call ≡ x = cc in
     let tail : calls_in es ≡ cs ++ c ∷ [] = cc in
     let r = pushed cs c es tail in
-    record { front = e ∷ r.front; last = r.last; is = ap (λ (l : List Exchange). e ∷ l) r.is; calls = ap₂ (λ (y : Call) (l : List Call). y ∷ l) head r.calls; call = r.call }
+    record { prefix = e ∷ r.prefix; last = r.last; is = ap (λ (l : List Exchange). e ∷ l) r.is; calls = ap₂ (λ (y : Call) (l : List Call). y ∷ l) head r.calls; call = r.call }
 
 pub no_calls : (es : List Exchange) → calls_in es ≡ [] → es ≡ []
 no_calls [] h = refl
@@ -124,12 +96,6 @@ fed_role ports q m ClockOutput from plain = absurd (cc)
 fed_role ports q m (TimeClock timing) from plain = absurd (cc)
 
 -- such a port is an input
-record IsInput (system : System) (p : ℕ) : Type 0 where
-  port : Port
-  is : slice_get system.ports p ≡ Some port
-  plain : is_clock_role port.role ≡ false
-  output : is_output_role port.role ≡ false
-
 input_role : (ports : List ℕ) (role : Role) → is_fed_by ports role ≡ true → (is_clock_role role ≡ false) × (is_output_role role ≡ false)
 input_role ports (Input feed) g = (refl, refl)
 input_role ports Output g = absurd (true_false (sym g))
@@ -137,35 +103,12 @@ input_role ports (ClockInput feed) g = absurd (true_false (sym g))
 input_role ports ClockOutput g = absurd (true_false (sym g))
 input_role ports (TimeClock timing) g = absurd (true_false (sym g))
 
-fed_input : (system : System) (ports : List ℕ) (p : ℕ) → is_fed system ports p ≡ true → IsInput system p
+pub fed_input : (system : System) (ports : List ℕ) (p : ℕ) → is_fed system ports p ≡ true → IsInput system p
 fed_input system ports p h = by (slice_get system.ports p) refl h
   where
     by : (o : Option Port) → slice_get system.ports p ≡ o → option_map_or (λ (x : Port). is_fed_by ports x.role) o false ≡ true → IsInput system p
     by None is g = absurd (true_false (sym g))
     by (Some port) is g = let role = input_role ports port.role g in record { port = port; is = is; plain = role.0; output = role.1 }
-
-or_none : (b : Bool) → (b || false) ≡ b
-or_none true = refl
-or_none false = refl
-
--- one that waits feeds no port that isn't about it
-role_push : (ports : List ℕ) (p : ℕ) (role : Role) → (source_of role ≡ Some p → ⊥) → is_fed_by (ports ++ p ∷ []) role ≡ is_fed_by ports role
-role_push ports p (Input None) apart = refl
-role_push ports p (Input (Some feed)) apart =
-    list_any-append (λ (y : ℕ). y == feed.from.0) ports (p ∷ [])
-    ∙ ap (λ (b : Bool). list_any (λ (y : ℕ). y == feed.from.0) ports || (b || false)) (ne_eqb p feed.from.0 (λ e. apart (ap Some (sym e))))
-    ∙ or_none (list_any (λ (y : ℕ). y == feed.from.0) ports)
-role_push ports p Output apart = refl
-role_push ports p (ClockInput feed) apart = refl
-role_push ports p ClockOutput apart = refl
-role_push ports p (TimeClock timing) apart = refl
-
-fed_push : (system : System) (ports : List ℕ) (p x : ℕ) → (ReadsPort system x p → ⊥) → is_fed system (ports ++ p ∷ []) x ≡ is_fed system ports x
-fed_push system ports p x apart = by (slice_get system.ports x) refl
-  where
-    by : (o : Option Port) → slice_get system.ports x ≡ o → option_map_or (λ (y : Port). is_fed_by (ports ++ p ∷ []) y.role) o false ≡ option_map_or (λ (y : Port). is_fed_by ports y.role) o false
-    by None is = refl
-    by (Some port) is = role_push ports p port.role (λ from. apart (OfSource port is from))
 
 none_role : (role : Role) → is_fed_by [] role ≡ false
 none_role (Input None) = refl
@@ -175,16 +118,12 @@ none_role (ClockInput feed) = refl
 none_role ClockOutput = refl
 none_role (TimeClock timing) = refl
 
-none_fed : (system : System) (x : ℕ) → is_fed system [] x ≡ false
+pub none_fed : (system : System) (x : ℕ) → is_fed system [] x ≡ false
 none_fed system x = by (slice_get system.ports x)
   where
     by : (o : Option Port) → option_map_or (λ (y : Port). is_fed_by [] y.role) o false ≡ false
     by None = refl
     by (Some port) = none_role port.role
-
-pub none_skipped : (system : System) (order : List ℕ) (k : ℕ) (w : Waiting) → waits_in w ≡ [] → skipped system order k w ≡ []
-none_skipped system order k w none =
-    ap (λ (ports : List ℕ). filter (is_fed system ports) (drop w.since (take k order))) none ∙ filter_none (is_fed system []) (none_fed system) (drop w.since (take k order))
 
 -- ---- a turn of the walk
 
@@ -193,7 +132,7 @@ call_in-is system rules V p port c is of = ap (λ (o : Option Port). option_and_
 
 module _ (system : System) (rules : Rules) (before : List (Option ℤ)) (order : List ℕ) (k p : ℕ) (at : slice_get order k ≡ Some p) (port : Port) (is : slice_get system.ports p ≡ Some port) (c : Component) (of : slice_get system.components port.component.0 ≡ Some c) where
   pub goes : (W : List (Option ℤ)) (log : List Sent) (reply : Option Reply) → Walked system rules before (take k order) W log → IsPaired c.shape (rules.asks p port c W) reply →
-      Walked system rules before (take (k + 1) order) (slice_set W p (value_behind system rules W p reply)) (log ++ sent_of port.component.0 (rules.asks p port c W) reply)
+      Walked system rules before (take (k + 1) order) (slice_set W p (value_after system rules W p reply)) (log ++ sent_of port.component.0 (rules.asks p port c W) reply)
   goes W log reply walked paired =
       Went (take (k + 1) order) (take k order) p reply W _ _ log (sent_of port.component.0 (rules.asks p port c W) reply) (more_order order k p at) refl walked (record {
         port = port;
@@ -202,26 +141,26 @@ module _ (system : System) (rules : Rules) (before : List (Option ℤ)) (order :
         of = of;
         paired = paired;
         sent_is = refl;
-        next_is = ap (λ (v : Option ℤ). slice_set W p v) (value_behind-is system rules W p port reply is);
+        next_is = ap (λ (v : Option ℤ). slice_set W p v) (value_after-is system rules W p port reply is);
       })
 
   -- it sends nothing
   pub goes_silently : (W : List (Option ℤ)) (log : List Sent) → Walked system rules before (take k order) W log → rules.asks p port c W ≡ None →
-      Walked system rules before (take (k + 1) order) (slice_set W p (value_behind system rules W p None)) log
+      Walked system rules before (take (k + 1) order) (slice_set W p (value_after system rules W p None)) log
   goes_silently W log walked none =
-      subst (λ (l : List Sent). Walked system rules before (take (k + 1) order) (slice_set W p (value_behind system rules W p None)) l)
+      subst (λ (l : List Sent). Walked system rules before (take (k + 1) order) (slice_set W p (value_after system rules W p None)) l)
       (ap (λ (o : Option Call). log ++ sent_of port.component.0 o None) none ∙ append-nil log)
       (goes W log None walked (subst (λ (o : Option Call). IsPaired c.shape o None) (sym none) tt))
 
 -- ---- where ports wait, and others were passed that they feed
 
-module _ (system : System) (sound : IsSound system) (rules : Rules) (turns : AreTurns system rules) (order : List ℕ) (ordered : StandsBehindReads system order) (k p : ℕ) (at : slice_get order k ≡ Some p) (w : Waiting)
-    (plain : All (IsPlain system w.component) (waits_in w)) (among : (q : ℕ) → Contains (waits_in w) q → Contains (take k order) q) where
+module _ (system : System) (sound : IsSound system) (rules : Rules) (turns : AreTurns system rules) (order : List ℕ) (ordered : StandsAfterReads system order) (k p : ℕ) (at : slice_get order k ≡ Some p) (w : Waiting)
+    (plain : All (IsPlain system w.component) (waits_in w)) (among : (q : ℕ) → Contains (waits_in w) q → Contains (take k order) q) (passed : (q : ℕ) → Contains (passed_in w) q → Contains (take k order) q × IsInput system q) where
   abbrev queue : List ℕ
   queue = waits_in w
 
   abbrev skips : List ℕ
-  skips = skipped system order k w
+  skips = passed_in w
 
   pub fresh : Contains (take k order) p → ⊥
   fresh m = ordered.once (take k order) (drop (k + 1) order) p (split_order order k p at) m
@@ -231,14 +170,14 @@ module _ (system : System) (sound : IsSound system) (rules : Rules) (turns : Are
       let r = contains_split (take k order) x m in
       let there : order ≡ r.0 ++ x ∷ (r.1 ++ p ∷ drop (k + 1) order) =
       split_order order k p at ∙ ap (λ (l : List ℕ). l ++ p ∷ drop (k + 1) order) r.2 ∙ append_assoc r.0 (x ∷ r.1) (p ∷ drop (k + 1) order) in
-      ordered.behind r.0 (r.1 ++ p ∷ drop (k + 1) order) x p there reads (Contains-append_right r.1 (p ∷ drop (k + 1) order) p (contains_first p (drop (k + 1) order)))
+      ordered.after r.0 (r.1 ++ p ∷ drop (k + 1) order) x p there reads (Contains-append_right r.1 (p ∷ drop (k + 1) order) p (contains_first p (drop (k + 1) order)))
 
   -- those that were passed were taken
   pub skips_among : (q : ℕ) → Contains skips q → Contains (take k order) q
-  skips_among q m = in_drop w.since (take k order) q (in_filter (is_fed system queue) (drop w.since (take k order)) q m)
+  skips_among q m = (passed q m).0
 
   skips_input : (q : ℕ) → Contains skips q → IsInput system q
-  skips_input q m = fed_input system queue q (passed (is_fed system queue) (drop w.since (take k order)) q m)
+  skips_input q m = (passed q m).1
 
   plain_at : (q : ℕ) → Contains queue q → IsPlain system w.component q
   plain_at q m = All-contains (IsPlain system w.component) queue q plain m
@@ -248,7 +187,7 @@ module _ (system : System) (sound : IsSound system) (rules : Rules) (turns : Are
 
   -- a Clock neither waits nor was passed
   module _ (port : Port) (is : slice_get system.ports p ≡ Some port) where
-    pub clock_apart : (q : ℕ) → Contains (numbers port.clocks) q → (Contains queue q → ⊥) × (Contains skips q → ⊥)
+    pub clock_apart : (q : ℕ) → Contains (port_numbers port.clocks) q → (Contains queue q → ⊥) × (Contains skips q → ⊥)
     clock_apart q m =
         let clock = clock_at system sound p port (place_of system sound p port is) q m in (
           (λ waits. let there = plain_at q waits in absurd (true_false (sym clock.role ∙ ap (λ (x : Port). is_clock_role x.role) (same_port q clock.clock there.port clock.is there.is) ∙ there.role))),
@@ -268,7 +207,7 @@ module _ (system : System) (sound : IsSound system) (rules : Rules) (turns : Are
 
     pub reads_apart : is_fed system queue p ≡ false → (q : ℕ) → ReadsPort system p q → (Contains queue q → ⊥) × (Contains skips q → ⊥)
     reads_apart unfed q (OfSource x x_is from) = source_apart unfed q (ap (λ (y : Port). source_of y.role) (same_port p port x is x_is) ∙ from)
-    reads_apart unfed q (OfClock x x_is m) = clock_apart q (subst (λ (y : Port). Contains (numbers y.clocks) q) (same_port p x port x_is is) m)
+    reads_apart unfed q (OfClock x x_is m) = clock_apart q (subst (λ (y : Port). Contains (port_numbers y.clocks) q) (same_port p x port x_is is) m)
 
   -- ---- the values by answers that may come
 
@@ -294,40 +233,13 @@ module _ (system : System) (sound : IsSound system) (rules : Rules) (turns : Are
     pub asks_before : (port : Port) (c : Component) → slice_get system.ports p ≡ Some port → is_fed system queue p ≡ false → rules.asks p port c whole ≡ rules.asks p port c V
     asks_before port c is unfed = turns.asks_same p port c whole V is (λ q reads. whole_beside q (reads_apart port is unfed q reads))
 
-    pub behind_before : (port : Port) (reply : Option Reply) → slice_get system.ports p ≡ Some port → is_fed system queue p ≡ false → value_behind system rules whole p reply ≡ value_behind system rules V p reply
-    behind_before port reply is unfed = value_behind_same system rules turns whole V p reply (λ q reads. whole_beside q (reads_apart port is unfed q reads)) own_beside
+    pub after_before : (port : Port) (reply : Option Reply) → slice_get system.ports p ≡ Some port → is_fed system queue p ≡ false → value_after system rules whole p reply ≡ value_after system rules V p reply
+    after_before port reply is unfed = value_after_same system rules turns whole V p reply (λ q reads. whole_beside q (reads_apart port is unfed q reads)) own_beside
 
     -- and so may one that waits, before those that were passed
-    pub behind_filled : (port : Port) (reply : Option Reply) → slice_get system.ports p ≡ Some port → is_fed system queue p ≡ false → value_behind system rules whole p reply ≡ value_behind system rules filled p reply
-    behind_filled port reply is unfed =
-        value_behind_same system rules turns whole filled p reply (λ q reads. turned_beside system rules skips [] filled q (reads_apart port is unfed q reads).1) (turned_beside system rules skips [] filled p (λ m. fresh (skips_among p m)))
+    pub after_filled : (port : Port) (reply : Option Reply) → slice_get system.ports p ≡ Some port → is_fed system queue p ≡ false → value_after system rules whole p reply ≡ value_after system rules filled p reply
+    after_filled port reply is unfed =
+        value_after_same system rules turns whole filled p reply (λ q reads. turned_beside system rules skips [] filled q (reads_apart port is unfed q reads).1) (turned_beside system rules skips [] filled p (λ m. fresh (skips_among p m)))
 
     pub silent_before : (port : Port) (c : Component) → slice_get system.ports p ≡ Some port → slice_get system.components port.component.0 ≡ Some c → IsSilent system rules p V → rules.asks p port c whole ≡ None
     silent_before port c is of silent = silent port c whole is of (λ q m. whole_beside q (clock_apart port is q m))
-
-  -- ---- those that were passed, with this port
-
-  module _ (since : w.since ≤ k) where
-    seg_push : drop w.since (take (k + 1) order) ≡ drop w.since (take k order) ++ p ∷ []
-    seg_push =
-        ap (drop w.since) (more_order order k p at)
-        ∙ drop-append-le w.since (take k order) (p ∷ []) (let e = length-take-le k order (let lt = slice_get_within order k p at in omega (arith, lt)) in omega (arith, e, since))
-
-    pub skips_same : is_fed system queue p ≡ false → skipped system order (k + 1) w ≡ skips
-    skips_same unfed =
-        ap (filter (is_fed system queue)) seg_push ∙ filter-append (is_fed system queue) (drop w.since (take k order)) (p ∷ [])
-        ∙ ap (λ (l : List ℕ). skips ++ l) (filter_false (is_fed system queue) p unfed) ∙ append-nil skips
-
-    pub skips_more : is_fed system queue p ≡ true → skipped system order (k + 1) w ≡ skips ++ p ∷ []
-    skips_more fed =
-        ap (filter (is_fed system queue)) seg_push ∙ filter-append (is_fed system queue) (drop w.since (take k order)) (p ∷ [])
-        ∙ ap (λ (l : List ℕ). skips ++ l) (filter_true (is_fed system queue) p fed)
-
-    -- with the port among those that wait
-    pub skips_pushed : (next : Waiting) → waits_in next ≡ queue ++ p ∷ [] → next.since ≡ w.since → is_fed system queue p ≡ false → (ReadsPort system p p → ⊥) → skipped system order (k + 1) next ≡ skips
-    skips_pushed next waits starts unfed itself =
-        ap₂ (λ (ports : List ℕ) (n : ℕ). filter (is_fed system ports) (drop n (take (k + 1) order))) waits starts
-        ∙ filter_alike (is_fed system (queue ++ p ∷ [])) (is_fed system queue) (drop w.since (take (k + 1) order)) (λ x m.
-        fed_push system queue p x (push_cases (take k order) p x (subst (λ (l : List ℕ). Contains l x) (more_order order k p at) (in_drop w.since (take (k + 1) order) x m))
-        (λ old. unread x old) (λ same. subst (λ (n : ℕ). ReadsPort system n p → ⊥) same itself)))
-        ∙ skips_same unfed

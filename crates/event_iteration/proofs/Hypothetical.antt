@@ -49,9 +49,9 @@ told_untold log olds news told = record {
   len = length-map news untold ∙ told.len ∙ sym (length-map olds untold);
   each = λ i d w.
       let within : i < length olds = (let e = length-map olds untold in omega (arith, e, w)) in
-      let behind : i < length news = (let e = told.len in omega (arith, e, within)) in
+      let after : i < length news = (let e = told.len in omega (arith, e, within)) in
       let old = map_at untold olds i (get_or olds i d) d within (get_or_default olds i d (get_or olds i d) within) in
-      let new = map_at untold news i (get_or news i d) d behind (get_or_default news i d (get_or news i d) behind) in
+      let new = map_at untold news i (get_or news i d) d after (get_or_default news i d (get_or news i d) after) in
       subst (λ (y : Instance). Has (get_or (map untold olds) i d) (part i log) y) new
       (subst (λ (x : Instance). Has x (part i log) (untold (get_or news i d))) old
       (has_untold (get_or olds i d) (get_or news i d) (part i log) (told.each i d within)));
@@ -107,7 +107,7 @@ goes_on shape phase e cs (Ok reply) good next = next reply good
 goes_on shape phase e cs (Err fault) good next = absurd good
 
 comes : (shape : Shape) (origin : Option Origin) (phase : Phase) (talk : Option (List Exchange)) (faults : ℕ) (es : List Exchange) → MayAskAll shape phase (calls_in es) → AllGood shape es →
-    (behind : Option (List Exchange)) × Talks (view_of shape origin phase talk faults) es (view_of shape origin (phase_from shape phase es) behind faults)
+    (after : Option (List Exchange)) × Talks (view_of shape origin phase talk faults) es (view_of shape origin (phase_from shape phase es) after faults)
 comes shape origin phase talk faults [] may good = (talk, refl)
 comes shape origin phase talk faults (e ∷ es) may good =
     let here : IsGood shape e = All-head (IsGood shape) e es good in
@@ -122,14 +122,14 @@ comes shape origin phase talk faults (e ∷ es) may good =
     )
 
 -- the instance after them
-pub record Behind (x : Instance) (es : List Exchange) : Type 0 where
+pub record After (x : Instance) (es : List Exchange) : Type 0 where
   pub next : Instance
   pub has : Has (untold x) es next
   pub shape : next.view.fixed.shape ≡ x.view.fixed.shape
   pub phase : next.view.phase ≡ phase_from x.view.fixed.shape x.view.phase es
 
-pub behind : (x : Instance) (es : List Exchange) → MayAskAll x.view.fixed.shape x.view.phase (calls_in es) → AllGood x.view.fixed.shape es → Behind x es
-behind x es may good =
+pub after : (x : Instance) (es : List Exchange) → MayAskAll x.view.fixed.shape x.view.phase (calls_in es) → AllGood x.view.fixed.shape es → After x es
+after x es may good =
     let shape = x.view.fixed.shape in
     let answers = comes shape x.view.fixed.origin x.view.phase x.view.talk x.view.faults es may good in
     record {

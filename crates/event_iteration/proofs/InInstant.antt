@@ -37,7 +37,7 @@ use Rattle.system_model.specs.declared.system.Timing.{Timing}
 use Rattle.system_model.specs.declared.system.Port.{Port}
 use Rattle.system_model.specs.declared.system.System.{System}
 use Rattle.system_model.specs.Needs.{ByClock, ByFeed, Needs}
-use Rattle.system_model.specs.Ports.{is_clock_role, is_output_role, numbers, source_of}
+use Rattle.system_model.specs.Ports.{is_clock_role, is_output_role, port_numbers, source_of}
 use Rattle.system_model.specs.Sound.{IsSound}
 use Rattle.system_model.proofs.CallerLemmas.{all_by_place, at_contains, true_false, clock_at, clock_type_of, events_of, is_input_of, is_output_of, kind_of_clock, place_of}
 use Rattle.system_model.specs.Values.{value, is_active, is_present}
@@ -54,7 +54,7 @@ use Rattle.event_iteration.proofs.Activity.{active_by, active_by-append, active_
 use Rattle.event_iteration.proofs.Fmus.{exchanges_of, got, part_own_of}
 use Rattle.event_iteration.proofs.Marks.{unmarked}
 use Rattle.event_iteration.proofs.Permits.{at_under, clock_fed_fits, input_there, no_clocks_there, placed, readable, under, writable}
-use Rattle.event_iteration.proofs.Turning.{AsksBy, Gets, IsCallOf, Sets, TakesFitting, Ticks, Touches, all_was, behind, calls_of, fits_along, quiet_behind, read_alone, shape_here, shape_was, talks_here}
+use Rattle.event_iteration.proofs.Turning.{AsksBy, Gets, IsCallOf, Sets, TakesFitting, Ticks, Touches, after, all_was, calls_of, fits_along, quiet_after, read_alone, shape_here, shape_was, talks_here}
 use Rattle.event_iteration.proofs.Walking.{AreAbout, Here, along, by_number, here_at, next_beside, next_here}
 
 -- ---- turns are about what a port needs
@@ -240,47 +240,47 @@ module _ (system : System) (sound : IsSound system) (ticks : ℕ → Bool) (is_f
       (q : ℕ) (port : Port) → Contains taken q → slice_get system.ports q ≡ Some port → port.component.0 ≡ i → is_clock_role port.role ≡ true → is_active (value values q) ≡ true →
       is_marked c.shape (active_by c.shape active (part i log)) port.reference ≡ true
 
-  own_active : (p : ℕ) (reply : Option Reply) (values next : List (Option ℤ)) (front sent : List Sent) (turn : Turn system (in_instant ticks is_first) p reply values next sent) (active : List Bool) →
+  own_active : (p : ℕ) (reply : Option Reply) (values next : List (Option ℤ)) (prefix sent : List Sent) (turn : Turn system (in_instant ticks is_first) p reply values next sent) (active : List Bool) →
       length active ≡ length turn.component.shape.variables → is_clock_role turn.port.role ≡ true → is_active (takes_in_instant turn.port.role turn.port (ticks p) values (value values p) reply) ≡ true →
-      is_marked turn.component.shape (active_by turn.component.shape active (part turn.port.component.0 (front ++ sent))) turn.port.reference ≡ true
-  own_active p reply values next front sent turn active room clock h =
+      is_marked turn.component.shape (active_by turn.component.shape active (part turn.port.component.0 (prefix ++ sent))) turn.port.reference ≡ true
+  own_active p reply values next prefix sent turn active room clock h =
       let shape = turn.component.shape in
       let r = turn.port.reference in
       let k = turn.port.component.0 in
       let call = asks_in_instant turn.port.role turn.port shape.has_event_mode is_first (ticks p) values in
-      let part_is : part k (front ++ sent) ≡ part k front ++ exchanges_of call reply =
-      part_append k front sent ∙ ap (λ es. part k front ++ part k es) turn.sent_is ∙ ap (λ es. part k front ++ es) (part_own_of k call reply) in
+      let part_is : part k (prefix ++ sent) ≡ part k prefix ++ exchanges_of call reply =
+      part_append k prefix sent ∙ ap (λ es. part k prefix ++ part k es) turn.sent_is ∙ ap (λ es. part k prefix ++ es) (part_own_of k call reply) in
       ap (λ es. is_marked shape (active_by shape active es) r) part_is
-      ∙ ap (λ xs. is_marked shape xs r) (active_by-append shape active (part k front) (exchanges_of call reply))
-      ∙ turn_active shape turn.port (placed system sound p turn.port turn.is turn.component turn.of shape refl).variable (active_by shape active (part k front))
-      (under system sound p turn.port turn.is turn.component turn.of shape refl) (length-active shape active (part k front) ∙ room) clock
+      ∙ ap (λ xs. is_marked shape xs r) (active_by-append shape active (part k prefix) (exchanges_of call reply))
+      ∙ turn_active shape turn.port (placed system sound p turn.port turn.is turn.component turn.of shape refl).variable (active_by shape active (part k prefix))
+      (under system sound p turn.port turn.is turn.component turn.of shape refl) (length-active shape active (part k prefix) ∙ room) clock
       (kind_of_clock system p turn.port (place_of system sound p turn.port turn.is) clock)
       turn.port.role clock shape.has_event_mode is_first (ticks p) values (value values p) reply turn.paired h
 
-  active_more : (pre : List ℕ) (p : ℕ) (reply : Option Reply) (values next : List (Option ℤ)) (front sent : List Sent) → Here (Needs system) pre p → length values ≡ length system.ports → AreMarked pre values front →
-      Turn system (in_instant ticks is_first) p reply values next sent → AreMarked (pre ++ p ∷ []) next (front ++ sent)
-  active_more pre p reply values next front sent here len was turn i c of active room q port among is at clock h = by_number q p
+  active_more : (pre : List ℕ) (p : ℕ) (reply : Option Reply) (values next : List (Option ℤ)) (prefix sent : List Sent) → Here (Needs system) pre p → length values ≡ length system.ports → AreMarked pre values prefix →
+      Turn system (in_instant ticks is_first) p reply values next sent → AreMarked (pre ++ p ∷ []) next (prefix ++ sent)
+  active_more pre p reply values next prefix sent here len was turn i c of active room q port among is at clock h = by_number q p
       (λ same.
       let port_is : turn.port ≡ port = same_Some _ _ (sym turn.is ∙ ap (slice_get system.ports) (sym same) ∙ is) in
       let at_i : turn.port.component.0 ≡ i = ap (λ (x : Port). x.component.0) port_is ∙ at in
       let c_is : turn.component ≡ c = same_Some _ _ (sym turn.of ∙ ap (slice_get system.components) at_i ∙ of) in
       let a_clock : is_clock_role turn.port.role ≡ true = ap (λ (x : Port). is_clock_role x.role) port_is ∙ clock in
       let one : is_active (takes_in_instant turn.port.role turn.port (ticks p) values (value values p) reply) ≡ true = ap is_active (sym (next_here turn len) ∙ ap (value next) (sym same)) ∙ h in
-      subst (λ (x : Port). is_marked c.shape (active_by c.shape active (part i (front ++ sent))) x.reference ≡ true) port_is
-      (subst (λ k. is_marked c.shape (active_by c.shape active (part k (front ++ sent))) turn.port.reference ≡ true) at_i
-      (subst (λ (d : Component). length active ≡ length d.shape.variables → is_marked d.shape (active_by d.shape active (part turn.port.component.0 (front ++ sent))) turn.port.reference ≡ true) c_is
-      (λ its. own_active p reply values next front sent turn active its a_clock one) room)))
+      subst (λ (x : Port). is_marked c.shape (active_by c.shape active (part i (prefix ++ sent))) x.reference ≡ true) port_is
+      (subst (λ k. is_marked c.shape (active_by c.shape active (part k (prefix ++ sent))) turn.port.reference ≡ true) at_i
+      (subst (λ (d : Component). length active ≡ length d.shape.variables → is_marked d.shape (active_by d.shape active (part turn.port.component.0 (prefix ++ sent))) turn.port.reference ≡ true) c_is
+      (λ its. own_active p reply values next prefix sent turn active its a_clock one) room)))
       (λ other.
       let old : Contains pre q = push_cases pre p q among (λ m. m) (λ e. absurd (other (sym e))) in
-      ap (λ es. is_marked c.shape (active_by c.shape active es) port.reference) (part_append i front sent)
-      ∙ ap (λ xs. is_marked c.shape xs port.reference) (active_by-append c.shape active (part i front) (part i sent))
-      ∙ active_keeps c.shape (active_by c.shape active (part i front)) (part i sent) port.reference
+      ap (λ es. is_marked c.shape (active_by c.shape active es) port.reference) (part_append i prefix sent)
+      ∙ ap (λ xs. is_marked c.shape xs port.reference) (active_by-append c.shape active (part i prefix) (part i sent))
+      ∙ active_keeps c.shape (active_by c.shape active (part i prefix)) (part i sent) port.reference
       (was i c of active room q port old is at clock (ap is_active (sym (next_beside turn q other)) ∙ h)))
 
-  pub active_along : (before : List (Option ℤ)) → length before ≡ length system.ports → (taken rest : List ℕ) (values : List (Option ℤ)) (log : List Sent) → numbers system.instant_order ≡ taken ++ rest →
+  pub active_along : (before : List (Option ℤ)) → length before ≡ length system.ports → (taken rest : List ℕ) (values : List (Option ℤ)) (log : List Sent) → port_numbers system.instant_order ≡ taken ++ rest →
       Walked system (in_instant ticks is_first) before taken values log → AreMarked taken values log
   active_along before len taken rest values log is walked =
-      (along (λ q. q < length system.ports) (Needs system) system (in_instant ticks is_first) before (numbers system.instant_order) sound.instant_order len AreMarked
+      (along (λ q. q < length system.ports) (Needs system) system (in_instant ticks is_first) before (port_numbers system.instant_order) sound.instant_order len AreMarked
       (λ i c of active room q port among. absurd (none_in q among)) active_more taken rest values log is walked).1
 
 -- ---- permission
@@ -370,7 +370,7 @@ module _ (system : System) (sound : IsSound system) (pre : List ℕ) (p : ℕ) (
   by_clocks h v same =
       let there = place_of system sound p port is in
       let one = any_some (λ (k : PortId). is_active (value values k.0)) port.clocks h in
-      let among : Contains (numbers port.clocks) one.1.0 = at_contains (numbers port.clocks) one.0 one.1.0 (slice_get-map (λ (x : PortId). x.0) port.clocks one.0 ∙ ap (option_map (λ (x : PortId). x.0)) one.2) in
+      let among : Contains (port_numbers port.clocks) one.1.0 = at_contains (port_numbers port.clocks) one.0 one.1.0 (slice_get-map (λ (x : PortId). x.0) port.clocks one.0 ∙ ap (option_map (λ (x : PortId). x.0)) one.2) in
       let clock = clock_at system sound p port there one.1.0 among in
       ap (λ (x : Variable). list_any (is_marked c.shape active) x.clocks) same
       ∙ any_from (is_marked c.shape active) there.variable.clocks clock.clock.reference clock.named
@@ -403,9 +403,9 @@ module _ (system : System) (sound : IsSound system) (ticks : ℕ → Bool) (is_f
   calls : All (IsCallOf ReadsOrSets system taken) log
   calls = calls_of ReadsOrSets system (in_instant ticks is_first) (reads_or_sets system sound ticks is_first) before taken values log walked
 
-  module _ (rest : List ℕ) (p : ℕ) (order_is : numbers system.instant_order ≡ taken ++ p ∷ rest) where
+  module _ (rest : List ℕ) (p : ℕ) (order_is : port_numbers system.instant_order ≡ taken ++ p ∷ rest) where
     now : Here (Needs system) taken p
-    now = here_at (λ q. q < length system.ports) (Needs system) (numbers system.instant_order) taken p rest sound.instant_order order_is
+    now = here_at (λ q. q < length system.ports) (Needs system) (port_numbers system.instant_order) taken p rest sound.instant_order order_is
 
     midway : (port : Port) (c : Component) (x : Instance) → slice_get system.ports p ≡ Some port → slice_get system.components port.component.0 ≡ Some c → slice_get mids port.component.0 ≡ Some x →
         IsMidway c.shape.has_event_mode port values x.view
@@ -414,10 +414,10 @@ module _ (system : System) (sound : IsSound system) (ticks : ℕ → Bool) (is_f
         let shape = shape_here system olds mids log told same port.component.0 c of x at in
         let was = shape_was system olds mids log told same port.component.0 c of x at in
         let began : BeginsInstant old.view = all_was system olds mids log told same port.component.0 c of x at (λ (y : Instance). BeginsInstant y.view) begins in
-        let beside = behind ReadsOrSets system sound taken log calls olds mids told same port.component.0 c of x at touches p port is refl now.fresh in
+        let beside = after ReadsOrSets system sound taken log calls olds mids told same port.component.0 c of x at touches p port is refl now.fresh in
         let active : x.view.phase.active ≡ active_by c.shape old.view.phase.active (part port.component.0 log) =
         talks_active c.shape old.view x.view (part port.component.0 log) was (talks_here system olds mids log told same port.component.0 c of x at)
-        (quiet_behind ReadsOrSets system sound taken log calls olds mids told same port.component.0 c of x at touches) in
+        (quiet_after ReadsOrSets system sound taken log calls olds mids told same port.component.0 c of x at touches) in
         let room : length old.view.phase.active ≡ length c.shape.variables = began.room ∙ ap (λ (s : Shape). length s.variables) was in
         record {
           state = beside.0 ∙ began.running ∙ ap running_state was;
@@ -437,7 +437,7 @@ module _ (system : System) (sound : IsSound system) (ticks : ℕ → Bool) (is_f
         may_ask system sound values fits_now p port is x.view c of (shape_here system olds mids log told same port.component.0 c of x at) (midway port c x is of at) ticks is_first _ refl
 
   -- after the whole walk the Clocks that are active in the values are so in their FMUs
-  pub active_at_end : numbers system.instant_order ≡ taken → AreActive system values (modes mids)
+  pub active_at_end : port_numbers system.instant_order ≡ taken → AreActive system values (modes mids)
   active_at_end whole q port c mode is of at clock one =
       let there = got mids port.component.0 (let w = slice_get_within (modes mids) port.component.0 mode at in let e = length-map mids mode_of in omega (arith, w, e)) in
       let x = there.0 in
@@ -447,7 +447,7 @@ module _ (system : System) (sound : IsSound system) (ticks : ℕ → Bool) (is_f
       let began : BeginsInstant old.view = all_was system olds mids log told same port.component.0 c of x there.1 (λ (y : Instance). BeginsInstant y.view) begins in
       let active : x.view.phase.active ≡ active_by c.shape old.view.phase.active (part port.component.0 log) =
       talks_active c.shape old.view x.view (part port.component.0 log) was (talks_here system olds mids log told same port.component.0 c of x there.1)
-      (quiet_behind ReadsOrSets system sound taken log calls olds mids told same port.component.0 c of x there.1 touches) in
+      (quiet_after ReadsOrSets system sound taken log calls olds mids told same port.component.0 c of x there.1 touches) in
       let room : length old.view.phase.active ≡ length c.shape.variables = began.room ∙ ap (λ (s : Shape). length s.variables) was in
       let among : Contains taken q = subst (λ (order : List ℕ). Contains order q) whole (sound.instant_order.each q (slice_get_within system.ports q port is)) in
       ap (λ (m : InstanceMode). is_marked c.shape m.active port.reference) own
@@ -459,5 +459,5 @@ pub clocks_placed : (system : System) → IsSound system → All (HasPlacedClock
 clocks_placed system sound = all_by_place (HasPlacedClocks (length system.ports)) system.ports (λ p port is.
     all_by_place (λ (c : PortId). c.0 < length system.ports) port.clocks (λ k clock at.
     let there = clock_at system sound p port (place_of system sound p port is) clock.0
-    (at_contains (numbers port.clocks) k clock.0 (slice_get-map (λ (x : PortId). x.0) port.clocks k ∙ ap (option_map (λ (x : PortId). x.0)) at)) in
+    (at_contains (port_numbers port.clocks) k clock.0 (slice_get-map (λ (x : PortId). x.0) port.clocks k ∙ ap (option_map (λ (x : PortId). x.0)) at)) in
     slice_get_within system.ports clock.0 there.clock there.is))

@@ -36,4 +36,8 @@ pub mod Runs
 pub mod WalkNeeds
 pub mod ByWalk
 pub mod Losing
+pub mod IdlePorts
+pub mod LeftOut
+pub mod Skipping
+pub mod WaitingPlaces
 pub mod SoundClocks

@@ -45,7 +45,7 @@ use Rattle.slot_calls.specs.Log.{Sent, Talks, Told, part}
 use Rattle.slot_calls.specs.Slots.{reads_or_sets}
 use Rattle.slot_calls.specs.Stage.{IsGoodOf, shapes, shapes_of}
 use Rattle.slot_calls.proofs.CallerLemmas.{map_at, shape_of, led}
-use Rattle.event_iteration.specs.Initialization.{IsInitializing, asks_initially, initially, is_set_from_feed, seen, takes_initially}
+use Rattle.event_iteration.specs.Initialization.{IsInInitialization, asks_initially, initially, is_set_from_feed, seen, takes_initially}
 use Rattle.event_iteration.specs.Turns.{IsPaired, MayAsk, Walked, Begun, Went, sent_of}
 use Rattle.event_iteration.proofs.Clockless.{unclocked_parts}
 use Rattle.event_iteration.proofs.Walking.{by_number, next_beside, next_here}
@@ -120,8 +120,8 @@ keeps system sound before len fits _ _ _ (Begun taken values log t v l) = record
   fits = subst (AreFitting system) (sym v) fits;
   quiet = subst (All (IsQuiet system)) (sym l) (All-nil (IsQuiet system));
 }
-keeps system sound before len fits _ _ _ (Went taken pre p reply values next log front sent t l walked turn) =
-    let was = keeps system sound before len fits pre values front walked in
+keeps system sound before len fits _ _ _ (Went taken pre p reply values next log prefix sent t l walked turn) =
+    let was = keeps system sound before len fits pre values prefix walked in
     record {
       places = ap length turn.next_is ∙ length-set values p _ ∙ was.places;
       fits = λ q port is. by_number q p
@@ -130,7 +130,7 @@ keeps system sound before len fits _ _ _ (Went taken pre p reply values next log
           subst (λ (x : Port). IfSome ((initially system).takes p turn.port values (value values p) reply) (Fits x.kind)) here
           (taken_fits system sound values was.fits p turn.port turn.is turn.port.role refl reply)))
           (λ other. subst (λ o. IfSome o (Fits port.kind)) (sym (next_beside turn q other)) (was.fits q port is));
-      quiet = subst (All (IsQuiet system)) (sym l) (All-append (IsQuiet system) front sent was.quiet
+      quiet = subst (All (IsQuiet system)) (sym l) (All-append (IsQuiet system) prefix sent was.quiet
           (subst (All (IsQuiet system)) (sym turn.sent_is) (sent_quiet system turn.port.component.0 turn.component turn.of _ reply
           (λ call asks. asks_quietly turn.port.role system.ports (is_read system.ports p) turn.port values call asks) turn.paired)));
     }
@@ -164,7 +164,7 @@ pub quiet_part : (system : System) (i : ℕ) (d : Shape) (log : List Sent) → A
 quiet_part system i d log all = part_all (IsQuietOf (get_or (shapes_of system) i d)) i log (λ k x w here. let own = all k x w in (own.0, subst (λ n. IsGood (get_or (shapes_of system) n d) (get_or log k x).exchange) here (own.1 d)))
 
 -- an instance after such a log
-pub still : (system : System) (olds news : List Instance) (log : List Sent) → Told log olds news → shapes olds ≡ shapes_of system → All (IsQuiet system) log → All (λ (x : Instance). IsInitializing x.view) olds → All (λ (x : Instance). IsInitializing x.view) news
+pub still : (system : System) (olds news : List Instance) (log : List Sent) → Told log olds news → shapes olds ≡ shapes_of system → All (IsQuiet system) log → All (λ (x : Instance). IsInInitialization x.view) olds → All (λ (x : Instance). IsInInitialization x.view) news
 still system olds news log told same quiet initializing = λ k d within.
     let w : k < length olds = (let e = told.len in omega (arith, e, within)) in
     let x = get_or olds k d in
@@ -216,7 +216,7 @@ module _ (system : System) (sound : IsSound system) (p : ℕ) (port : Port) (is 
     writable = (value_kind, subst (λ (o : Option Variable). IsSomeAnd o (λ (y : Variable). y.kind ≡ Some port.kind)) (sym under) placed.kind)
 
 -- in Initialization Mode
-module _ (system : System) (sound : IsSound system) (p : ℕ) (port : Port) (is : slice_get system.ports p ≡ Some port) (unclocked : is_unclocked port ≡ true) (v : View) (initializing : IsInitializing v)
+module _ (system : System) (sound : IsSound system) (p : ℕ) (port : Port) (is : slice_get system.ports p ≡ Some port) (unclocked : is_unclocked port ≡ true) (v : View) (initializing : IsInInitialization v)
     (c : Component) (of : slice_get system.components port.component.0 ≡ Some c) (shape : v.fixed.shape ≡ c.shape) where
   no_clocks : is_at has_no_clocks v.fixed.shape.variables port.reference ≡ true
   no_clocks = without_clocks system sound p port is c of v.fixed.shape shape (unclocked_parts port unclocked).1
@@ -236,7 +236,7 @@ module _ (system : System) (sound : IsSound system) (p : ℕ) (port : Port) (is 
   )
 
 -- the call of a turn
-module _ (system : System) (sound : IsSound system) (values : List (Option ℤ)) (fits : AreFitting system values) (p : ℕ) (port : Port) (is : slice_get system.ports p ≡ Some port) (v : View) (initializing : IsInitializing v)
+module _ (system : System) (sound : IsSound system) (values : List (Option ℤ)) (fits : AreFitting system values) (p : ℕ) (port : Port) (is : slice_get system.ports p ≡ Some port) (v : View) (initializing : IsInInitialization v)
     (c : Component) (of : slice_get system.components port.component.0 ≡ Some c) (shape : v.fixed.shape ≡ c.shape) where
   may_set : (feed : _) → port.role ≡ Input (Some feed) → (b : Bool) → is_set_from_feed system.ports port feed ≡ b → (o : Option ℤ) → fed port.kind feed values ≡ o →
       MayAsk (if b then option_map (λ x. C.Set port.kind port.reference x) o else None) v

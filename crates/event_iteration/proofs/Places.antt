@@ -21,8 +21,8 @@ use Rattle.system_model.specs.Values.{is_active}
 use Rattle.run_model.specs.Run.{Never, Every}
 use Rattle.run_model.specs.Timers.{answered, armed_after, is_armed_for, rearmed as run_rearmed}
 use Rattle.event_iteration.specs.Clocks.{IsNextFrom, IsPlaceOf, is_due_in, timer_in, timers_in}
-use Rattle.event_iteration.specs.Intervals.{interval_by, is_time_clock, timer_behind}
-use Rattle.event_iteration.specs.Questions.{GoesFrom, IsArmed, IsBehind, armed_anew, arms_now, counts_told, has_no_count, is_asked_after, place_behind, rearmed, ticked_if}
+use Rattle.event_iteration.specs.Intervals.{interval_by, is_time_clock, timer_after}
+use Rattle.event_iteration.specs.Questions.{GoesFrom, IsAfter, IsArmed, armed_anew, arms_now, counts_told, has_no_count, is_asked_after, place_after, rearmed, ticked_if}
 use Rattle.event_iteration.proofs.ClockTicks.{tick_due}
 
 -- ---- lists
@@ -73,7 +73,7 @@ timer_of_changing false per_second t told place = refl
 
 -- the timer after an instant
 pub timer_of_place : (role : Role) (per_second t : ℕ) (v : Option ℤ) (reply : Option Reply) (place : ClockState) → IsPlaceOf role place →
-    timer_in (place_behind role per_second t v (interval_by reply) place) ≡ timer_behind role per_second t v reply (timer_in place)
+    timer_in (place_after role per_second t v (interval_by reply) place) ≡ timer_after role per_second t v reply (timer_in place)
 timer_of_place (TimeClock Countdown) per_second t v reply place of =
     timer_rearmed per_second t (interval_by reply) (ticked_if (is_active v) place)
     ∙ ap (answered per_second t (interval_by reply)) (ap (λ (x : ClockState). timer_in (ticked_if (is_active v) x)) of.1 ∙ timer_taken (is_active v) of.0 ∙ sym (ap (λ (x : ClockState). if is_active v then Never else timer_in x) of.1))
@@ -99,23 +99,23 @@ countdown_rearmed per_second t NotYetKnown armed = (None, refl)
 countdown_rearmed per_second t (Unchanged f) armed = (armed, refl)
 countdown_rearmed per_second t (Changed f) armed = (option_map (λ counts. t + counts) (counts_of f per_second), refl)
 
-changing_behind : (b : Bool) (per_second t : ℕ) (told : Interval) (armed : Option ℕ) → (o : Option ℕ) × ((if b then armed_anew per_second t told else S.Countdown armed) ≡ S.Countdown o)
-changing_behind true per_second t told armed = (option_map (λ counts. t + counts) (counts_told per_second told), refl)
-changing_behind false per_second t told armed = (armed, refl)
+changing_after : (b : Bool) (per_second t : ℕ) (told : Interval) (armed : Option ℕ) → (o : Option ℕ) × ((if b then armed_anew per_second t told else S.Countdown armed) ≡ S.Countdown o)
+changing_after true per_second t told armed = (option_map (λ counts. t + counts) (counts_told per_second told), refl)
+changing_after false per_second t told armed = (armed, refl)
 
-pub place_of_behind : (role : Role) (per_second t : ℕ) (v : Option ℤ) (told : Interval) (place : ClockState) → IsPlaceOf role place → IsPlaceOf role (place_behind role per_second t v told place)
-place_of_behind (TimeClock Countdown) per_second t v told place of =
+pub place_of_after : (role : Role) (per_second t : ℕ) (v : Option ℤ) (told : Interval) (place : ClockState) → IsPlaceOf role place → IsPlaceOf role (place_after role per_second t v told place)
+place_of_after (TimeClock Countdown) per_second t v told place of =
     let ticked = countdown_ticked (is_active v) of.0 in
-    let behind = countdown_rearmed per_second t told ticked.0 in
-    (behind.0, ap (λ (x : ClockState). rearmed per_second t told (ticked_if (is_active v) x)) of.1 ∙ ap (rearmed per_second t told) ticked.1 ∙ behind.1)
-place_of_behind (TimeClock Changing) per_second t v told place of =
-    let behind = changing_behind (is_active v) per_second t told of.0 in
-    (behind.0, ap (λ (x : ClockState). if is_active v then armed_anew per_second t told else x) of.1 ∙ behind.1)
-place_of_behind (TimeClock (Periodic interval shift)) per_second t v told place of =
+    let after = countdown_rearmed per_second t told ticked.0 in
+    (after.0, ap (λ (x : ClockState). rearmed per_second t told (ticked_if (is_active v) x)) of.1 ∙ ap (rearmed per_second t told) ticked.1 ∙ after.1)
+place_of_after (TimeClock Changing) per_second t v told place of =
+    let after = changing_after (is_active v) per_second t told of.0 in
+    (after.0, ap (λ (x : ClockState). if is_active v then armed_anew per_second t told else x) of.1 ∙ after.1)
+place_of_after (TimeClock (Periodic interval shift)) per_second t v told place of =
     let ticked = place_ticked (is_active v) interval shift of.0 in (ticked.0, ap (ticked_if (is_active v)) of.1 ∙ ticked.1)
-place_of_behind (TimeClock Answered) per_second t v told place of =
+place_of_after (TimeClock Answered) per_second t v told place of =
     let ticked = place_ticked (is_active v) of.0 of.1 of.2 in (of.0, of.1, ticked.0, ap (ticked_if (is_active v)) of.3 ∙ ticked.1, of.4)
-place_of_behind role per_second t v told place of = of
+place_of_after role per_second t v told place of = of
 
 -- its next tick is after the point
 next_periodic : (start t : ℕ) (is_first b : Bool) (interval shift ticks : ℕ) → 0 < interval → IsNextFrom start t is_first (S.Periodic interval shift ticks) → b ≡ (start + shift + ticks * interval == t) →
@@ -176,22 +176,22 @@ abbrev pub IsPositive : Role → Type 0
 IsPositive (TimeClock (Periodic interval shift)) = 0 < interval
 IsPositive role = Unit {0}
 
-pub next_behind : (role : Role) (per_second start t : ℕ) (is_first : Bool) (v : Option ℤ) (told : Interval) (place : ClockState) → IsPlaceOf role place → IsPositive role → IsNextFrom start t is_first place →
-    (is_time_clock role ≡ true → is_active v ≡ is_due_in start t place) → IsNextFrom start t false (place_behind role per_second t v told place)
-next_behind (TimeClock Countdown) per_second start t is_first v told place of positive next ticks =
+pub next_after : (role : Role) (per_second start t : ℕ) (is_first : Bool) (v : Option ℤ) (told : Interval) (place : ClockState) → IsPlaceOf role place → IsPositive role → IsNextFrom start t is_first place →
+    (is_time_clock role ≡ true → is_active v ≡ is_due_in start t place) → IsNextFrom start t false (place_after role per_second t v told place)
+next_after (TimeClock Countdown) per_second start t is_first v told place of positive next ticks =
     next_rearmed per_second start t told (ticked_if (is_active v) place)
     (subst (λ (x : ClockState). IsNextFrom start t false (ticked_if (is_active v) x)) (sym of.1)
     (next_countdown start t (is_active v) of.0 (next_first start t is_first of.0 (subst (IsNextFrom start t is_first) of.1 next))))
-next_behind (TimeClock Changing) per_second start t is_first v told place of positive next ticks =
+next_after (TimeClock Changing) per_second start t is_first v told place of positive next ticks =
     next_changing (is_active v) per_second start t told place
     (subst (λ (x : ClockState). IsNextFrom start t false x) (sym of.1) (next_first start t is_first of.0 (subst (IsNextFrom start t is_first) of.1 next)))
-next_behind (TimeClock (Periodic interval shift)) per_second start t is_first v told place of positive next ticks =
+next_after (TimeClock (Periodic interval shift)) per_second start t is_first v told place of positive next ticks =
     subst (λ (x : ClockState). IsNextFrom start t false (ticked_if (is_active v) x)) (sym of.1)
     (next_periodic start t is_first (is_active v) interval shift of.0 positive (subst (IsNextFrom start t is_first) of.1 next) (ticks refl ∙ ap (is_due_in start t) of.1))
-next_behind (TimeClock Answered) per_second start t is_first v told place of positive next ticks =
+next_after (TimeClock Answered) per_second start t is_first v told place of positive next ticks =
     subst (λ (x : ClockState). IsNextFrom start t false (ticked_if (is_active v) x)) (sym of.3)
     (next_periodic start t is_first (is_active v) of.0 of.1 of.2 of.4 (subst (IsNextFrom start t is_first) of.3 next) (ticks refl ∙ ap (is_due_in start t) of.3))
-next_behind role per_second start t is_first v told place of positive next ticks = next_unasked start t place of
+next_after role per_second start t is_first v told place of positive next ticks = next_unasked start t place of
 
 -- ---- whether it is armed for the point
 
@@ -226,7 +226,7 @@ unticked start t false per_second told None none due = refl
 unticked start t false per_second told (Some point) none due = due
 
 -- what is told where the port isn't asked, and where it is
-armed_else : (role : Role) (per_second start t : ℕ) (v : Option ℤ) (told : Interval) (place : ClockState) → IsPlaceOf role place → (is_time_clock role ≡ true → is_active v ≡ is_due_in start t place) → is_asked_after role v ≡ false → false ≡ is_armed_for t (timer_in (place_behind role per_second t v told place))
+armed_else : (role : Role) (per_second start t : ℕ) (v : Option ℤ) (told : Interval) (place : ClockState) → IsPlaceOf role place → (is_time_clock role ≡ true → is_active v ≡ is_due_in start t place) → is_asked_after role v ≡ false → false ≡ is_armed_for t (timer_in (place_after role per_second t v told place))
 armed_else (TimeClock Countdown) per_second start t v told place of ticks none = absurd (true_false none)
 armed_else (TimeClock Changing) per_second start t v told place of ticks none =
     unticked start t (is_active v) per_second told of.0 none (ticks refl ∙ ap (is_due_in start t) of.1)
@@ -284,13 +284,13 @@ module _ (table : Timetable) (role : Role) (per_second t p : ℕ) (v : Option �
   own_place place is = same_Some _ _ (sym from.is ∙ is)
 
   -- a port that is no time-based Clock
-  pub goes_else : is_time_clock role ≡ false → IsBehind role per_second t p v told table table × IsArmed t p table false
+  pub goes_else : is_time_clock role ≡ false → IsAfter role per_second t p v told table table × IsArmed t p table false
   goes_else none = (
     λ place is. with_same table p place is ∙ ap (with_clock table p) (sym (by role none place)),
     λ place is. subst (λ (x : ClockState). false ≡ is_armed_for t (timer_in x)) (own_place place is) (unarmed role none from.of),
   )
     where
-      by : (r : Role) → is_time_clock r ≡ false → (place : ClockState) → place_behind r per_second t v told place ≡ place
+      by : (r : Role) → is_time_clock r ≡ false → (place : ClockState) → place_after r per_second t v told place ≡ place
       by (TimeClock timing) h place = absurd (true_false h)
       by r h place = refl
 
@@ -311,7 +311,7 @@ module _ (table : Timetable) (role : Role) (per_second t p : ℕ) (v : Option �
       mid_there = there_now table mid p from.place _ from.is mid_is
 
       -- one that isn't asked
-      pub goes_unasked : is_asked_after role v ≡ false → IsBehind role per_second t p v told table mid × IsArmed t p mid false
+      pub goes_unasked : is_asked_after role v ≡ false → IsAfter role per_second t p v told table mid × IsArmed t p mid false
       goes_unasked none = (
         λ place is. ticked place is ∙ ap (with_clock table p) (sym (by role clock none place)),
         λ place is.
@@ -319,7 +319,7 @@ module _ (table : Timetable) (role : Role) (per_second t p : ℕ) (v : Option �
             armed_else role per_second table.start t v told from.place from.of from.ticks none ∙ ap (λ (x : ClockState). is_armed_for t (timer_in x)) (by role clock none from.place ∙ own),
       )
         where
-          by : (r : Role) → is_time_clock r ≡ true → is_asked_after r v ≡ false → (place : ClockState) → place_behind r per_second t v told place ≡ ticked_if (is_active v) place
+          by : (r : Role) → is_time_clock r ≡ true → is_asked_after r v ≡ false → (place : ClockState) → place_after r per_second t v told place ≡ ticked_if (is_active v) place
           by (TimeClock Countdown) h k place = absurd (true_false k)
           by (TimeClock Changing) h k place = unticked_place (is_active v) k
             where
@@ -339,7 +339,7 @@ module _ (table : Timetable) (role : Role) (per_second t p : ℕ) (v : Option �
         counts = let ticked_place = countdown_ticked (is_active v) of_countdown.0 in (ticked_place.0, mid_there ∙ ap (λ (x : ClockState). Some (ticked_if (is_active v) x)) of_countdown.1 ∙ ap Some ticked_place.1)
 
         pub goes_countdown : (next : Timetable) → ((place : ClockState) → slice_get mid.clocks p ≡ Some place → next ≡ with_clock mid p (rearmed per_second t told place)) → (now : Bool) → now ≡ arms_now per_second told →
-            IsBehind role per_second t p v told table next × IsArmed t p next now
+            IsAfter role per_second t p v told table next × IsArmed t p next now
         goes_countdown next rearms now now_is =
             let next_is = rearms (ticked_if (is_active v) from.place) mid_there in (
               λ place is.
@@ -347,7 +347,7 @@ module _ (table : Timetable) (role : Role) (per_second t p : ℕ) (v : Option �
                   next_is ∙ ap (λ (x : Timetable). with_clock x p (rearmed per_second t told (ticked_if (is_active v) from.place))) mid_is
                   ∙ with_twice table p (ticked_if (is_active v) from.place) (rearmed per_second t told (ticked_if (is_active v) from.place))
                   ∙ ap (λ (x : ClockState). with_clock table p (rearmed per_second t told (ticked_if (is_active v) x))) own
-                  ∙ sym (ap (λ (r : Role). with_clock table p (place_behind r per_second t v told place)) down),
+                  ∙ sym (ap (λ (r : Role). with_clock table p (place_after r per_second t v told place)) down),
               λ place is.
                   let own : rearmed per_second t told (ticked_if (is_active v) from.place) ≡ place = same_Some _ _ (sym (there_now mid next p _ _ mid_there next_is) ∙ is) in
                   now_is ∙ armed_down per_second table.start t v told from.place of_countdown (from.ticks clock) ∙ ap (λ (x : ClockState). is_armed_for t (timer_in x)) own,
@@ -361,12 +361,12 @@ module _ (table : Timetable) (role : Role) (per_second t p : ℕ) (v : Option �
         pub is_armable : IsCountdown mid p
         is_armable = let ticked_place = countdown_ticked (is_active v) of_changing.0 in (ticked_place.0, mid_there ∙ ap (λ (x : ClockState). Some (ticked_if (is_active v) x)) of_changing.1 ∙ ap Some ticked_place.1)
 
-        pub goes_changing : (next : Timetable) → next ≡ with_clock mid p (armed_anew per_second t told) → (now : Bool) → now ≡ has_no_count per_second told → IsBehind role per_second t p v told table next × IsArmed t p next now
+        pub goes_changing : (next : Timetable) → next ≡ with_clock mid p (armed_anew per_second t told) → (now : Bool) → now ≡ has_no_count per_second told → IsAfter role per_second t p v told table next × IsArmed t p next now
         goes_changing next next_is now now_is = (
           λ place is.
               next_is ∙ ap (λ (x : Timetable). with_clock x p (armed_anew per_second t told)) mid_is
               ∙ with_twice table p (ticked_if (is_active v) from.place) (armed_anew per_second t told)
-              ∙ sym (ap (λ (r : Role). with_clock table p (place_behind r per_second t v told place)) changing ∙ ap (λ b. with_clock table p (if b then armed_anew per_second t told else place)) active),
+              ∙ sym (ap (λ (r : Role). with_clock table p (place_after r per_second t v told place)) changing ∙ ap (λ b. with_clock table p (if b then armed_anew per_second t told else place)) active),
           λ place is.
               let own : armed_anew per_second t told ≡ place = same_Some _ _ (sym (there_now mid next p _ _ mid_there next_is) ∙ is) in
               now_is ∙ now_armed t (counts_told per_second told) ∙ ap (λ (x : ClockState). is_armed_for t (timer_in x)) own,

@@ -34,19 +34,19 @@ use Rattle.system_model.specs.Values.{value}
 use Rattle.run_model.specs.Timers.{is_armed_for}
 use Rattle.slot_calls.specs.declared.bad_answer.BadAnswer.{BadAnswer}
 use Rattle.run_model.proofs.CallerLemmas.{none_in}
-use Rattle.slot_calls.specs.Log.{Asking, Sent, Told, askings}
+use Rattle.slot_calls.specs.Log.{ComponentCall, Sent, Told, component_calls}
 use Rattle.slot_calls.specs.Stage.{Stage, StopsAt, shapes, shapes_of}
 use Rattle.slot_calls.proofs.CallerLemmas.{shape_of, told_none, told_on}
 use Rattle.event_iteration.specs.Clocks.{IsNextFrom, IsPlaceOf, StandsAt, is_due_in, timer_in, timers_in}
 use Rattle.event_iteration.specs.Explains.{Explains, all_said}
 use Rattle.event_iteration.specs.Instants.{IsRunning}
-use Rattle.event_iteration.specs.Intervals.{AsksIntervals, Rearms, TellsTicks, asks_interval, interval_by, intervals, timer_behind, timers_behind, timers_behind_from}
-use Rattle.event_iteration.specs.Questions.{AreRunning, AsksPort, GoesFrom, InstanceMode, IsBehindUpTo, first_reply, is_asked_after, mode_of, modes, place_behind}
+use Rattle.event_iteration.specs.Intervals.{AsksIntervals, Rearms, TellsTicks, asks_interval, interval_by, intervals, timer_after, timers_after, timers_after_from}
+use Rattle.event_iteration.specs.Questions.{AreRunning, AsksPort, GoesFrom, InstanceMode, IsAfterUpTo, first_reply, is_asked_after, mode_of, modes, place_after}
 use Rattle.event_iteration.specs.Settings.{port_order}
 use Rattle.event_iteration.specs.Turns.{IsPaired, Stops, Turn, sent_of}
 use Rattle.event_iteration.proofs.Answering.{asked_after, one_answer, own_shape}
 use Rattle.event_iteration.proofs.Fmus.{got}
-use Rattle.event_iteration.proofs.Places.{IsPositive, beside_now, many_now, next_behind, place_now, place_of_behind, timer_of_place, timers_now}
+use Rattle.event_iteration.proofs.Places.{IsPositive, beside_now, many_now, next_after, place_now, place_of_after, timer_of_place, timers_now}
 use Rattle.event_iteration.proofs.Timing.{asks_it}
 use Rattle.event_iteration.proofs.Setting.{NoNeeds, all_ports, in_order, port_number}
 use Rattle.event_iteration.proofs.Walking.{AreAbout, Here, explains_more, here_at, more_replies, with_reply, more_order, split_order}
@@ -74,7 +74,7 @@ asks_one role port v asked = asks_it role port v (asked_after role v asked)
 stays : (values : List (Option ℤ)) (p : ℕ) → values ≡ set values p (value values p)
 stays values p = sym (set-get_or values p None)
 
-first_is : (a b : Asking) (xs ys : List Asking) → a ∷ xs ≡ b ∷ ys → a ≡ b
+first_is : (a b : ComponentCall) (xs ys : List ComponentCall) → a ∷ xs ≡ b ∷ ys → a ≡ b
 first_is a b xs ys same = cc
 
 module _ (system : System) (sound : IsSound system) (p : ℕ) (port : Port) (is : slice_get system.ports p ≡ Some port) where
@@ -133,14 +133,14 @@ module _ (system : System) (sound : IsSound system) (p : ℕ) (port : Port) (is 
         own d = sym (get_or_from_slice_get (shapes olds) port.component.0 placed.component.shape d (ap (λ xs. slice_get xs port.component.0) alike ∙ own_shape system sound p port is olds alike))
 
         last_one : StopsAt (shapes olds) (record { component = port.component.0; call = C.GetInterval port.reference } ∷ []) bad stage.log → (last : Sent) × (stage.log ≡ last ∷ []) × ((values : List (Option ℤ)) → value values p ≡ v → Stops system (intervals values) p bad values last)
-        last_one stops = by stops.front stops.left stops.log_is (stops.calls_are ∙ ap (λ es. askings es ++ stops.left) stops.log_is)
+        last_one stops = by stops.prefix stops.left stops.log_is (stops.calls_are ∙ ap (λ es. component_calls es ++ stops.left) stops.log_is)
           where
-            by : (front : List Sent) (left : List Asking) → stage.log ≡ front ++ stops.last ∷ [] → record { component = port.component.0; call = C.GetInterval port.reference } ∷ [] ≡ askings (front ++ stops.last ∷ []) ++ left →
+            by : (prefix : List Sent) (left : List ComponentCall) → stage.log ≡ prefix ++ stops.last ∷ [] → record { component = port.component.0; call = C.GetInterval port.reference } ∷ [] ≡ component_calls (prefix ++ stops.last ∷ []) ++ left →
                 (last : Sent) × (stage.log ≡ last ∷ []) × ((values : List (Option ℤ)) → value values p ≡ v → Stops system (intervals values) p bad values last)
             by [] left log_is calls_are =
                 let own_call = first_is _ _ _ _ calls_are in
-                let at : stops.last.component ≡ port.component.0 = sym (ap (λ (a : Asking). a.component) own_call) in
-                let call_is : stops.last.exchange.call ≡ C.GetInterval port.reference = sym (ap (λ (a : Asking). a.call) own_call) in (
+                let at : stops.last.component ≡ port.component.0 = sym (ap (λ (a : ComponentCall). a.component) own_call) in
+                let call_is : stops.last.exchange.call ≡ C.GetInterval port.reference = sym (ap (λ (a : ComponentCall). a.call) own_call) in (
                   stops.last,
                   log_is,
                   λ values at_p. record {
@@ -155,7 +155,7 @@ module _ (system : System) (sound : IsSound system) (p : ℕ) (port : Port) (is 
                   },
                 )
             by (s ∷ []) left log_is calls_are = absurd (cc)
-            by (s ∷ u ∷ front) left log_is calls_are = absurd (cc)
+            by (s ∷ u ∷ prefix) left log_is calls_are = absurd (cc)
 
 -- ---- the first ports
 
@@ -164,7 +164,7 @@ pub record Rearming (system : System) (per_second t k : ℕ) (values : List (Opt
   pub told : Told log olds mids
   pub explains : Explains system (intervals values) values (take k (port_order system)) values log
   pub modes_are : modes mids ≡ modes olds
-  pub behind : IsBehindUpTo system per_second t values explains.replies k before table
+  pub after : IsAfterUpTo system per_second t values explains.replies k before table
   pub armed_is : armed ≡ list_any (is_armed_for t) (take k (timers_in table))
 
 pub rearming_none : (system : System) (per_second t : ℕ) (values : List (Option ℤ)) (table : Timetable) (is : List Instance) → Rearming system per_second t 0 values table table false is is
@@ -179,12 +179,12 @@ rearming_none system per_second t values table is = record {
     left = λ p m. refl;
   };
   modes_are = refl;
-  behind = record {
+  after = record {
     start = refl;
     stop = refl;
     events = refl;
     len = refl;
-    behind = λ q port place lt. absurd (omega (arith, lt));
+    after = λ q port place lt. absurd (omega (arith, lt));
     ahead = λ q le. refl;
   };
   armed_is = refl;
@@ -194,16 +194,16 @@ about_intervals : (system : System) (now : List (Option ℤ)) → AreAbout NoNee
 about_intervals system now = record { asks_same = λ p port c V W is h. refl; takes_same = λ p port V W last reply is h. refl }
 
 module _ (system : System) (values : List (Option ℤ)) (places : length values ≡ length system.ports) (k : ℕ) (within : k < length system.ports) (log more : List Sent) (reply : Option Reply)
-    (front : Explains system (intervals values) values (take k (port_order system)) values log) (turn : Turn system (intervals values) k reply values values more) where
+    (prefix : Explains system (intervals values) values (take k (port_order system)) values log) (turn : Turn system (intervals values) k reply values values more) where
   abbrev here_now : Here NoNeeds (take k (port_order system)) k
   here_now = here_at (λ q. q < length system.ports) NoNeeds (port_order system) (take k (port_order system)) k (drop (k + 1) (port_order system)) (in_order system) (split_order (port_order system) k k (port_number system k within))
 
   abbrev on : Explains system (intervals values) values (take k (port_order system) ++ k ∷ []) values (log ++ more)
   on = explains_more NoNeeds system (intervals values) (about_intervals system values) values (take k (port_order system)) k reply values values log more
-      here_now places front turn
+      here_now places prefix turn
 
-  replies_on : on.replies ≡ with_reply k reply front.replies
-  replies_on = more_replies NoNeeds system (intervals values) (about_intervals system values) values (take k (port_order system)) k reply values values log more here_now places front turn
+  replies_on : on.replies ≡ with_reply k reply prefix.replies
+  replies_on = more_replies NoNeeds system (intervals values) (about_intervals system values) values (take k (port_order system)) k reply values values log more here_now places prefix turn
 
   order_on : take k (port_order system) ++ k ∷ [] ≡ take (k + 1) (port_order system)
   order_on = sym (more_order (port_order system) k k (port_number system k within))
@@ -219,111 +219,111 @@ module _ (system : System) (values : List (Option ℤ)) (places : length values 
 
   pub reply_here : explains_on.replies k ≡ reply
   unfolding explains_on
-  reply_here = ap (λ (f : ℕ → Option Reply). f k) replies_on ∙ ap (λ b. if b then reply else front.replies k) (eq-eqb k k refl)
+  reply_here = ap (λ (f : ℕ → Option Reply). f k) replies_on ∙ ap (λ b. if b then reply else prefix.replies k) (eq-eqb k k refl)
 
-  pub reply_old : (q : ℕ) → (q ≡ k → ⊥) → explains_on.replies q ≡ front.replies q
+  pub reply_old : (q : ℕ) → (q ≡ k → ⊥) → explains_on.replies q ≡ prefix.replies q
   unfolding explains_on
-  reply_old q other = ap (λ (f : ℕ → Option Reply). f q) replies_on ∙ ap (λ b. if b then reply else front.replies q) (ne_eqb q k other)
+  reply_old q other = ap (λ (f : ℕ → Option Reply). f q) replies_on ∙ ap (λ b. if b then reply else prefix.replies q) (ne_eqb q k other)
 
 module _ (system : System) (per_second t k : ℕ) (values : List (Option ℤ)) (places : length values ≡ length system.ports) (port : Port) (is : slice_get system.ports k ≡ Some port) (before table next : Timetable) (armed told : Bool)
-    (olds mids news : List Instance) (front : Rearming system per_second t k values before table armed olds mids) where
+    (olds mids news : List Instance) (prefix : Rearming system per_second t k values before table armed olds mids) where
   within : k < length system.ports
   within = slice_get_within system.ports k port is
 
   -- up to a bad answer
   pub rearming_until : (bad : BadAnswer) (after : List Timer) → AsksPort system k (value values k) mids news (Err bad) → AsksIntervals system per_second t values (timers_in before) after olds news (Err bad)
   rearming_until bad after turn = record {
-    log = front.log ++ turn.log;
-    told = told_on olds mids news front.log turn.log front.told turn.told;
+    log = prefix.log ++ turn.log;
+    told = told_on olds mids news prefix.log turn.log prefix.told turn.told;
     says = record {
       taken = take k (port_order system);
       p = k;
       rest = drop (k + 1) (port_order system);
       order_is = split_order (port_order system) k k (port_number system k within);
-      front = front.log;
+      prefix = prefix.log;
       last = turn.says.0;
-      log_is = ap (λ es. front.log ++ es) turn.says.1;
-      told = front.explains;
+      log_is = ap (λ es. prefix.log ++ es) turn.says.1;
+      told = prefix.explains;
       stops = turn.says.2 values refl;
     };
   }
 
   -- one port more
   module _ (reply : Option Reply) (turn : AsksPort system k (value values k) mids news (Ok reply)) (modes_same : modes news ≡ modes mids) (place : ClockState) (there : slice_get table.clocks k ≡ Some place)
-      (goes : next ≡ with_clock table k (place_behind port.role per_second t (value values k) (interval_by reply) place)) (arms : told ≡ is_armed_for t (timer_in (place_behind port.role per_second t (value values k) (interval_by reply) place))) where
-    abbrev explains_next : Explains system (intervals values) values (take (k + 1) (port_order system)) values (front.log ++ turn.log)
-    explains_next = explains_on system values places k within front.log turn.log reply front.explains (turn.says values refl)
+      (goes : next ≡ with_clock table k (place_after port.role per_second t (value values k) (interval_by reply) place)) (arms : told ≡ is_armed_for t (timer_in (place_after port.role per_second t (value values k) (interval_by reply) place))) where
+    abbrev explains_next : Explains system (intervals values) values (take (k + 1) (port_order system)) values (prefix.log ++ turn.log)
+    explains_next = explains_on system values places k within prefix.log turn.log reply prefix.explains (turn.says values refl)
 
     abbrev placed_next : ClockState
-    placed_next = place_behind port.role per_second t (value values k) (interval_by reply) place
+    placed_next = place_after port.role per_second t (value values k) (interval_by reply) place
 
     in_clocks : k < length table.clocks
     in_clocks = slice_get_within table.clocks k place there
 
-    behind_more : IsBehindUpTo system per_second t values explains_next.replies (k + 1) before next
-    behind_more = record {
-      start = ap (λ (x : Timetable). x.start) goes ∙ front.behind.start;
-      stop = ap (λ (x : Timetable). x.stop) goes ∙ front.behind.stop;
-      events = ap (λ (x : Timetable). x.events) goes ∙ front.behind.events;
-      len = many_now table next k placed_next in_clocks goes ∙ front.behind.len;
-      behind = λ q x old lt at at_old. (elim (cases_lt q k) as (λ c. slice_get next.clocks q ≡ Some (place_behind x.role per_second t (value values q) (interval_by (explains_next.replies q)) old)) [
+    after_more : IsAfterUpTo system per_second t values explains_next.replies (k + 1) before next
+    after_more = record {
+      start = ap (λ (x : Timetable). x.start) goes ∙ prefix.after.start;
+      stop = ap (λ (x : Timetable). x.stop) goes ∙ prefix.after.stop;
+      events = ap (λ (x : Timetable). x.events) goes ∙ prefix.after.events;
+      len = many_now table next k placed_next in_clocks goes ∙ prefix.after.len;
+      after = λ q x old lt at at_old. (elim (cases_lt q k) as (λ c. slice_get next.clocks q ≡ Some (place_after x.role per_second t (value values q) (interval_by (explains_next.replies q)) old)) [
         | inl below ↦
             let other : q ≡ k → ⊥ = λ e. absurd (omega (arith, e, below)) in
-            beside_now table next k placed_next in_clocks goes q other ∙ front.behind.behind q x old below at at_old
-            ∙ ap (λ (o : Option Reply). Some (place_behind x.role per_second t (value values q) (interval_by o) old)) (sym (reply_old system values places k within front.log turn.log reply front.explains (turn.says values refl) q other))
+            beside_now table next k placed_next in_clocks goes q other ∙ prefix.after.after q x old below at at_old
+            ∙ ap (λ (o : Option Reply). Some (place_after x.role per_second t (value values q) (interval_by o) old)) (sym (reply_old system values places k within prefix.log turn.log reply prefix.explains (turn.says values refl) q other))
         | inr past ↦
             let same_place : q ≡ k = omega (arith, lt, past) in
             let its : port ≡ x = same_Some _ _ (sym is ∙ ap (slice_get system.ports) (sym same_place) ∙ at) in
-            let own : place ≡ old = same_Some _ _ (sym there ∙ front.behind.ahead k (omega arith) ∙ ap (slice_get before.clocks) (sym same_place) ∙ at_old) in
+            let own : place ≡ old = same_Some _ _ (sym there ∙ prefix.after.ahead k (omega arith) ∙ ap (slice_get before.clocks) (sym same_place) ∙ at_old) in
             ap (slice_get next.clocks) same_place ∙ place_now table next k placed_next in_clocks goes
-            ∙ ap (λ (o : Option Reply). Some (place_behind port.role per_second t (value values k) (interval_by o) place)) (sym (reply_here system values places k within front.log turn.log reply front.explains (turn.says values refl)))
-            ∙ ap₂ (λ (n : ℕ) (y : Port). Some (place_behind y.role per_second t (value values n) (interval_by (explains_next.replies n)) place)) (sym same_place) its
-            ∙ ap (λ (y : ClockState). Some (place_behind x.role per_second t (value values q) (interval_by (explains_next.replies q)) y)) own
+            ∙ ap (λ (o : Option Reply). Some (place_after port.role per_second t (value values k) (interval_by o) place)) (sym (reply_here system values places k within prefix.log turn.log reply prefix.explains (turn.says values refl)))
+            ∙ ap₂ (λ (n : ℕ) (y : Port). Some (place_after y.role per_second t (value values n) (interval_by (explains_next.replies n)) place)) (sym same_place) its
+            ∙ ap (λ (y : ClockState). Some (place_after x.role per_second t (value values q) (interval_by (explains_next.replies q)) y)) own
       ]);
-      ahead = λ q le. beside_now table next k placed_next in_clocks goes q (λ e. absurd (omega (arith, e, le))) ∙ front.behind.ahead q (omega (arith, le));
+      ahead = λ q le. beside_now table next k placed_next in_clocks goes q (λ e. absurd (omega (arith, e, le))) ∙ prefix.after.ahead q (omega (arith, le));
     }
 
     pub rearming_more : (now : Bool) → now ≡ (armed || told) → Rearming system per_second t (k + 1) values before next now olds news
     rearming_more now now_is = record {
-      log = front.log ++ turn.log;
-      told = told_on olds mids news front.log turn.log front.told turn.told;
+      log = prefix.log ++ turn.log;
+      told = told_on olds mids news prefix.log turn.log prefix.told turn.told;
       explains = explains_next;
-      modes_are = modes_same ∙ front.modes_are;
-      behind = behind_more;
-      armed_is = now_is ∙ ap₂ (λ (a b : Bool). a || b) front.armed_is (sym (or-false told) ∙ ap (λ b. b || false) arms) ∙ sym (ap (list_any (is_armed_for t)) (timers_now table next k placed_next in_clocks goes) ∙ list_any-append (is_armed_for t) (take k (timers_in table)) (timer_in placed_next ∷ []));
+      modes_are = modes_same ∙ prefix.modes_are;
+      after = after_more;
+      armed_is = now_is ∙ ap₂ (λ (a b : Bool). a || b) prefix.armed_is (sym (or-false told) ∙ ap (λ b. b || false) arms) ∙ sym (ap (list_any (is_armed_for t)) (timers_now table next k placed_next in_clocks goes) ∙ list_any-append (is_armed_for t) (take k (timers_in table)) (timer_in placed_next ∷ []));
     }
 
 -- ---- timers by place
 
-timers_behind_at : (per_second t : ℕ) (values : List (Option ℤ)) (replies : ℕ → Option Reply) (p : ℕ) (ports : List Port) (olds : List Timer) (q : ℕ) (port : Port) (old : Timer) → slice_get ports q ≡ Some port → slice_get olds q ≡ Some old →
-    slice_get (timers_behind_from per_second t values replies p ports olds) q ≡ Some (timer_behind port.role per_second t (value values (p + q)) (replies (p + q)) old)
-timers_behind_at per_second t values replies p [] olds q port old is is_old = absurd (cc)
-timers_behind_at per_second t values replies p (x ∷ ports) [] q port old is is_old = absurd (cc)
-timers_behind_at per_second t values replies p (x ∷ ports) (y ∷ olds) zero port old is is_old =
+timers_after_at : (per_second t : ℕ) (values : List (Option ℤ)) (replies : ℕ → Option Reply) (p : ℕ) (ports : List Port) (olds : List Timer) (q : ℕ) (port : Port) (old : Timer) → slice_get ports q ≡ Some port → slice_get olds q ≡ Some old →
+    slice_get (timers_after_from per_second t values replies p ports olds) q ≡ Some (timer_after port.role per_second t (value values (p + q)) (replies (p + q)) old)
+timers_after_at per_second t values replies p [] olds q port old is is_old = absurd (cc)
+timers_after_at per_second t values replies p (x ∷ ports) [] q port old is is_old = absurd (cc)
+timers_after_at per_second t values replies p (x ∷ ports) (y ∷ olds) zero port old is is_old =
     let place : p ≡ p + 0 = omega arith in
-    ap₂ (λ (z : Port) (w : Timer). Some (timer_behind z.role per_second t (value values p) (replies p) w)) (same_Some _ _ is) (same_Some _ _ is_old)
-    ∙ ap (λ n. Some (timer_behind port.role per_second t (value values n) (replies n) old)) place
-timers_behind_at per_second t values replies p (x ∷ ports) (y ∷ olds) (suc q) port old is is_old =
+    ap₂ (λ (z : Port) (w : Timer). Some (timer_after z.role per_second t (value values p) (replies p) w)) (same_Some _ _ is) (same_Some _ _ is_old)
+    ∙ ap (λ n. Some (timer_after port.role per_second t (value values n) (replies n) old)) place
+timers_after_at per_second t values replies p (x ∷ ports) (y ∷ olds) (suc q) port old is is_old =
     let place : suc p + q ≡ p + suc q = omega arith in
-    timers_behind_at per_second t values replies (suc p) ports olds q port old is is_old ∙ ap (λ n. Some (timer_behind port.role per_second t (value values n) (replies n) old)) place
+    timers_after_at per_second t values replies (suc p) ports olds q port old is is_old ∙ ap (λ n. Some (timer_after port.role per_second t (value values n) (replies n) old)) place
 
-timers_behind_many : (per_second t : ℕ) (values : List (Option ℤ)) (replies : ℕ → Option Reply) (p : ℕ) (ports : List Port) (olds : List Timer) → length olds ≡ length ports → length (timers_behind_from per_second t values replies p ports olds) ≡ length olds
-timers_behind_many per_second t values replies p [] [] e = refl
-timers_behind_many per_second t values replies p [] (y ∷ olds) e = absurd (omega (arith, e))
-timers_behind_many per_second t values replies p (x ∷ ports) [] e = refl
-timers_behind_many per_second t values replies p (x ∷ ports) (y ∷ olds) e = ap suc (timers_behind_many per_second t values replies (suc p) ports olds (omega (arith, e)))
+timers_after_many : (per_second t : ℕ) (values : List (Option ℤ)) (replies : ℕ → Option Reply) (p : ℕ) (ports : List Port) (olds : List Timer) → length olds ≡ length ports → length (timers_after_from per_second t values replies p ports olds) ≡ length olds
+timers_after_many per_second t values replies p [] [] e = refl
+timers_after_many per_second t values replies p [] (y ∷ olds) e = absurd (omega (arith, e))
+timers_after_many per_second t values replies p (x ∷ ports) [] e = refl
+timers_after_many per_second t values replies p (x ∷ ports) (y ∷ olds) e = ap suc (timers_after_many per_second t values replies (suc p) ports olds (omega (arith, e)))
 
 -- ---- where a port stands before it goes on
 
 module _ (system : System) (per_second t : ℕ) (is_first : Bool) (values : List (Option ℤ)) (before : Timetable) (stands : StandsAt system t is_first before) (ticks : TellsTicks system before t values) where
   pub goes_from : (k : ℕ) (port : Port) (table : Timetable) (armed : Bool) (olds mids : List Instance) → slice_get system.ports k ≡ Some port → Rearming system per_second t k values before table armed olds mids → GoesFrom table port.role t k (value values k)
-  goes_from k port table armed olds mids is front =
+  goes_from k port table armed olds mids is prefix =
       let place = got before.clocks k (let w = slice_get_within system.ports k port is in let e = stands.len in omega (arith, w, e)) in
-      let start = front.behind.start in
-      let stop = front.behind.stop in
+      let start = prefix.after.start in
+      let stop = prefix.after.stop in
       record {
         place = place.0;
-        is = front.behind.ahead k (omega arith) ∙ place.1;
+        is = prefix.after.ahead k (omega arith) ∙ place.1;
         of = stands.places k port place.0 is place.1;
         ticks = λ clock. ticks k port is clock ∙ ap (λ (o : Option ClockState). option_map_or (is_due_in before.start t) o false) place.1 ∙ ap (λ n. is_due_in n t place.0) (sym start);
         within = (let w = stands.within in omega (arith, w, stop));
@@ -345,7 +345,7 @@ positive_by system sound p port is = let placed = place_of system sound p port i
 module _ (system : System) (sound : IsSound system) (per_second t k : ℕ) (is_first : Bool) (values : List (Option ℤ)) (places : length values ≡ length system.ports) (before table : Timetable) (armed : Bool) (olds mids : List Instance)
     (stands : StandsAt system t is_first before) (ticks : TellsTicks system before t values) (whole : length system.ports ≤ k) (all : Rearming system per_second t k values before table armed olds mids) where
   len : length table.clocks ≡ length system.ports
-  len = all.behind.len ∙ stands.len
+  len = all.after.len ∙ stands.len
 
   abbrev replies : ℕ → Option Reply
   replies = all.explains.replies
@@ -355,7 +355,7 @@ module _ (system : System) (sound : IsSound system) (per_second t k : ℕ) (is_f
     is : slice_get system.ports q ≡ Some port
     place : ClockState
     was : slice_get before.clocks q ≡ Some place
-    now : slice_get table.clocks q ≡ Some (place_behind port.role per_second t (value values q) (interval_by (replies q)) place)
+    now : slice_get table.clocks q ≡ Some (place_after port.role per_second t (value values q) (interval_by (replies q)) place)
     of : IsPlaceOf port.role place
 
   at_place : (q : ℕ) → q < length system.ports → At q
@@ -367,47 +367,47 @@ module _ (system : System) (sound : IsSound system) (per_second t k : ℕ) (is_f
         is = port.1;
         place = place.0;
         was = place.1;
-        now = all.behind.behind q port.0 place.0 (let w = whole in omega (arith, w, lt)) port.1 place.1;
+        now = all.after.after q port.0 place.0 (let w = whole in omega (arith, w, lt)) port.1 place.1;
         of = stands.places q port.0 place.0 port.1 place.1;
       }
 
   pub rearming_stands : StandsAt system t false table
   rearming_stands = record {
     len = len;
-    components = ap length all.behind.events ∙ stands.components;
+    components = ap length all.after.events ∙ stands.components;
     places = λ p port place is is_place.
         let here = at_place p (slice_get_within system.ports p port is) in
         let its : here.port ≡ port = same_Some _ _ (sym here.is ∙ is) in
-        let own : place_behind here.port.role per_second t (value values p) (interval_by (replies p)) here.place ≡ place = same_Some _ _ (sym here.now ∙ is_place) in
-        subst (λ (x : Port). IsPlaceOf x.role place) its (subst (IsPlaceOf here.port.role) own (place_of_behind here.port.role per_second t (value values p) (interval_by (replies p)) here.place here.of));
+        let own : place_after here.port.role per_second t (value values p) (interval_by (replies p)) here.place ≡ place = same_Some _ _ (sym here.now ∙ is_place) in
+        subst (λ (x : Port). IsPlaceOf x.role place) its (subst (IsPlaceOf here.port.role) own (place_of_after here.port.role per_second t (value values p) (interval_by (replies p)) here.place here.of));
     next = all_by_place (IsNextFrom table.start t false) table.clocks (λ q place is_place.
         let here = at_place q (let w = slice_get_within table.clocks q place is_place in let e = len in omega (arith, w, e)) in
-        let own : place_behind here.port.role per_second t (value values q) (interval_by (replies q)) here.place ≡ place = same_Some _ _ (sym here.now ∙ is_place) in
-        subst (λ n. IsNextFrom n t false place) (sym all.behind.start)
+        let own : place_after here.port.role per_second t (value values q) (interval_by (replies q)) here.place ≡ place = same_Some _ _ (sym here.now ∙ is_place) in
+        subst (λ n. IsNextFrom n t false place) (sym all.after.start)
         (subst (IsNextFrom before.start t false) own
-        (next_behind here.port.role per_second before.start t is_first (value values q) (interval_by (replies q)) here.place here.of (positive_by system sound q here.port here.is)
+        (next_after here.port.role per_second before.start t is_first (value values q) (interval_by (replies q)) here.place here.of (positive_by system sound q here.port here.is)
         (all_at (IsNextFrom before.start t is_first) before.clocks q here.place stands.next here.was)
         (λ clock. ticks q here.port here.is clock ∙ ap (λ (o : Option ClockState). option_map_or (is_due_in before.start t) o false) here.was))));
-    within = (let w = stands.within in let e = all.behind.stop in omega (arith, w, e));
+    within = (let w = stands.within in let e = all.after.stop in omega (arith, w, e));
   }
 
   olds_many : length (timers_in before) ≡ length system.ports
   olds_many = length-map before.clocks timer_in ∙ stands.len
 
-  timers_are : timers_in table ≡ timers_behind per_second t system values replies (timers_in before)
+  timers_are : timers_in table ≡ timers_after per_second t system values replies (timers_in before)
   timers_are =
-      let many : length (timers_behind per_second t system values replies (timers_in before)) ≡ length system.ports = timers_behind_many per_second t values replies 0 system.ports (timers_in before) olds_many ∙ olds_many in
+      let many : length (timers_after per_second t system values replies (timers_in before)) ≡ length system.ports = timers_after_many per_second t values replies 0 system.ports (timers_in before) olds_many ∙ olds_many in
       let own : length (timers_in table) ≡ length system.ports = length-map table.clocks timer_in ∙ len in
-      ext_get_or Never (timers_in table) (timers_behind per_second t system values replies (timers_in before)) (own ∙ sym many)
+      ext_get_or Never (timers_in table) (timers_after per_second t system values replies (timers_in before)) (own ∙ sym many)
       (λ q lt.
       let here = at_place q (omega (arith, own, lt)) in
       let place : q ≡ 0 + q = omega arith in
-      let new : slice_get (timers_in table) q ≡ Some (timer_in (place_behind here.port.role per_second t (value values q) (interval_by (replies q)) here.place)) = slice_get-map timer_in table.clocks q ∙ ap (option_map timer_in) here.now in
+      let new : slice_get (timers_in table) q ≡ Some (timer_in (place_after here.port.role per_second t (value values q) (interval_by (replies q)) here.place)) = slice_get-map timer_in table.clocks q ∙ ap (option_map timer_in) here.now in
       let old : slice_get (timers_in before) q ≡ Some (timer_in here.place) = slice_get-map timer_in before.clocks q ∙ ap (option_map timer_in) here.was in
       get_or_from_slice_get (timers_in table) q _ Never new
       ∙ timer_of_place here.port.role per_second t (value values q) (replies q) here.place here.of
-      ∙ ap (λ n. timer_behind here.port.role per_second t (value values n) (replies n) (timer_in here.place)) place
-      ∙ sym (get_or_from_slice_get (timers_behind per_second t system values replies (timers_in before)) q _ Never (timers_behind_at per_second t values replies 0 system.ports (timers_in before) q here.port (timer_in here.place) here.is old)))
+      ∙ ap (λ n. timer_after here.port.role per_second t (value values n) (replies n) (timer_in here.place)) place
+      ∙ sym (get_or_from_slice_get (timers_after per_second t system values replies (timers_in before)) q _ Never (timers_after_at per_second t values replies 0 system.ports (timers_in before) q here.port (timer_in here.place) here.is old)))
 
   order_whole : take k (port_order system) ≡ port_order system
   order_whole = all_ports system k whole

@@ -11,14 +11,14 @@ use Rattle.fmu_peer.specs.CloseAll.{Instance}
 use Rattle.system_model.specs.declared.system.Component.{Component}
 use Rattle.system_model.specs.declared.system.Port.{Port}
 use Rattle.system_model.specs.declared.system.System.{System}
-use Rattle.system_model.specs.Ports.{numbers, source_of}
+use Rattle.system_model.specs.Ports.{port_numbers, source_of}
 use Rattle.system_model.specs.Sound.{IsSound}
 use Rattle.system_model.proofs.CallerLemmas.{all_by_place, place_of, source_at}
 use Rattle.run_model.specs.Machines.{AreFitting}
 use Rattle.slot_calls.specs.Log.{Sent, Told}
 use Rattle.slot_calls.specs.Stage.{shapes, shapes_of}
 use Rattle.slot_calls.proofs.CallerLemmas.{map_at, shape_of, shapes_same}
-use Rattle.event_iteration.specs.Initialization.{IsInitializing, IsPlaced, initially, no_values}
+use Rattle.event_iteration.specs.Initialization.{IsInInitialization, IsPlaced, initially, no_values}
 use Rattle.event_iteration.specs.Turns.{MayTurn, Walked}
 use Rattle.event_iteration.proofs.Permits.{Keeps, keeps, may_ask, still}
 use Rattle.event_iteration.proofs.Walking.{none_at}
@@ -26,7 +26,7 @@ use Rattle.event_iteration.proofs.Walking.{none_at}
 -- ---- the order
 
 -- the number of the port whose turn it is
-pub number_at : (order read : List PortId) (k : ℕ) (d : PortId) → read ≡ order → k < length read → slice_get (numbers order) k ≡ Some (get_or read k d).0
+pub number_at : (order read : List PortId) (k : ℕ) (d : PortId) → read ≡ order → k < length read → slice_get (port_numbers order) k ≡ Some (get_or read k d).0
 number_at order read k d same lt =
     slice_get-map (λ (x : PortId). x.0) order k ∙ ap (option_map (λ (x : PortId). x.0)) (ap (λ xs. slice_get xs k) (sym same) ∙ slice_get-get_or read k d lt)
 
@@ -59,7 +59,7 @@ module _ (system : System) (sound : IsSound system) where
 
   -- ---- a turn of the loop
 
-  module _ (before : List (Option ℤ)) (len : length before ≡ length system.ports) (fits : AreFitting system before) (olds mids : List Instance) (same : shapes olds ≡ shapes_of system) (initializing : All (λ (x : Instance). IsInitializing x.view) olds)
+  module _ (before : List (Option ℤ)) (len : length before ≡ length system.ports) (fits : AreFitting system before) (olds mids : List Instance) (same : shapes olds ≡ shapes_of system) (initializing : All (λ (x : Instance). IsInInitialization x.view) olds)
       (taken : List ℕ) (values : List (Option ℤ)) (log : List Sent) (told : Told log olds mids) (walked : Walked system (initially system) before taken values log) where
     pub kept : Keeps system values log
     kept = keeps system sound before len fits taken values log walked
@@ -71,7 +71,7 @@ module _ (system : System) (sound : IsSound system) where
     may_turn p port c x is of at =
         let within : port.component.0 < length mids = slice_get_within mids port.component.0 x at in
         let here : x ≡ get_or mids port.component.0 x = sym (get_or_from_slice_get mids port.component.0 x x at) in
-        let state : IsInitializing x.view = subst (λ (y : Instance). IsInitializing y.view) (sym here) (still system olds mids log told same kept.quiet initializing port.component.0 x within) in
+        let state : IsInInitialization x.view = subst (λ (y : Instance). IsInInitialization y.view) (sym here) (still system olds mids log told same kept.quiet initializing port.component.0 x within) in
         let shape : x.view.fixed.shape ≡ c.shape =
         map_at shape_of mids port.component.0 x c.shape within here ∙ ap (λ (ss : List Shape). get_or ss port.component.0 c.shape) shapes_mid
         ∙ sym (map_at (λ (y : Component). y.shape) system.components port.component.0 c c.shape (slice_get_within system.components port.component.0 c of) (sym (get_or_from_slice_get system.components port.component.0 c c of))) in

@@ -31,7 +31,7 @@ use Rattle.event_iteration.specs.Settings.{IsUnset, before_step, port_order, set
 use Rattle.event_iteration.specs.Turns.{MayAsk, MayTurn, TakesTurn, Walked}
 use Rattle.event_iteration.proofs.Marks.{unmarked}
 use Rattle.event_iteration.proofs.Permits.{input_there, writable}
-use Rattle.event_iteration.proofs.Turning.{AsksBy, Sets, Touches, all_was, behind, calls_of, shape_here}
+use Rattle.event_iteration.proofs.Turning.{AsksBy, Sets, Touches, after, all_was, calls_of, shape_here}
 use Rattle.event_iteration.proofs.Walking.{AreAbout, split_order}
 
 -- ---- the order of the ports
@@ -110,7 +110,7 @@ module _ (system : System) (sound : IsSound system) (now : List (Option ℤ)) (f
 
     beside : (x.view.phase.state ≡ (get_or olds port.component.0 x).view.phase.state) × (is_marked c.shape x.view.phase.marks port.reference ≡ is_marked c.shape (get_or olds port.component.0 x).view.phase.marks port.reference)
     beside =
-        behind SetsPort system sound (take k (port_order system)) log (calls_of SetsPort system (before_step now) (sets_ports system now) now (take k (port_order system)) now log walked)
+        after SetsPort system sound (take k (port_order system)) log (calls_of SetsPort system (before_step now) (sets_ports system now) now (take k (port_order system)) now log walked)
         olds mids told same port.component.0 c of x there set_alone k port is refl fresh
 
     not_marked : is_marked x.view.fixed.shape x.view.phase.marks port.reference ≡ false

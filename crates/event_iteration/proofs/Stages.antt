@@ -26,10 +26,10 @@ use Rattle.run_model.specs.Inputs.{state_with}
 use Rattle.run_model.specs.Machines.{AreMachines, IsSituation}
 use Rattle.run_model.specs.Run.{IsFmu, Run, Situation, each, each_from}
 use Rattle.run_model.proofs.CallerLemmas.{fmu_before}
-use Rattle.slot_calls.specs.Log.{Asking, Sent, Told, asking_of, askings, part}
+use Rattle.slot_calls.specs.Log.{ComponentCall, Sent, Told, component_call, component_calls, part}
 use Rattle.slot_calls.specs.Replies.{AreReplies, RepliesBy, state_by, states_by}
 use Rattle.slot_calls.specs.Stage.{IsAnswered, IsGoodOf, has_events, shapes_of, to_those, to_those_from}
-use Rattle.slot_calls.proofs.CallerLemmas.{part_append, PartIs, first_same, none_before, part_asked, part_unasked, rest_same, same, skips, takes, replied_good, replies_back, replies_front, state_by_append}
+use Rattle.slot_calls.proofs.CallerLemmas.{part_append, PartIs, first_same, none_before, part_asked, part_unasked, rest_same, same, skips, takes, replied_good, replies_back, replies_prefix, state_by_append}
 use Rattle.event_iteration.specs.Machines.{AreAt}
 use Rattle.event_iteration.specs.Updates.{event_by, events_told, first_event, other_answers}
 use Rattle.event_iteration.proofs.Fmus.{each_many, each_same, got, told_at, good_in_part, part_all}
@@ -121,7 +121,7 @@ module _ (r : Run) (ss : List MachineState) where
       ∙ sym (each_each (λ i c m s. state_by m s (part i a)) (λ i c m s. state_by m s (part i b)) 0 r.system.components r.machines ss)
 
   pub replies_first : (a b : List Sent) → AreReplies r ss (a ++ b) → AreReplies r ss a
-  replies_first a b h i c m s fmu = replies_front m s (part i a) (part i b) (subst (RepliesBy m s) (part_append i a b) (h i c m s fmu))
+  replies_first a b h i c m s fmu = replies_prefix m s (part i a) (part i b) (subst (RepliesBy m s) (part_append i a b) (h i c m s fmu))
 
   pub replies_then : (a b : List Sent) → All Good a → AreReplies r ss (a ++ b) → AreReplies r (states_by r ss a) b
   replies_then a b good h i c m z fmu =
@@ -134,8 +134,8 @@ module _ (r : Run) (ss : List MachineState) where
   pub told_on : (olds news : List Instance) → AreAt r ss olds → (log : List Sent) → Told log olds news → All Good log → AreAt r (states_by r ss log) news
   told_on olds news at log told good i c m z fmu =
       let old = fmu_before r ss (λ j d n s. state_by n s (part j log)) i c m z fmu in
-      let behind = told_at r ss olds news at log told good i c m old.before old.fmu in
-      (behind.instance, behind.is, behind.machine, behind.state ∙ ap Some (sym old.is))
+      let beyond = told_at r ss olds news at log told good i c m old.before old.fmu in
+      (beyond.instance, beyond.is, beyond.machine, beyond.state ∙ ap Some (sym old.is))
 
   -- ---- calls that are answered by machines in these very states
 
@@ -169,21 +169,21 @@ module _ (r : Run) (ss : List MachineState) where
 -- ---- one call to some
 
 module _ (r : Run) (ss : List MachineState) (test : Shape → Bool) (call : Shape → Call) where
-  abbrev ask : ℕ → Shape → Asking
+  abbrev ask : ℕ → Shape → ComponentCall
   ask k t = record { component = k; call = call t }
 
   -- each is asked once, and so answers in the state before
-  stage_shown : (k : ℕ) (todo : List Shape) (log : List Sent) → askings log ≡ to_those_from k test call todo → All (IsGoodOf (shapes_of r.system)) log → AreReplies r ss log → All (IsShown r ss) log
+  stage_shown : (k : ℕ) (todo : List Shape) (log : List Sent) → component_calls log ≡ to_those_from k test call todo → All (IsGoodOf (shapes_of r.system)) log → AreReplies r ss log → All (IsShown r ss) log
   stage_shown k [] [] is good replies = All-nil (IsShown r ss)
   stage_shown k [] (s ∷ log) is good replies = absurd (cc)
   stage_shown k (t ∷ todo) log is good replies = by (test t) log is good replies (λ rest e more own. stage_shown (k + 1) todo rest e more own) where
-    by : (b : Bool) (some : List Sent) → askings some ≡ (if b then ask k t ∷ to_those_from (k + 1) test call todo else to_those_from (k + 1) test call todo) → All (IsGoodOf (shapes_of r.system)) some → AreReplies r ss some →
-        ((rest : List Sent) → askings rest ≡ to_those_from (k + 1) test call todo → All (IsGoodOf (shapes_of r.system)) rest → AreReplies r ss rest → All (IsShown r ss) rest) → All (IsShown r ss) some
+    by : (b : Bool) (some : List Sent) → component_calls some ≡ (if b then ask k t ∷ to_those_from (k + 1) test call todo else to_those_from (k + 1) test call todo) → All (IsGoodOf (shapes_of r.system)) some → AreReplies r ss some →
+        ((rest : List Sent) → component_calls rest ≡ to_those_from (k + 1) test call todo → All (IsGoodOf (shapes_of r.system)) rest → AreReplies r ss rest → All (IsShown r ss) rest) → All (IsShown r ss) some
     by false some e all own on = on some e all own
     by true [] e all own on = absurd (cc)
     by true (s ∷ some) e all own on =
-        let at : s.component ≡ k = ap (λ (a : Asking). a.component) (first_same (asking_of s) (ask k t) (askings some) (to_those_from (k + 1) test call todo) e) in
-        let rest = rest_same (asking_of s) (ask k t) (askings some) (to_those_from (k + 1) test call todo) e in
+        let at : s.component ≡ k = ap (λ (a : ComponentCall). a.component) (first_same (component_call s) (ask k t) (component_calls some) (to_those_from (k + 1) test call todo) e) in
+        let rest = rest_same (component_call s) (ask k t) (component_calls some) (to_those_from (k + 1) test call todo) e in
         All-cons (IsShown r ss) s some (shown_first r ss s some (All-head (IsGoodOf (shapes_of r.system)) s some all) own)
         (on some rest (All-tail (IsGoodOf (shapes_of r.system)) s some all)
         (λ i c m z fmu. others i m z (own i c m z fmu) (λ here. none_before test call (k + 1) i todo some rest (omega (arith, at, here))) (s.component == i) refl))
@@ -234,10 +234,10 @@ module _ (r : Run) (ss : List MachineState) (test : Shape → Bool) (call : Shap
         abbrev passes : ℕ → Component → Machine → MachineState → Bool
         passes i c m z = test c.shape && says (Ok (m.look z (call c.shape)))
 
-        abbrev later : ℕ → List Component → List Asking
+        abbrev later : ℕ → List Component → List ComponentCall
         later n cs = to_those_from n test call (map (λ (c : Component). c.shape) cs)
 
-        any_from : (k : ℕ) (cs : List Component) (ms : List Machine) (zs : List MachineState) (some : List Sent) → askings some ≡ to_those_from k test call (map (λ (c : Component). c.shape) cs) → All (IsShown r ss) some →
+        any_from : (k : ℕ) (cs : List Component) (ms : List Machine) (zs : List MachineState) (some : List Sent) → component_calls some ≡ to_those_from k test call (map (λ (c : Component). c.shape) cs) → All (IsShown r ss) some →
             length ms ≡ length cs → length zs ≡ length cs → ((i : ℕ) (c : Component) (m : Machine) (z : MachineState) → slice_get cs i ≡ Some c → slice_get ms i ≡ Some m → slice_get zs i ≡ Some z → IsFmu r ss (k + i) c m z) →
             list_any (λ (s : Sent). says s.exchange.result) some ≡ list_any (λ b. b) (each_from passes k cs ms zs)
         any_from k [] ms zs [] is shown few many h = refl
@@ -257,16 +257,16 @@ module _ (r : Run) (ss : List MachineState) (test : Shape → Bool) (call : Shap
                 let place : k + 0 ≡ s.component = omega (arith, at) in
                 own c m z (subst (λ (j : ℕ). IsFmu r ss j c m z) place (h 0 c m z refl refl refl)) ∙ ap (λ (x : Call). Ok (m.look z x)) call_is
 
-            by : (b : Bool) (some : List Sent) → askings some ≡ (if b then ask k c.shape ∷ later (suc k) cs else later (suc k) cs) → All (IsShown r ss) some →
-                ((rest : List Sent) → askings rest ≡ later (suc k) cs → All (IsShown r ss) rest → list_any (λ (s : Sent). says s.exchange.result) rest ≡ list_any (λ x. x) (each_from passes (suc k) cs ms zs)) →
+            by : (b : Bool) (some : List Sent) → component_calls some ≡ (if b then ask k c.shape ∷ later (suc k) cs else later (suc k) cs) → All (IsShown r ss) some →
+                ((rest : List Sent) → component_calls rest ≡ later (suc k) cs → All (IsShown r ss) rest → list_any (λ (s : Sent). says s.exchange.result) rest ≡ list_any (λ x. x) (each_from passes (suc k) cs ms zs)) →
                 list_any (λ (s : Sent). says s.exchange.result) some ≡ ((b && says (Ok (m.look z (call c.shape)))) || list_any (λ x. x) (each_from passes (suc k) cs ms zs))
             by false some e own on = on some e own
             by true [] e own on = absurd (cc)
             by true (s ∷ some) e own on =
-                let first = first_same (asking_of s) (ask k c.shape) (askings some) (later (suc k) cs) e in
+                let first = first_same (component_call s) (ask k c.shape) (component_calls some) (later (suc k) cs) e in
                 ap₂ (λ (a b : Bool). a || b)
-                (ap says (here s (ap (λ (a : Asking). a.component) first) (ap (λ (a : Asking). a.call) first) (All-head (IsShown r ss) s some own)))
-                (on some (rest_same (asking_of s) (ask k c.shape) (askings some) (later (suc k) cs) e) (All-tail (IsShown r ss) s some own))
+                (ap says (here s (ap (λ (a : ComponentCall). a.component) first) (ap (λ (a : ComponentCall). a.call) first) (All-head (IsShown r ss) s some own)))
+                (on some (rest_same (component_call s) (ask k c.shape) (component_calls some) (later (suc k) cs) e) (All-tail (IsShown r ss) s some own))
 
         pub stage_any : list_any (λ (s : Sent). says s.exchange.result) log ≡ list_any (λ b. b) (each r ss passes)
         stage_any =
@@ -278,13 +278,13 @@ module _ (r : Run) (ss : List MachineState) (test : Shape → Bool) (call : Shap
         abbrev wanted : ℕ → Component → Machine → MachineState → Option ℕ
         wanted i c m z = if c.shape.has_event_mode then event_after t (m.look z C.Update) else None
 
-        abbrev after_it : ℕ → List Component → List Asking
+        abbrev after_it : ℕ → List Component → List ComponentCall
         after_it n cs = to_those_from n test call (map (λ (c : Component). c.shape) cs)
 
         abbrev told_of : List Component → List Sent → List (Option ℕ)
         told_of cs some = events_told t (map (λ (c : Component). c.shape) cs) some
 
-        events_from : (k : ℕ) (cs : List Component) (ms : List Machine) (zs : List MachineState) (some : List Sent) → askings some ≡ after_it k cs → All (IsShown r ss) some →
+        events_from : (k : ℕ) (cs : List Component) (ms : List Machine) (zs : List MachineState) (some : List Sent) → component_calls some ≡ after_it k cs → All (IsShown r ss) some →
             length ms ≡ length cs → length zs ≡ length cs → ((i : ℕ) (c : Component) (m : Machine) (z : MachineState) → slice_get cs i ≡ Some c → slice_get ms i ≡ Some m → slice_get zs i ≡ Some z → IsFmu r ss (k + i) c m z) →
             told_of cs some ≡ each_from wanted k cs ms zs
         events_from k [] ms zs some is shown few many h = refl
@@ -303,16 +303,16 @@ module _ (r : Run) (ss : List MachineState) (test : Shape → Bool) (call : Shap
                 let place : k + 0 ≡ s.component = omega (arith, at) in
                 own c m z (subst (λ (j : ℕ). IsFmu r ss j c m z) place (h 0 c m z refl refl refl)) ∙ ap (λ (x : Call). Ok (m.look z x)) (call_is ∙ updates c.shape)
 
-            by : (b : Bool) (some : List Sent) → askings some ≡ (if b then ask k c.shape ∷ after_it (suc k) cs else after_it (suc k) cs) → All (IsShown r ss) some →
-                ((rest : List Sent) → askings rest ≡ after_it (suc k) cs → All (IsShown r ss) rest → told_of cs rest ≡ each_from wanted (suc k) cs ms zs) →
+            by : (b : Bool) (some : List Sent) → component_calls some ≡ (if b then ask k c.shape ∷ after_it (suc k) cs else after_it (suc k) cs) → All (IsShown r ss) some →
+                ((rest : List Sent) → component_calls rest ≡ after_it (suc k) cs → All (IsShown r ss) rest → told_of cs rest ≡ each_from wanted (suc k) cs ms zs) →
                 (if b then first_event t some ∷ told_of cs (other_answers some) else None ∷ told_of cs some) ≡ (if b then event_after t (m.look z C.Update) else None) ∷ each_from wanted (suc k) cs ms zs
             by false some e own on = ap (λ (es : List (Option ℕ)). None ∷ es) (on some e own)
             by true [] e own on = absurd (cc)
             by true (s ∷ some) e own on =
-                let first = first_same (asking_of s) (ask k c.shape) (askings some) (after_it (suc k) cs) e in
+                let first = first_same (component_call s) (ask k c.shape) (component_calls some) (after_it (suc k) cs) e in
                 ap₂ (λ (x : Option ℕ) (es : List (Option ℕ)). x ∷ es)
-                (ap (event_by t) (here s (ap (λ (a : Asking). a.component) first) (ap (λ (a : Asking). a.call) first) (All-head (IsShown r ss) s some own)))
-                (on some (rest_same (asking_of s) (ask k c.shape) (askings some) (after_it (suc k) cs) e) (All-tail (IsShown r ss) s some own))
+                (ap (event_by t) (here s (ap (λ (a : ComponentCall). a.component) first) (ap (λ (a : ComponentCall). a.call) first) (All-head (IsShown r ss) s some own)))
+                (on some (rest_same (component_call s) (ask k c.shape) (component_calls some) (after_it (suc k) cs) e) (All-tail (IsShown r ss) s some own))
 
         pub stage_events : events_told t (shapes_of r.system) log ≡ each r ss wanted
         stage_events =

@@ -25,12 +25,12 @@ use Rattle.run_model.specs.Initial.{asked_timer, first_timer, first_timers, inte
 use Rattle.run_model.specs.Run.{IsFmu, Run, Situation, Timer, Every, Never, at_fmu}
 use Rattle.system_model.specs.Values.{value, is_active}
 use Rattle.run_model.specs.Timers.{answered, armed_after, fixed, rearmed}
-use Rattle.slot_calls.specs.Log.{Asking, Sent, asking_of, askings}
+use Rattle.slot_calls.specs.Log.{ComponentCall, Sent, component_call, component_calls}
 use Rattle.slot_calls.specs.Replies.{AreReplies}
 use Rattle.slot_calls.specs.Stage.{IsAnswered, shapes_of}
 use Rattle.slot_calls.proofs.CallerLemmas.{first_same, rest_same, sent_all}
 use Rattle.event_iteration.specs.Explains.{Explains}
-use Rattle.event_iteration.specs.Intervals.{Rearms, asks_interval, first_told, first_told_by, first_told_in, interval_by, intervals, log_behind, shift_by, timer_behind, timers_behind_from, timing_calls, timing_calls_in, timing_calls_of}
+use Rattle.event_iteration.specs.Intervals.{Rearms, asks_interval, first_told, first_told_by, first_told_in, interval_by, intervals, log_after, shift_by, timer_after, timers_after_from, timing_calls, timing_calls_in, timing_calls_of}
 use Rattle.event_iteration.specs.Settings.{port_order}
 use Rattle.event_iteration.specs.Turns.{IsPaired, sent_of}
 use Rattle.event_iteration.proofs.Fmus.{at_fmu-is, got}
@@ -104,14 +104,14 @@ module _ (r : Run) (sound : IsSound r.system) (s : Situation) (values : List (Op
 
   -- so the timers after the instant are the run's
   timers_from : (p : ℕ) (ports : List Port) (olds : List Timer) → ((q : ℕ) (port : Port) → slice_get ports q ≡ Some port → slice_get r.system.ports (p + q) ≡ Some port) →
-      timers_behind_from r.plan.resolution s.t values e.replies p ports olds ≡ next_timers_from r s values p ports olds
+      timers_after_from r.plan.resolution s.t values e.replies p ports olds ≡ next_timers_from r s values p ports olds
   timers_from p [] olds h = refl
   timers_from p (x ∷ ports) [] h = refl
   timers_from p (x ∷ ports) (y ∷ olds) h =
       ap₂ ◌∷◌ (by x.role (λ asked. interval_shown p x (let place : p ≡ p + 0 = omega arith in ap (slice_get r.system.ports) place ∙ h 0 x refl) asked))
       (timers_from (suc p) ports olds (λ q port is. let place : suc p + q ≡ p + suc q = omega arith in ap (slice_get r.system.ports) place ∙ h (suc q) port is))
     where
-      by : (role : Role) → (IsAsked role (value values p) → interval_by (e.replies p) ≡ shown_interval x) → timer_behind role r.plan.resolution s.t (value values p) (e.replies p) y ≡ next_timer role r s values p x y
+      by : (role : Role) → (IsAsked role (value values p) → interval_by (e.replies p) ≡ shown_interval x) → timer_after role r.plan.resolution s.t (value values p) (e.replies p) y ≡ next_timer role r s values p x y
       by (TimeClock Countdown) own = ap (λ (i : Interval). answered r.plan.resolution s.t i (if is_active (value values p) then Never else y)) (own (inl refl))
       by (TimeClock Changing) own = anew (is_active (value values p)) (λ active. own (inr (refl, active)))
         where
@@ -132,7 +132,7 @@ IsQuestionOf port call =
     ⊎ ((port.role ≡ TimeClock Changing) × (call ≡ C.GetShift port.reference))
 
 -- a question for one of these
-pub record IsTimingOf (system : System) (a : Asking) : Type 0 where
+pub record IsTimingOf (system : System) (a : ComponentCall) : Type 0 where
   pub p : ℕ
   pub port : Port
   pub is : slice_get system.ports p ≡ Some port
@@ -157,7 +157,7 @@ module _ (system : System) where
   pub timings_are : All (IsTimingOf system) (timing_calls system)
   timings_are = timings_in system.ports (all_by_place Both system.ports (λ p port is. timing_of p port is port.role refl))
 
-  pub timings_read : (log : List Sent) → All (λ (s : Sent). IsTimingOf system (asking_of s)) log → All IsRead log
+  pub timings_read : (log : List Sent) → All (λ (s : Sent). IsTimingOf system (component_call s)) log → All IsRead log
   timings_read log all = λ k d w. reads (all k d w).port _ (all k d w).asks where
     reads : (port : Port) (call : Call) → IsQuestionOf port call → Reads call
     reads port call (inl (role, inl is)) m z = ap (after m z) is
@@ -167,13 +167,13 @@ module _ (system : System) where
 module _ (r : Run) (ss : List MachineState) (all : AreAll r ss) where
   -- what the log tells of these ports is what the machines show
   abbrev TellsOf : List Port → Type 0
-  TellsOf ports = (log : List Sent) → askings log ≡ timing_calls_in ports → All (IsShown r ss) log → first_told_in r.plan.resolution r.plan.start ports log ≡ map (λ (port : Port). first_timer port.role r ss port) ports
+  TellsOf ports = (log : List Sent) → component_calls log ≡ timing_calls_in ports → All (IsShown r ss) log → first_told_in r.plan.resolution r.plan.start ports log ≡ map (λ (port : Port). first_timer port.role r ss port) ports
 
   module _ (port : Port) (ports : List Port) (there : port.component.0 < length r.system.components) (more : TellsOf ports) where
-    abbrev interval : Asking
+    abbrev interval : ComponentCall
     interval = record { component = port.component.0; call = C.GetInterval port.reference }
 
-    abbrev shift : Asking
+    abbrev shift : ComponentCall
     shift = record { component = port.component.0; call = C.GetShift port.reference }
 
     abbrev own : (c : Component) × (slice_get r.system.components port.component.0 ≡ Some c)
@@ -182,38 +182,38 @@ module _ (r : Run) (ss : List MachineState) (all : AreAll r ss) where
     abbrev fmu : (m : Machine) × (z : MachineState) × IsFmu r ss port.component.0 own.0 m z
     fmu = fmu_of r ss all port.component.0 own.0 own.1
 
-    shown_here : (s : Sent) (a : Asking) → asking_of s ≡ a → a.component ≡ port.component.0 → IsShown r ss s → s.exchange.result ≡ Ok (fmu.0.look fmu.1 a.call)
+    shown_here : (s : Sent) (a : ComponentCall) → component_call s ≡ a → a.component ≡ port.component.0 → IsShown r ss s → s.exchange.result ≡ Ok (fmu.0.look fmu.1 a.call)
     shown_here s a is at told =
-        told own.0 fmu.0 fmu.1 (subst (λ (i : ℕ). IsFmu r ss i own.0 fmu.0 fmu.1) (sym (ap (λ (x : Asking). x.component) is ∙ at)) fmu.2) ∙ ap (λ (x : Asking). Ok (fmu.0.look fmu.1 x.call)) is
+        told own.0 fmu.0 fmu.1 (subst (λ (i : ℕ). IsFmu r ss i own.0 fmu.0 fmu.1) (sym (ap (λ (x : ComponentCall). x.component) is ∙ at)) fmu.2) ∙ ap (λ (x : ComponentCall). Ok (fmu.0.look fmu.1 x.call)) is
 
     abbrev first_in : List Timer
     first_in = map (λ (x : Port). first_timer x.role r ss x) ports
 
-    answered_here : (a b : Sent) (log : List Sent) → askings (a ∷ (b ∷ log)) ≡ interval ∷ (shift ∷ timing_calls_in ports) → All (IsShown r ss) (a ∷ (b ∷ log)) →
+    answered_here : (a b : Sent) (log : List Sent) → component_calls (a ∷ (b ∷ log)) ≡ interval ∷ (shift ∷ timing_calls_in ports) → All (IsShown r ss) (a ∷ (b ∷ log)) →
         first_told_by (TimeClock Answered) r.plan.resolution r.plan.start (a ∷ (b ∷ log)) ∷ first_told_in r.plan.resolution r.plan.start ports log ≡ first_timer (TimeClock Answered) r ss port ∷ first_in
     answered_here a b log calls shown =
-        let behind = rest_same (asking_of a) interval (askings (b ∷ log)) (shift ∷ timing_calls_in ports) calls in
+        let beyond = rest_same (component_call a) interval (component_calls (b ∷ log)) (shift ∷ timing_calls_in ports) calls in
         let later = All-tail (IsShown r ss) a (b ∷ log) shown in
-        let first = shown_here a interval (first_same (asking_of a) interval (askings (b ∷ log)) (shift ∷ timing_calls_in ports) calls) refl (All-head (IsShown r ss) a (b ∷ log) shown) in
-        let second = shown_here b shift (first_same (asking_of b) shift (askings log) (timing_calls_in ports) behind) refl (All-head (IsShown r ss) b log later) in
+        let first = shown_here a interval (first_same (component_call a) interval (component_calls (b ∷ log)) (shift ∷ timing_calls_in ports) calls) refl (All-head (IsShown r ss) a (b ∷ log) shown) in
+        let second = shown_here b shift (first_same (component_call b) shift (component_calls log) (timing_calls_in ports) beyond) refl (All-head (IsShown r ss) b log later) in
         ap₂ ◌∷◌
         (ap₂ (λ (x y : Result Reply PeerFault). fixed r.plan.resolution (interval_by (result_ok x)) (shift_by (result_ok y))) first second
         ∙ sym (ap (λ (o : Option Timer). unwrap_or o Never) (at_fmu-is r ss port.component.0 own.0 fmu.0 fmu.1 (λ c m z. Some (asked_timer r port m z)) fmu.2)))
-        (more log (rest_same (asking_of b) shift (askings log) (timing_calls_in ports) behind) (All-tail (IsShown r ss) b log later))
+        (more log (rest_same (component_call b) shift (component_calls log) (timing_calls_in ports) beyond) (All-tail (IsShown r ss) b log later))
 
-    shifted_here : (a : Sent) (log : List Sent) → askings (a ∷ log) ≡ shift ∷ timing_calls_in ports → All (IsShown r ss) (a ∷ log) →
+    shifted_here : (a : Sent) (log : List Sent) → component_calls (a ∷ log) ≡ shift ∷ timing_calls_in ports → All (IsShown r ss) (a ∷ log) →
         first_told_by (TimeClock Changing) r.plan.resolution r.plan.start (a ∷ log) ∷ first_told_in r.plan.resolution r.plan.start ports log ≡ first_timer (TimeClock Changing) r ss port ∷ first_in
     shifted_here a log calls shown =
-        let first = shown_here a shift (first_same (asking_of a) shift (askings log) (timing_calls_in ports) calls) refl (All-head (IsShown r ss) a log shown) in
+        let first = shown_here a shift (first_same (component_call a) shift (component_calls log) (timing_calls_in ports) calls) refl (All-head (IsShown r ss) a log shown) in
         ap₂ ◌∷◌
         (ap (λ (x : Result Reply PeerFault). armed_after r.plan.start (counts_of (shift_by (result_ok x)) r.plan.resolution)) first
         ∙ sym (ap (λ (o : Option Timer). unwrap_or o Never) (at_fmu-is r ss port.component.0 own.0 fmu.0 fmu.1 (λ c m z. Some (run_shifted r port m z)) fmu.2)))
-        (more log (rest_same (asking_of a) shift (askings log) (timing_calls_in ports) calls) (All-tail (IsShown r ss) a log shown))
+        (more log (rest_same (component_call a) shift (component_calls log) (timing_calls_in ports) calls) (All-tail (IsShown r ss) a log shown))
 
-    first_here : (role : Role) (log : List Sent) → askings log ≡ timing_calls_of role port ++ timing_calls_in ports → All (IsShown r ss) log →
-        first_told_by role r.plan.resolution r.plan.start log ∷ first_told_in r.plan.resolution r.plan.start ports (log_behind role log) ≡ first_timer role r ss port ∷ first_in
+    first_here : (role : Role) (log : List Sent) → component_calls log ≡ timing_calls_of role port ++ timing_calls_in ports → All (IsShown r ss) log →
+        first_told_by role r.plan.resolution r.plan.start log ∷ first_told_in r.plan.resolution r.plan.start ports (log_after role log) ≡ first_timer role r ss port ∷ first_in
     first_here (TimeClock Answered) [] calls shown = absurd (cc)
-    first_here (TimeClock Answered) (a ∷ []) calls shown = absurd (let rest = rest_same (asking_of a) interval [] (shift ∷ timing_calls_in ports) calls in cc)
+    first_here (TimeClock Answered) (a ∷ []) calls shown = absurd (let rest = rest_same (component_call a) interval [] (shift ∷ timing_calls_in ports) calls in cc)
     first_here (TimeClock Answered) (a ∷ (b ∷ log)) calls shown = answered_here a b log calls shown
     first_here (TimeClock Changing) [] calls shown = absurd (cc)
     first_here (TimeClock Changing) (a ∷ log) calls shown = shifted_here a log calls shown

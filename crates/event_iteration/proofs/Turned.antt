@@ -1,8 +1,8 @@
 -- The values after several turns.
-use Rattle.std.proofs.Common.{◌≡◌, ℕ, ◌<◌, ℤ, Bool, true, false, List, [], ◌∷◌, ◌++◌, Option, Some, None, Contains, refl, sym, ap, ap₂, ◌∙◌, subst, arith, length, drop, take, map, get_or, ◌+◌}
-use Rattle.std.specs.Prelude.{IfSome, filter, if◌then◌else◌, option_map, slice_get, slice_set}
+use Rattle.std.proofs.Common.{◌≡◌, ℕ, ◌<◌, ℤ, List, [], ◌∷◌, ◌++◌, Option, Some, None, Contains, refl, sym, ap, ap₂, ◌∙◌, subst, arith, length, drop, take, map, get_or, ◌+◌}
+use Rattle.std.specs.Prelude.{IfSome, option_map, slice_get, slice_set}
 use Rattle.std.specs.Option.{option_and_then}
-use Rattle.std.proofs.lemmas.List.{drop-map, drop_more, get_or-set_other, get_or-set_same, length-map, length-set, set_comm, take_more, take_more_set}
+use Rattle.std.proofs.lemmas.List.{drop_more, get_or-set_other, get_or-set_same, length-map, length-set, set_comm, take_more, take_more_set}
 use Rattle.std.proofs.lemmas.List.Elements.{Contains-append_left, Contains-append_right, Contains-push}
 use Rattle.std.proofs.lemmas.Option.{same_Some, slice_get-get_or, slice_get-map, slice_get_within}
 use Rattle.value_types.specs.Values.{Fits}
@@ -10,14 +10,12 @@ use Rattle.fmi_calls.specs.declared.call.Call.{Call}
 use Rattle.fmi_calls.specs.declared.call.Reply.{Reply}
 use Rattle.fmu_peer.specs.Many.{exchanges}
 use Rattle.fmu_peer.specs.Talk.{calls_in}
-use Rattle.sim_base.specs.declared.numbers.PortId.{PortId}
 use Rattle.system_model.specs.declared.system.Port.{Port}
 use Rattle.system_model.specs.declared.system.System.{System}
-use Rattle.system_model.specs.Ports.{numbers}
 use Rattle.system_model.specs.Values.{value}
 use Rattle.run_model.specs.Machines.{AreFitting}
 use Rattle.event_iteration.specs.Turns.{Rules}
-use Rattle.event_iteration.specs.Waits.{AreTurns, ReadsPort, replies_in, turned, value_behind}
+use Rattle.event_iteration.specs.Waits.{AreTurns, ReadsPort, replies_in, turned, value_after}
 use Rattle.event_iteration.proofs.Fmus.{got}
 use Rattle.event_iteration.proofs.Walking.{by_number}
 
@@ -42,26 +40,26 @@ replies_beside (c ∷ calls) (r ∷ replies) len = ap (λ (rs : List (Option Rep
 
 -- ---- one turn
 
-pub value_behind-is : (system : System) (rules : Rules) (V : List (Option ℤ)) (p : ℕ) (port : Port) (reply : Option Reply) → slice_get system.ports p ≡ Some port → value_behind system rules V p reply ≡ rules.takes p port V (value V p) reply
-value_behind-is system rules V p port reply is = ap (λ o. option_and_then (λ (x : Port). rules.takes p x V (value V p) reply) o) is
+pub value_after-is : (system : System) (rules : Rules) (V : List (Option ℤ)) (p : ℕ) (port : Port) (reply : Option Reply) → slice_get system.ports p ≡ Some port → value_after system rules V p reply ≡ rules.takes p port V (value V p) reply
+value_after-is system rules V p port reply is = ap (λ o. option_and_then (λ (x : Port). rules.takes p x V (value V p) reply) o) is
 
 module _ (system : System) (rules : Rules) (turns : AreTurns system rules) where
-  pub value_behind_same : (V W : List (Option ℤ)) (p : ℕ) (reply : Option Reply) → ((q : ℕ) → ReadsPort system p q → value V q ≡ value W q) → value V p ≡ value W p → value_behind system rules V p reply ≡ value_behind system rules W p reply
-  value_behind_same V W p reply reads own = by (slice_get system.ports p) refl
+  pub value_after_same : (V W : List (Option ℤ)) (p : ℕ) (reply : Option Reply) → ((q : ℕ) → ReadsPort system p q → value V q ≡ value W q) → value V p ≡ value W p → value_after system rules V p reply ≡ value_after system rules W p reply
+  value_after_same V W p reply reads own = by (slice_get system.ports p) refl
     where
       by : (o : Option Port) → slice_get system.ports p ≡ o → option_and_then (λ (x : Port). rules.takes p x V (value V p) reply) o ≡ option_and_then (λ (x : Port). rules.takes p x W (value W p) reply) o
       by None is = refl
       by (Some port) is = turns.takes_same p port V W (value V p) reply is reads ∙ ap (λ (last : Option ℤ). rules.takes p port W last reply) own
 
   -- what a turn leaves fits
-  pub turn_fits : (V : List (Option ℤ)) → length V ≡ length system.ports → AreFitting system V → (p : ℕ) (reply : Option Reply) → AreFitting system (slice_set V p (value_behind system rules V p reply))
+  pub turn_fits : (V : List (Option ℤ)) → length V ≡ length system.ports → AreFitting system V → (p : ℕ) (reply : Option Reply) → AreFitting system (slice_set V p (value_after system rules V p reply))
   turn_fits V len fits p reply q port is = by_number q p
       (λ same.
       let here : slice_get system.ports p ≡ Some port = subst (λ (n : ℕ). slice_get system.ports n ≡ Some port) same is in
-      let v = value_behind system rules V p reply in
+      let v = value_after system rules V p reply in
       let w = slice_get_within system.ports p port here in
       let taken : value (slice_set V p v) q ≡ rules.takes p port V (value V p) reply =
-      ap (value (slice_set V p v)) same ∙ get_or-set_same V p v None (subst (λ (n : ℕ). p < n) (sym len) w) ∙ value_behind-is system rules V p port reply here in
+      ap (value (slice_set V p v)) same ∙ get_or-set_same V p v None (subst (λ (n : ℕ). p < n) (sym len) w) ∙ value_after-is system rules V p port reply here in
       subst (λ (o : Option ℤ). IfSome o (Fits port.kind)) (sym taken) (turns.fitting p port V (value V p) reply here fits (fits p port here)))
       (λ other. subst (λ (o : Option ℤ). IfSome o (Fits port.kind)) (sym (get_or-set_other V p q _ None other)) (fits q port is))
 
@@ -83,13 +81,13 @@ module _ (system : System) (rules : Rules) where
 
   -- one turn more
   pub turned_push : (ps : List ℕ) (os : List (Option Reply)) (V : List (Option ℤ)) (p : ℕ) (o : Option Reply) → length os ≡ length ps →
-      turned system rules (ps ++ p ∷ []) (os ++ o ∷ []) V ≡ slice_set (turned system rules ps os V) p (value_behind system rules (turned system rules ps os V) p o)
+      turned system rules (ps ++ p ∷ []) (os ++ o ∷ []) V ≡ slice_set (turned system rules ps os V) p (value_after system rules (turned system rules ps os V) p o)
   turned_push [] [] V p o len = refl
   turned_push [] (x ∷ os) V p o len = absurd (omega (arith, len))
   turned_push (x ∷ ps) [] V p o len = absurd (omega (arith, len))
   turned_push (x ∷ ps) (y ∷ os) V p o len = turned_push ps os _ p o (omega (arith, len))
 
-  pub turned_push_none : (ps : List ℕ) (V : List (Option ℤ)) (p : ℕ) → turned system rules (ps ++ p ∷ []) [] V ≡ slice_set (turned system rules ps [] V) p (value_behind system rules (turned system rules ps [] V) p None)
+  pub turned_push_none : (ps : List ℕ) (V : List (Option ℤ)) (p : ℕ) → turned system rules (ps ++ p ∷ []) [] V ≡ slice_set (turned system rules ps [] V) p (value_after system rules (turned system rules ps [] V) p None)
   turned_push_none [] V p = refl
   turned_push_none (x ∷ ps) V p = turned_push_none ps _ p
 
@@ -101,10 +99,10 @@ module _ (system : System) (rules : Rules) (turns : AreTurns system rules) where
 
   -- the value of a port that none of them is about may be written before or after
   swaps : (V : List (Option ℤ)) (p : ℕ) (v : Option ℤ) (q : ℕ) (o : Option Reply) → (q ≡ p → ⊥) → (ReadsPort system q p → ⊥) →
-      slice_set (slice_set V p v) q (value_behind system rules (slice_set V p v) q o) ≡ slice_set (slice_set V q (value_behind system rules V q o)) p v
+      slice_set (slice_set V p v) q (value_after system rules (slice_set V p v) q o) ≡ slice_set (slice_set V q (value_after system rules V q o)) p v
   swaps V p v q o other apart =
-      let same : value_behind system rules (slice_set V p v) q o ≡ value_behind system rules V q o =
-      value_behind_same system rules turns (slice_set V p v) V q o (λ r reads. get_or-set_other V p r v None (λ e. apart (subst (ReadsPort system q) e reads))) (get_or-set_other V p q v None other) in
+      let same : value_after system rules (slice_set V p v) q o ≡ value_after system rules V q o =
+      value_after_same system rules turns (slice_set V p v) V q o (λ r reads. get_or-set_other V p r v None (λ e. apart (subst (ReadsPort system q) e reads))) (get_or-set_other V p q v None other) in
       ap (λ (x : Option ℤ). slice_set (slice_set V p v) q x) same ∙ set_comm V p q v _ (λ e. other (sym e))
 
   pub turned_set : (ps : List ℕ) (os : List (Option Reply)) (V : List (Option ℤ)) (p : ℕ) (v : Option ℤ) → (Contains ps p → ⊥) → ((q : ℕ) → Contains ps q → ReadsPort system q p → ⊥) →
@@ -120,27 +118,24 @@ module _ (system : System) (rules : Rules) (turns : AreTurns system rules) where
 -- ---- step by step
 
 -- the value that the port takes, by what is said of it
-pub value_by : (system : System) (rules : Rules) (V : List (Option ℤ)) (p : ℕ) (reply : Option Reply) (v : Option ℤ) → p < length system.ports → ((port : Port) → slice_get system.ports p ≡ Some port → v ≡ rules.takes p port V (value V p) reply) → v ≡ value_behind system rules V p reply
-value_by system rules V p reply v lt h = let port = got system.ports p lt in h port.0 port.1 ∙ sym (value_behind-is system rules V p port.0 reply port.1)
+pub value_by : (system : System) (rules : Rules) (V : List (Option ℤ)) (p : ℕ) (reply : Option Reply) (v last : Option ℤ) → p < length system.ports → last ≡ value V p → ((port : Port) → slice_get system.ports p ≡ Some port → v ≡ rules.takes p port V last reply) → v ≡ value_after system rules V p reply
+value_by system rules V p reply v last lt read h =
+    let port = got system.ports p lt in
+    h port.0 port.1 ∙ ap (λ (x : Option ℤ). rules.takes p port.0 V x reply) read ∙ sym (value_after-is system rules V p port.0 reply port.1)
 
 -- over ports with their replies, one after the other
-pub replied_more : (system : System) (rules : Rules) (ports : List ℕ) (replies : List Reply) (i : ℕ) (V : List (Option ℤ)) (r : Reply) (v : Option ℤ) → i < length ports → length replies ≡ length ports → v ≡ value_behind system rules V (get_or ports i 0) (Some (get_or replies i r)) →
+pub replied_more : (system : System) (rules : Rules) (ports : List ℕ) (replies : List Reply) (i : ℕ) (V : List (Option ℤ)) (r : Reply) (v : Option ℤ) → i < length ports → length replies ≡ length ports → v ≡ value_after system rules V (get_or ports i 0) (Some (get_or replies i r)) →
     turned system rules (drop (i + 1) ports) (map (λ (x : Reply). Some x) (drop (i + 1) replies)) (slice_set V (get_or ports i 0) v) ≡ turned system rules (drop i ports) (map (λ (x : Reply). Some x) (drop i replies)) V
 replied_more system rules ports replies i V r v lt len v_is =
     ap (λ (x : Option ℤ). turned system rules (drop (i + 1) ports) (map (λ (x : Reply). Some x) (drop (i + 1) replies)) (slice_set V (get_or ports i 0) x)) v_is
     ∙ sym (ap₂ (λ (ps : List ℕ) (rs : List Reply). turned system rules ps (map (λ (x : Reply). Some x) rs) V) (drop_more ports i 0 lt) (drop_more replies i r (omega (arith, lt, len))))
 
--- over those of some numbers that pass a test, without replies
-module _ (system : System) (rules : Rules) (f : ℕ → Bool) (xs : List ℕ) (k p : ℕ) (at : drop k xs ≡ p ∷ drop (k + 1) xs) (V : List (Option ℤ)) where
-  filter_here : (b : Bool) → f p ≡ b → filter f (drop k xs) ≡ (if b then p ∷ filter f (drop (k + 1) xs) else filter f (drop (k + 1) xs))
-  filter_here b is = ap (filter f) at ∙ ap (λ (x : Bool). if x then p ∷ filter f (drop (k + 1) xs) else filter f (drop (k + 1) xs)) is
-
-  pub passes_more : f p ≡ true → (v : Option ℤ) → v ≡ value_behind system rules V p None → turned system rules (filter f (drop (k + 1) xs)) [] (slice_set V p v) ≡ turned system rules (filter f (drop k xs)) [] V
-  passes_more is v v_is =
-      ap (λ (x : Option ℤ). turned system rules (filter f (drop (k + 1) xs)) [] (slice_set V p x)) v_is ∙ sym (ap (λ (ps : List ℕ). turned system rules ps [] V) (filter_here true is))
-
-  pub fails_more : f p ≡ false → turned system rules (filter f (drop (k + 1) xs)) [] V ≡ turned system rules (filter f (drop k xs)) [] V
-  fails_more is = sym (ap (λ (ps : List ℕ). turned system rules ps [] V) (filter_here false is))
+-- and without replies
+pub silent_more : (system : System) (rules : Rules) (ports : List ℕ) (i : ℕ) (V : List (Option ℤ)) (v : Option ℤ) → i < length ports → v ≡ value_after system rules V (get_or ports i 0) None →
+    turned system rules (drop (i + 1) ports) [] (slice_set V (get_or ports i 0) v) ≡ turned system rules (drop i ports) [] V
+silent_more system rules ports i V v lt v_is =
+    ap (λ (x : Option ℤ). turned system rules (drop (i + 1) ports) [] (slice_set V (get_or ports i 0) x)) v_is
+    ∙ sym (ap (λ (ps : List ℕ). turned system rules ps [] V) (drop_more ports i 0 lt))
 
 -- the calls that were made so far are those that are wanted
 pub made_more : {X : Type 0} (f : X → Option Call) (xs : List X) (made calls : List Call) (i : ℕ) (x : X) (d call : Call) → map f xs ≡ map (λ (c : Call). Some c) made → i < length xs → length calls ≡ length xs → take i calls ≡ take i made → (f (get_or xs i x) ≡ Some (get_or made i d) → call ≡ get_or made i d) →
@@ -150,7 +145,3 @@ made_more f xs made calls i x d call all lt len so_far here =
     let its : Some (f (get_or xs i x)) ≡ Some (Some (get_or made i d)) =
     sym (slice_get-map f xs i ∙ ap (option_map f) (slice_get-get_or xs i x lt)) ∙ ap (λ l. slice_get l i) all ∙ slice_get-map (λ (c : Call). Some c) made i ∙ ap (option_map (λ (c : Call). Some c)) (slice_get-get_or made i d (omega (arith, lt, long))) in
     take_more_set calls i call (omega (arith, lt, len)) ∙ ap₂ (λ (l : List Call) (c : Call). l ++ c ∷ []) so_far (here (same_Some _ _ its)) ∙ sym (take_more made i d (omega (arith, lt, long)))
-
-pub numbers_more : (xs : List PortId) (k : ℕ) (d : PortId) → k < length xs → drop k (numbers xs) ≡ (get_or xs k d).0 ∷ drop (k + 1) (numbers xs)
-numbers_more xs k d lt =
-    drop-map (λ (x : PortId). x.0) k xs ∙ ap (map (λ (x : PortId). x.0)) (drop_more xs k d lt) ∙ ap (λ (l : List ℕ). (get_or xs k d).0 ∷ l) (sym (drop-map (λ (x : PortId). x.0) (k + 1) xs))

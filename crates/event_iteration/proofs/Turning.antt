@@ -78,18 +78,18 @@ module _ (Sort : Component → Port → Call → Type 0) (system : System) where
       record { number = s.number; port = s.port; component = s.component; among = Contains-append_left pre (p ∷ []) s.number s.among; is = s.is; of = s.of; sent_to = s.sent_to; sort = s.sort; good = s.good }
 
   module _ (rules : Rules) (by : AsksBy Sort system rules) where
-    pub calls_more : (pre : List ℕ) (p : ℕ) (reply : Option Reply) (values next : List (Option ℤ)) (front sent : List Sent) → All (IsCallOf Sort system pre) front → Turn system rules p reply values next sent → All (IsCallOf Sort system (pre ++ p ∷ [])) (front ++ sent)
-    calls_more pre p reply values next front sent all turn =
-        All-append (IsCallOf Sort system (pre ++ p ∷ [])) front sent (still_calls pre p front all)
+    pub calls_more : (pre : List ℕ) (p : ℕ) (reply : Option Reply) (values next : List (Option ℤ)) (prefix sent : List Sent) → All (IsCallOf Sort system pre) prefix → Turn system rules p reply values next sent → All (IsCallOf Sort system (pre ++ p ∷ [])) (prefix ++ sent)
+    calls_more pre p reply values next prefix sent all turn =
+        All-append (IsCallOf Sort system (pre ++ p ∷ [])) prefix sent (still_calls pre p prefix all)
         (subst (All (IsCallOf Sort system (pre ++ p ∷ []))) (sym turn.sent_is)
         (sent_call (pre ++ p ∷ []) p turn.port turn.component (Contains-push pre p) turn.is turn.of _ reply (λ call asks. by p turn.port turn.component values call turn.is turn.of asks) turn.paired))
 
     -- all along a walk
     pub calls_of : (before : List (Option ℤ)) (taken : List ℕ) (values : List (Option ℤ)) (log : List Sent) → Walked system rules before taken values log → All (IsCallOf Sort system taken) log
     calls_of before _ _ _ (Begun taken values log t v l) = subst (All (IsCallOf Sort system taken)) (sym l) (All-nil (IsCallOf Sort system taken))
-    calls_of before _ _ _ (Went taken pre p reply values next log front sent t l walked turn) =
+    calls_of before _ _ _ (Went taken pre p reply values next log prefix sent t l walked turn) =
         subst (λ ts. All (IsCallOf Sort system ts) log) (sym t) (subst (All (IsCallOf Sort system (pre ++ p ∷ []))) (sym l)
-        (calls_more pre p reply values next front sent (calls_of before pre values front walked) turn))
+        (calls_more pre p reply values next prefix sent (calls_of before pre values prefix walked) turn))
 
   -- they were answered well
   pub good_of : (taken : List ℕ) (s : Sent) → IsCallOf Sort system taken s → (i : ℕ) (d : Shape) → s.component ≡ i → T.IsGood (get_or (shapes_of system) i d) s.exchange
@@ -115,8 +115,8 @@ TakesFitting system rules = (p : ℕ) (port : Port) (values : List (Option ℤ))
 pub fits_along : (system : System) (rules : Rules) → TakesFitting system rules → (before : List (Option ℤ)) → length before ≡ length system.ports → AreFitting system before →
     (taken : List ℕ) (values : List (Option ℤ)) (log : List Sent) → Walked system rules before taken values log → (length values ≡ length system.ports) × AreFitting system values
 fits_along system rules fitting before len fits _ _ _ (Begun taken values log t v l) = (ap length v ∙ len, subst (AreFitting system) (sym v) fits)
-fits_along system rules fitting before len fits _ _ _ (Went taken pre p reply values next log front sent t l walked turn) =
-    let was = fits_along system rules fitting before len fits pre values front walked in (
+fits_along system rules fitting before len fits _ _ _ (Went taken pre p reply values next log prefix sent t l walked turn) =
+    let was = fits_along system rules fitting before len fits pre values prefix walked in (
       ap length turn.next_is ∙ length-set values p _ ∙ was.0,
       λ q port is. by_number q p
           (λ same. subst (λ o. IfSome o (Fits port.kind)) (sym (ap (value next) same ∙ next_here turn was.0))
@@ -166,9 +166,9 @@ module _ (Sort : Component → Port → Call → Type 0) (system : System) (soun
   good_for s call here = subst (λ (y : Shape). T.IsGood y s.exchange) (sym (shape_of_component system i c of c.shape)) (good_of Sort system taken s call i c.shape here)
 
   -- pass by a port that wasn't
-  pub behind : ((d : Component) (port : Port) (call : Call) → Sort d port call → Touches port call) → (p : ℕ) (port : Port) → slice_get system.ports p ≡ Some port → port.component.0 ≡ i → (Contains taken p → ⊥) →
+  pub after : ((d : Component) (port : Port) (call : Call) → Sort d port call → Touches port call) → (p : ℕ) (port : Port) → slice_get system.ports p ≡ Some port → port.component.0 ≡ i → (Contains taken p → ⊥) →
       (x.view.phase.state ≡ (get_or olds i x).view.phase.state) × (is_marked c.shape x.view.phase.marks port.reference ≡ is_marked c.shape (get_or olds i x).view.phase.marks port.reference)
-  behind sort p port is at fresh =
+  after sort p port is at fresh =
       passes_beside c.shape port.reference (get_or olds i x).view x.view (part i log) (shape_was system olds mids log told same i c of x there) (talks_here system olds mids log told same i c of x there)
       (part_all (λ (e : Exchange). Passes port.reference e.call × T.IsGood c.shape e) i log
       (λ k y w here. let call = calls k y w in (passes (get_or log k y) call here (sort call.component call.port _ call.sort), good_for _ call here)))
@@ -182,8 +182,8 @@ module _ (Sort : Component → Port → Call → Type 0) (system : System) (soun
       passes s call here (inr (inr clock)) = ByClock call.port.reference clock (other_than s call here)
 
   -- they read or set, and were answered well
-  pub quiet_behind : ((d : Component) (port : Port) (call : Call) → Sort d port call → Touches port call) → All (IsQuietOf c.shape) (part i log)
-  quiet_behind sort =
+  pub quiet_after : ((d : Component) (port : Port) (call : Call) → Sort d port call → Touches port call) → All (IsQuietOf c.shape) (part i log)
+  quiet_after sort =
       part_all (IsQuietOf c.shape) i log (λ k y w here. let call = calls k y w in (touches_quietly call.port _ (sort call.component call.port _ call.sort), good_for _ call here))
 
   -- where it was read alone, its marks stay

@@ -41,11 +41,11 @@ last_alone_is_bad system rules before order values log = record {
   bad = λ bad u.
       let s = u.stops in
       record {
-        front = u.front;
+        prefix = u.prefix;
         last = u.last;
         log_is = u.log_is;
         first = record {
-          good = walk_good system rules before u.taken values u.front u.told;
+          good = walk_good system rules before u.taken values u.prefix u.told;
           component = s.sent_to ∙ sym s.told_of;
           why = λ d. subst (λ (h : Shape). IsWhy h bad.why u.last.exchange)
               (shape_of_component system s.port.component.0 s.component s.of d ∙ ap (λ (n : ℕ). get_or (shapes_of system) n d) (sym s.sent_to)) s.why;

@@ -16,7 +16,7 @@ use Rattle.fmi_calls.specs.declared.call.Kind.TheVariants as K
 use Rattle.fmi_calls.specs.declared.call.Reply.{Reply}
 use Rattle.system_model.specs.Needs.{Needs, ByFeed, ByClock, NeedsInitially, InitiallyByFeed, is_unclocked, is_unclocked_at}
 use Rattle.system_model.specs.Orders.{IsOrder}
-use Rattle.system_model.specs.Ports.{is_clock_role, numbers, source_of}
+use Rattle.system_model.specs.Ports.{is_clock_role, port_numbers, source_of}
 use Rattle.system_model.specs.Sound.{IsSound}
 use Rattle.system_model.specs.Values.{is_active, is_present, value}
 use Rattle.system_model.specs.declared.system.Feed.{Feed}
@@ -29,7 +29,7 @@ use Rattle.run_model.specs.Initial.{is_read}
 use Rattle.run_model.proofs.CallerLemmas.{fed_same, none_in}
 use Rattle.event_iteration.specs.Initialization.{asks_initially, initially, is_set_from_feed, is_silent_initially, takes_initially}
 use Rattle.event_iteration.specs.Instants.{asks_in_instant, in_instant, is_silent_in_instant, takes_in_instant}
-use Rattle.event_iteration.specs.Waits.{AreTurns, OfClock, OfSource, ReadsOrSets, ReadsPort, StandsBehindReads}
+use Rattle.event_iteration.specs.Waits.{AreTurns, OfClock, OfSource, ReadsOrSets, ReadsPort, StandsAfterReads}
 use Rattle.event_iteration.proofs.Gathering.{contains_split}
 use Rattle.event_iteration.proofs.InInstant.{takes_fitting}
 use Rattle.event_iteration.proofs.Permits.{taken_fits}
@@ -37,13 +37,13 @@ use Rattle.event_iteration.proofs.Turned.{contains_first, contains_next}
 
 -- ---- each turn is about its source and its Clocks alone
 
-clocks_read : (xs : List PortId) (V W : List (Option ℤ)) → ((q : ℕ) → Contains (numbers xs) q → value V q ≡ value W q) →
+clocks_read : (xs : List PortId) (V W : List (Option ℤ)) → ((q : ℕ) → Contains (port_numbers xs) q → value V q ≡ value W q) →
     list_any (λ (c : PortId). is_active (value V c.0)) xs ≡ list_any (λ (c : PortId). is_active (value W c.0)) xs
 clocks_read [] V W h = refl
 clocks_read (x ∷ xs) V W h =
-    let here : is_active (value V x.0) ≡ is_active (value W x.0) = ap is_active (h x.0 (contains_first x.0 (numbers xs))) in
+    let here : is_active (value V x.0) ≡ is_active (value W x.0) = ap is_active (h x.0 (contains_first x.0 (port_numbers xs))) in
     let there : list_any (λ (c : PortId). is_active (value V c.0)) xs ≡ list_any (λ (c : PortId). is_active (value W c.0)) xs =
-    clocks_read xs V W (λ q m. h q (contains_next x.0 q (numbers xs) m)) in
+    clocks_read xs V W (λ q m. h q (contains_next x.0 q (port_numbers xs) m)) in
     ap (λ b. b || list_any (λ (c : PortId). is_active (value V c.0)) xs) here ∙ ap (λ b. is_active (value W x.0) || b) there
 
 if_same : {X : Type 0} (b : Bool) (x y : Option X) → (b ≡ true → x ≡ y) → (if b then x else None) ≡ (if b then y else None)
@@ -130,7 +130,7 @@ not_true : (b : Bool) → not b ≡ true → b ≡ false
 not_true true h = absurd (false≢true h)
 not_true false h = refl
 
-pub silent_in_instant : (port : Port) (values others : List (Option ℤ)) → ((q : ℕ) → Contains (numbers port.clocks) q → value others q ≡ value values q) → (role : Role) (events first ticks : Bool) → is_silent_in_instant role port events values ≡ true → asks_in_instant role port events first ticks others ≡ None
+pub silent_in_instant : (port : Port) (values others : List (Option ℤ)) → ((q : ℕ) → Contains (port_numbers port.clocks) q → value others q ≡ value values q) → (role : Role) (events first ticks : Bool) → is_silent_in_instant role port events values ≡ true → asks_in_instant role port events first ticks others ≡ None
 silent_in_instant port values others alike (Input None) events first ticks h = refl
 silent_in_instant port values others alike (Input (Some feed)) events first ticks h =
     let present : is_present port others ≡ is_present port values = ap (λ b. is_clock_role port.role || length port.clocks == 0 || b) (clocks_read port.clocks others values alike) in
@@ -151,9 +151,9 @@ silent_initially ports port others read (TimeClock timing) h = absurd (false≢t
 -- ---- each port comes after what it reads
 
 -- what stands before a port doesn't come after it
-not_behind : (IsAmong : ℕ → Type 0) (NeedsOf : ℕ → ℕ → Type 0) (order taken rest : List ℕ) (p q : ℕ) → IsOrder IsAmong NeedsOf order → order ≡ taken ++ p ∷ rest → Contains taken q → Contains rest q → ⊥
-not_behind IsAmong NeedsOf order taken rest p q ordered is before behind =
-    let r = contains_split rest q behind in
+not_after : (IsAmong : ℕ → Type 0) (NeedsOf : ℕ → ℕ → Type 0) (order taken rest : List ℕ) (p q : ℕ) → IsOrder IsAmong NeedsOf order → order ≡ taken ++ p ∷ rest → Contains taken q → Contains rest q → ⊥
+not_after IsAmong NeedsOf order taken rest p q ordered is before beyond =
+    let r = contains_split rest q beyond in
     let there : order ≡ (taken ++ p ∷ r.0) ++ q ∷ r.1 = is ∙ ap (λ (l : List ℕ). taken ++ p ∷ l) r.2 ∙ sym (append_assoc taken (p ∷ r.0) (q ∷ r.1)) in
     ordered.once (taken ++ p ∷ r.0) r.1 q there (Contains-append_left taken (p ∷ r.0) q before)
 
@@ -161,12 +161,12 @@ reads_need : (system : System) (p q : ℕ) → ReadsPort system p q → Needs sy
 reads_need system p q (OfSource port is from) = ByFeed port is from
 reads_need system p q (OfClock port is clock) = ByClock port is clock
 
-pub behind_in_instant : (system : System) → IsSound system → StandsBehindReads system (numbers system.instant_order)
-behind_in_instant system sound = record {
+pub after_in_instant : (system : System) → IsSound system → StandsAfterReads system (port_numbers system.instant_order)
+after_in_instant system sound = record {
   within = sound.instant_order.only;
   once = λ taken rest p is m. sound.instant_order.once taken rest p is m;
-  behind = λ taken rest p q is reads m.
-      not_behind (λ (n : ℕ). n < length system.ports) (Needs system) (numbers system.instant_order) taken rest p q sound.instant_order is (sound.instant_order.after taken rest p q is (reads_need system p q reads)) m;
+  after = λ taken rest p q is reads m.
+      not_after (λ (n : ℕ). n < length system.ports) (Needs system) (port_numbers system.instant_order) taken rest p q sound.instant_order is (sound.instant_order.after taken rest p q is (reads_need system p q reads)) m;
 }
 
 -- ---- likewise in Initialization Mode, where no port has Clocks
@@ -188,21 +188,21 @@ bare system p h = by (slice_get system.ports p) refl
     by (Some port) is = record { port = port; is = is; unclocked = sym (ap (λ (x : Option Port). option_map_or is_unclocked x false) is) ∙ h }
     by None is = absurd (false≢true (sym (ap (λ (x : Option Port). option_map_or is_unclocked x false) is) ∙ h))
 
-no_clock : (system : System) (p q : ℕ) (port : Port) → is_unclocked_at system.ports p ≡ true → slice_get system.ports p ≡ Some port → Contains (numbers port.clocks) q → ⊥
+no_clock : (system : System) (p q : ℕ) (port : Port) → is_unclocked_at system.ports p ≡ true → slice_get system.ports p ≡ Some port → Contains (port_numbers port.clocks) q → ⊥
 no_clock system p q port h is m =
     let unclocked : is_unclocked port ≡ true = sym (ap (λ (x : Option Port). option_map_or is_unclocked x false) is) ∙ h in
     let none : length port.clocks ≡ 0 = eqb-true (length port.clocks) 0 (and_right (not (is_clock_role port.role)) (length port.clocks == 0) unclocked) in
-    none_in q (subst (λ (cs : List PortId). Contains (numbers cs) q) (nil_from_length port.clocks none) m)
+    none_in q (subst (λ (cs : List PortId). Contains (port_numbers cs) q) (nil_from_length port.clocks none) m)
 
-pub behind_initially : (system : System) → IsSound system → StandsBehindReads system (numbers system.initial_order)
-behind_initially system sound = record {
+pub after_initially : (system : System) → IsSound system → StandsAfterReads system (port_numbers system.initial_order)
+after_initially system sound = record {
   within = λ p m. let b = bare system p (sound.initial_order.only p m) in slice_get_within system.ports p b.port b.is;
   once = λ taken rest p is m. sound.initial_order.once taken rest p is m;
-  behind = stands;
+  after = stands;
 }
   where
     order : List ℕ
-    order = numbers system.initial_order
+    order = port_numbers system.initial_order
 
     here : (taken rest : List ℕ) (p : ℕ) → order ≡ taken ++ p ∷ rest → Contains order p
     here taken rest p is = subst (λ (l : List ℕ). Contains l p) (sym is) (Contains-append_right taken (p ∷ rest) p (contains_first p rest))
@@ -213,5 +213,5 @@ behind_initially system sound = record {
     stands : (taken rest : List ℕ) (p q : ℕ) → order ≡ taken ++ p ∷ rest → ReadsPort system p q → Contains rest q → ⊥
     stands taken rest p q is (OfSource port at from) m =
         let needs : NeedsInitially system p q = InitiallyByFeed (sound.initial_order.only p (here taken rest p is)) (sound.initial_order.only q (later taken rest p q is m)) port at from in
-        not_behind (λ (n : ℕ). is_unclocked_at system.ports n ≡ true) (NeedsInitially system) order taken rest p q sound.initial_order is (sound.initial_order.after taken rest p q is needs) m
+        not_after (λ (n : ℕ). is_unclocked_at system.ports n ≡ true) (NeedsInitially system) order taken rest p q sound.initial_order is (sound.initial_order.after taken rest p q is needs) m
     stands taken rest p q is (OfClock port at clock) m = no_clock system p q port (sound.initial_order.only p (here taken rest p is)) at clock

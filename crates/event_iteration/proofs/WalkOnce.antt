@@ -10,7 +10,7 @@ use Rattle.fmi_calls.specs.declared.call.Call.{Call}
 use Rattle.fmi_calls.specs.declared.call.Call.TheVariants as C
 use Rattle.fmi_calls.specs.declared.call.Reply.{Reply}
 use Rattle.fmi_calls.specs.KindFacts.{moves_on}
-use Rattle.fmu_peer.specs.Lean.{IsNew, NoneTwiceBehind, seen_after, without_value}
+use Rattle.fmu_peer.specs.Lean.{IsNew, NoneTwiceAfter, seen_after, without_value}
 use Rattle.system_model.specs.declared.system.Component.{Component}
 use Rattle.system_model.specs.declared.system.Port.{Port}
 use Rattle.system_model.specs.declared.system.Role.{Role}
@@ -19,19 +19,19 @@ use Rattle.system_model.specs.declared.system.System.{System}
 use Rattle.system_model.specs.declared.system.Timing.TheVariants.{Answered, Countdown, Changing}
 use Rattle.system_model.specs.Orders.{IsOrder}
 use Rattle.system_model.specs.Sound.{IsSound}
-use Rattle.system_model.specs.Ports.{is_clock_role, numbers}
+use Rattle.system_model.specs.Ports.{is_clock_role, port_numbers}
 use Rattle.system_model.proofs.CallerLemmas as S
 use Rattle.system_model.proofs.CallerLemmas.{events_of, place_of}
 use Rattle.run_model.specs.Equations.{fed, source_value}
 use Rattle.run_model.specs.Initial.{is_read}
 use Rattle.system_model.specs.Values.{value, is_active, is_present}
-use Rattle.slot_calls.specs.Log.{Asking, Sent, asking_of, askings}
+use Rattle.slot_calls.specs.Log.{ComponentCall, Sent, component_call, component_calls}
 use Rattle.slot_calls.proofs.CallerLemmas.{askings_append}
 use Rattle.event_iteration.specs.Explains.{Explains, all_said, call_at, said}
 use Rattle.event_iteration.specs.Intervals.{timing_calls, timing_calls_in, timing_calls_of, asks_interval, intervals}
 use Rattle.event_iteration.specs.Settings.{port_order, before_step, sets_to}
 use Rattle.event_iteration.specs.Turns.{Rules, sent_of}
-use Rattle.event_iteration.specs.WalkCalls.{AreNew, Front, IsUse, Span, WalksBy, Whole, own, timing_span, use_in, has_events_at, initial_span, instant_span, interval_span, step_span, EachCallOnce}
+use Rattle.event_iteration.specs.WalkCalls.{AreNew, Prefix, IsUse, Span, WalksBy, Whole, own, timing_span, use_in, has_events_at, initial_span, instant_span, interval_span, step_span, EachCallOnce}
 use Rattle.event_iteration.specs.Initialization.{asks_initially, initially, is_set_from_feed}
 use Rattle.event_iteration.specs.Instants.{asks_in_instant, in_instant}
 use Rattle.event_iteration.proofs.Setting.{in_order}
@@ -146,7 +146,7 @@ if_on : (b : Bool) (c : Call) (cs ds : List Call) → (if b then c ∷ (cs ++ ds
 if_on true c cs ds = refl
 if_on false c cs ds = refl
 
-pub own_append : (k : ℕ) (xs ys : List Asking) → own k (xs ++ ys) ≡ own k xs ++ own k ys
+pub own_append : (k : ℕ) (xs ys : List ComponentCall) → own k (xs ++ ys) ≡ own k xs ++ own k ys
 own_append k [] ys = refl
 own_append k (a ∷ xs) ys = ap (λ (cs : List Call). if a.component == k then a.call ∷ cs else cs) (own_append k xs ys) ∙ if_on (a.component == k) a.call (own k xs) (own k ys)
 
@@ -173,11 +173,11 @@ use_stays c h = absurd (omega (arith, h))
 abbrev pub Differ : Call → Call → Type 0
 Differ c d = without_value c ≡ without_value d → ⊥
 
-abbrev pub seen_behind : List Call → List Call → List Call
-seen_behind seen [] = seen
-seen_behind seen (c ∷ cs) = seen_behind (seen_after seen c) cs
+abbrev pub seen_after_all : List Call → List Call → List Call
+seen_after_all seen [] = seen
+seen_after_all seen (c ∷ cs) = seen_after_all (seen_after seen c) cs
 
-pub twice_on : (seen a b : List Call) → NoneTwiceBehind seen a → NoneTwiceBehind (seen_behind seen a) b → NoneTwiceBehind seen (a ++ b)
+pub twice_on : (seen a b : List Call) → NoneTwiceAfter seen a → NoneTwiceAfter (seen_after_all seen a) b → NoneTwiceAfter seen (a ++ b)
 twice_on seen [] b h k = k
 twice_on seen (c ∷ a) b h k = (h.0, twice_on (seen_after seen c) a b h.1 k)
 
@@ -247,7 +247,7 @@ module _ (system : System) (sound : IsSound system) (k : ℕ) (span : Span) (nam
 
     -- what the calls of one turn leave
     abbrev Leaves : List Call → List Call → Type 0
-    Leaves seen calls = NoneTwiceBehind seen calls × All (IsOld (pre ++ p ∷ [])) (seen_behind seen calls)
+    Leaves seen calls = NoneTwiceAfter seen calls × All (IsOld (pre ++ p ∷ [])) (seen_after_all seen calls)
 
     port_once : (calls : List Call) → OfPort p calls → (seen : List Call) → All (IsOld pre) seen → Leaves seen calls
     port_once calls (NoneHere e) seen all = subst (Leaves seen) (sym e) (tt, older pre p seen all)
@@ -258,12 +258,12 @@ module _ (system : System) (sound : IsSound system) (k : ℕ) (span : Span) (nam
     )
 
   module _ {IsAmong : ℕ → Type 0} {NeedsOf : ℕ → ℕ → Type 0} (order : List ℕ) (ordered : IsOrder IsAmong NeedsOf order) where
-    turned_once : (pre ps left : List ℕ) (calls : List Call) → order ≡ pre ++ (ps ++ left) → Turned ps calls → (seen : List Call) → All (IsOld pre) seen → NoneTwiceBehind seen calls
-    turned_once pre [] left calls is t seen all = subst (NoneTwiceBehind seen) (sym t) tt
+    turned_once : (pre ps left : List ℕ) (calls : List Call) → order ≡ pre ++ (ps ++ left) → Turned ps calls → (seen : List Call) → All (IsOld pre) seen → NoneTwiceAfter seen calls
+    turned_once pre [] left calls is t seen all = subst (NoneTwiceAfter seen) (sym t) tt
     turned_once pre (p ∷ ps) left calls is (first, more, calls_are, of, rest) seen all =
         let here = port_once pre p (ordered.once pre (ps ++ left) p is) first of seen all in
-        subst (NoneTwiceBehind seen) (sym calls_are) (twice_on seen first more here.0
-        (turned_once (pre ++ p ∷ []) ps left more (is ∙ sym (append_assoc pre (p ∷ []) (ps ++ left))) rest (seen_behind seen first) here.1))
+        subst (NoneTwiceAfter seen) (sym calls_are) (twice_on seen first more here.0
+        (turned_once (pre ++ p ∷ []) ps left more (is ∙ sym (append_assoc pre (p ∷ []) (ps ++ left))) rest (seen_after_all seen first) here.1))
 
     turned_new : (taken left : List ℕ) (calls : List Call) → order ≡ taken ++ left → Turned taken calls → AreNew span calls
     turned_new taken left calls is t = record {
@@ -282,44 +282,44 @@ module _ (system : System) (sound : IsSound system) (k : ℕ) (span : Span) (nam
           let here : port.component.0 ≡ k = grind (arith, nat_tests) in
           OneHere call (record { port = port; is = at; here = here; of = asks p port c values call at here (ap (slice_get system.components) (sym here) ∙ of) is }) refl
 
-      said_turned : (values : List (Option ℤ)) (replies : ℕ → Option Reply) (p : ℕ) → OfPort p (own k (askings (said system rules values replies p)))
+      said_turned : (values : List (Option ℤ)) (replies : ℕ → Option Reply) (p : ℕ) → OfPort p (own k (component_calls (said system rules values replies p)))
       said_turned values replies p = of_port (slice_get system.ports p) refl where
         of_call : (port : Port) → slice_get system.ports p ≡ Some port → (c : Component) → slice_get system.components port.component.0 ≡ Some c → (call : Option Call) → rules.asks p port c values ≡ call → (reply : Option Reply) →
-            OfPort p (own k (askings (sent_of port.component.0 call reply)))
+            OfPort p (own k (component_calls (sent_of port.component.0 call reply)))
         of_call port at c of None is reply = NoneHere refl
         of_call port at c of (Some call) is None = NoneHere refl
         of_call port at c of (Some call) is (Some reply) = of_own p port at c of values call is (port.component.0 == k) refl
 
         of_component : (port : Port) → slice_get system.ports p ≡ Some port → (o : Option Component) → slice_get system.components port.component.0 ≡ o →
-            OfPort p (own k (askings (sent_of port.component.0 (option_and_then (λ (c : Component). rules.asks p port c values) o) (replies p))))
+            OfPort p (own k (component_calls (sent_of port.component.0 (option_and_then (λ (c : Component). rules.asks p port c values) o) (replies p))))
         of_component port at None of = NoneHere refl
         of_component port at (Some c) of = of_call port at c of (rules.asks p port c values) refl (replies p)
 
-        of_port : (o : Option Port) → slice_get system.ports p ≡ o → OfPort p (own k (askings (option_map_or (λ (port : Port). sent_of port.component.0 (call_at system rules values p port) (replies p)) o [])))
+        of_port : (o : Option Port) → slice_get system.ports p ≡ o → OfPort p (own k (component_calls (option_map_or (λ (port : Port). sent_of port.component.0 (call_at system rules values p port) (replies p)) o [])))
         of_port None at = NoneHere refl
         of_port (Some port) at = of_component port at (slice_get system.components port.component.0) refl
 
-      all_turned : (values : List (Option ℤ)) (replies : ℕ → Option Reply) (ps : List ℕ) → Turned ps (own k (askings (all_said system rules values replies ps)))
+      all_turned : (values : List (Option ℤ)) (replies : ℕ → Option Reply) (ps : List ℕ) → Turned ps (own k (component_calls (all_said system rules values replies ps)))
       all_turned values replies [] = refl
       all_turned values replies (p ∷ ps) =
           let a = said system rules values replies p in
           let b = all_said system rules values replies ps in
-          (own k (askings a), own k (askings b), ap (own k) (askings_append a b) ∙ own_append k (askings a) (askings b), said_turned values replies p, all_turned values replies ps)
+          (own k (component_calls a), own k (component_calls b), ap (own k) (askings_append a b) ∙ own_append k (component_calls a) (component_calls b), said_turned values replies p, all_turned values replies ps)
 
-      explains_turned : (taken : List ℕ) (values : List (Option ℤ)) (log : List Sent) → Explains system rules before taken values log → Turned taken (own k (askings log))
-      explains_turned taken values log e = subst (λ (l : List Sent). Turned taken (own k (askings l))) (sym e.log_is) (all_turned values e.replies taken)
+      explains_turned : (taken : List ℕ) (values : List (Option ℤ)) (log : List Sent) → Explains system rules before taken values log → Turned taken (own k (component_calls log))
+      explains_turned taken values log e = subst (λ (l : List Sent). Turned taken (own k (component_calls l))) (sym e.log_is) (all_turned values e.replies taken)
 
-      pub walk_new : (log : List Sent) → WalksBy system rules before order log → AreNew span (own k (askings log))
-      walk_new log (Whole values _ e) = turned_new order [] (own k (askings log)) (sym (append-nil order)) (explains_turned order values log e)
-      walk_new log (Front bad values _ u) =
+      pub walk_new : (log : List Sent) → WalksBy system rules before order log → AreNew span (own k (component_calls log))
+      walk_new log (Whole values _ e) = turned_new order [] (own k (component_calls log)) (sym (append-nil order)) (explains_turned order values log e)
+      walk_new log (Prefix bad values _ u) =
           let s = u.stops in
-          let mine = own k (askings u.front) in
-          let its = own k (asking_of u.last ∷ []) in
+          let mine = own k (component_calls u.prefix) in
+          let its = own k (component_call u.last ∷ []) in
           let last : OfPort u.p its =
           subst (λ (n : ℕ). OfPort u.p (own k (record { component = n; call = u.last.exchange.call } ∷ []))) (sym s.sent_to) (of_own u.p s.port s.is s.component s.of values u.last.exchange.call s.asks (s.port.component.0 == k) refl) in
-          turned_new (u.taken ++ u.p ∷ []) u.rest (own k (askings log)) (u.order_is ∙ sym (append_assoc u.taken (u.p ∷ []) u.rest))
-          (subst (Turned (u.taken ++ u.p ∷ [])) (sym (ap (λ (l : List Sent). own k (askings l)) u.log_is ∙ ap (own k) (askings_append u.front (u.last ∷ [])) ∙ own_append k (askings u.front) (asking_of u.last ∷ [])))
-          (turned_on u.taken (u.p ∷ []) mine its (explains_turned u.taken values u.front u.told) (its, [], sym (append-nil its), last, refl)))
+          turned_new (u.taken ++ u.p ∷ []) u.rest (own k (component_calls log)) (u.order_is ∙ sym (append_assoc u.taken (u.p ∷ []) u.rest))
+          (subst (Turned (u.taken ++ u.p ∷ [])) (sym (ap (λ (l : List Sent). own k (component_calls l)) u.log_is ∙ ap (own k) (askings_append u.prefix (u.last ∷ [])) ∙ own_append k (component_calls u.prefix) (component_call u.last ∷ [])))
+          (turned_on u.taken (u.p ∷ []) mine its (explains_turned u.taken values u.prefix u.told) (its, [], sym (append-nil its), last, refl)))
 
 -- ---- the timing of fixed and changing Clocks
 
@@ -369,10 +369,10 @@ names_by span with_events without false = without
 
 pub each_call_once : EachCallOnce
 each_call_once system sound = record {
-  initial = λ before log walks k. walk_new system sound k (initial_span (has_events_at system k)) (omega arith) (numbers system.initial_order) sound.initial_order (initially system) (initially_asks system sound k) before log walks;
+  initial = λ before log walks k. walk_new system sound k (initial_span (has_events_at system k)) (omega arith) (port_numbers system.initial_order) sound.initial_order (initially system) (initially_asks system sound k) before log walks;
   instant = λ ticks is_first before log walks k.
       let e = has_events_at system k in
-      walk_new system sound k (instant_span is_first e) (names_by (instant_span is_first) (omega arith) (names_by (λ b. instant_span b false) (omega arith) (omega arith) is_first) e) (numbers system.instant_order) sound.instant_order (in_instant ticks is_first) (instant_asks system sound k ticks is_first) before log walks;
+      walk_new system sound k (instant_span is_first e) (names_by (instant_span is_first) (omega arith) (names_by (λ b. instant_span b false) (omega arith) (omega arith) is_first) e) (port_numbers system.instant_order) sound.instant_order (in_instant ticks is_first) (instant_asks system sound k ticks is_first) before log walks;
   interval = λ values before log walks k.
       let e = has_events_at system k in
       walk_new system sound k (interval_span e) (names_by interval_span (omega arith) (omega arith) e) (port_order system) (in_order system) (intervals values) (interval_asks system sound k values) before log walks;

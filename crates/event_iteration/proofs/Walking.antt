@@ -30,6 +30,13 @@ by_number {P} a b same other = (elim (same_number a b) as (λ c. P) [
   | inr n ↦ other n
 ])
 
+-- ---- values
+
+-- no turn changes how many there are
+pub walked_length : (system : System) (rules : Rules) (before : List (Option ℤ)) (taken : List ℕ) (values : List (Option ℤ)) (log : List Sent) → Walked system rules before taken values log → length values ≡ length before
+walked_length system rules before taken values log (Begun _ _ _ none same empty) = ap length same
+walked_length system rules before taken next log (Went _ pre p reply values _ _ prefix sent more told walked turn) = ap length turn.next_is ∙ length-set values p _ ∙ walked_length system rules before pre values prefix walked
+
 -- ---- where the order is at a port
 
 -- call and value of a turn are about what the port needs
@@ -55,17 +62,17 @@ here_at IsAmong NeedsOf order pre p rest ordered is =
 -- what holds at the beginning, and after each turn where it did before, holds all along
 module _ (IsAmong : ℕ → Type 0) (NeedsOf : ℕ → ℕ → Type 0) (system : System) (rules : Rules) (before : List (Option ℤ)) (order : List ℕ) (ordered : IsOrder IsAmong NeedsOf order) (len : length before ≡ length system.ports)
     (P : List ℕ → List (Option ℤ) → List Sent → Type 0) (begin : P [] before [])
-    (step : (pre : List ℕ) (p : ℕ) (reply : Option Reply) (values next : List (Option ℤ)) (front sent : List Sent) → Here NeedsOf pre p → length values ≡ length system.ports → P pre values front →
-    Turn system rules p reply values next sent → P (pre ++ p ∷ []) next (front ++ sent)) where
+    (step : (pre : List ℕ) (p : ℕ) (reply : Option Reply) (values next : List (Option ℤ)) (prefix sent : List Sent) → Here NeedsOf pre p → length values ≡ length system.ports → P pre values prefix →
+    Turn system rules p reply values next sent → P (pre ++ p ∷ []) next (prefix ++ sent)) where
   pub along : (taken rest : List ℕ) (values : List (Option ℤ)) (log : List Sent) → order ≡ taken ++ rest → Walked system rules before taken values log → (length values ≡ length system.ports) × P taken values log
   along _ rest _ _ is (Begun taken values log t v l) =
       (ap length v ∙ len, subst (λ x. P x values log) (sym t) (subst (λ x. P [] x log) (sym v) (subst (λ x. P [] before x) (sym l) begin)))
-  along _ rest _ _ is (Went taken pre p reply values next log front sent t l walked turn) =
+  along _ rest _ _ is (Went taken pre p reply values next log prefix sent t l walked turn) =
       let split : order ≡ pre ++ p ∷ rest = is ∙ ap (λ xs. xs ++ rest) t ∙ append_assoc pre (p ∷ []) rest in
-      let more = along pre (p ∷ rest) values front split walked in (
+      let more = along pre (p ∷ rest) values prefix split walked in (
         ap length turn.next_is ∙ length-set values p _ ∙ more.0,
         subst (λ xs. P xs next log) (sym t) (subst (λ es. P (pre ++ p ∷ []) next es) (sym l)
-            (step pre p reply values next front sent (here_at IsAmong NeedsOf order pre p rest ordered split) more.0 more.1 turn)),
+            (step pre p reply values next prefix sent (here_at IsAmong NeedsOf order pre p rest ordered split) more.0 more.1 turn)),
       )
 
 -- ---- what a turn leaves
@@ -137,9 +144,9 @@ said-same NeedsOf system rules about V W a b p h same = (elim (slice_get system.
 abbrev pub with_reply : ℕ → Option Reply → (ℕ → Option Reply) → ℕ → Option Reply
 with_reply p reply replies q = if q == p then reply else replies q
 
-pub explains_more : (NeedsOf : ℕ → ℕ → Type 0) (system : System) (rules : Rules) → AreAbout NeedsOf system rules → (before : List (Option ℤ)) (pre : List ℕ) (p : ℕ) (reply : Option Reply) (values next : List (Option ℤ)) (front sent : List Sent) →
-    Here NeedsOf pre p → length values ≡ length system.ports → Explains system rules before pre values front → Turn system rules p reply values next sent → Explains system rules before (pre ++ p ∷ []) next (front ++ sent)
-explains_more NeedsOf system rules about before pre p reply values next front sent here len told turn =
+pub explains_more : (NeedsOf : ℕ → ℕ → Type 0) (system : System) (rules : Rules) → AreAbout NeedsOf system rules → (before : List (Option ℤ)) (pre : List ℕ) (p : ℕ) (reply : Option Reply) (values next : List (Option ℤ)) (prefix sent : List Sent) →
+    Here NeedsOf pre p → length values ≡ length system.ports → Explains system rules before pre values prefix → Turn system rules p reply values next sent → Explains system rules before (pre ++ p ∷ []) next (prefix ++ sent)
+explains_more NeedsOf system rules about before pre p reply values next prefix sent here len told turn =
     let replies = with_reply p reply told.replies in
     let reply_here : replies p ≡ reply = ap (λ b. if b then reply else told.replies p) (eq-eqb p p refl) in
     let reply_old : (q : ℕ) → (q ≡ p → ⊥) → told.replies q ≡ replies q = λ q other. sym (ap (λ b. if b then reply else told.replies q) (ne_eqb q p other)) in
@@ -177,11 +184,11 @@ explains_more NeedsOf system rules about before pre p reply values next front se
       left = λ q m. next_beside turn q (λ same. m (subst (Contains (pre ++ p ∷ [])) (sym same) (Contains-push pre p))) ∙ told.left q (λ old. m (Contains-append_left pre (p ∷ []) q old));
     }
 
-pub more_replies : (NeedsOf : ℕ → ℕ → Type 0) (system : System) (rules : Rules) (about : AreAbout NeedsOf system rules) (before : List (Option ℤ)) (pre : List ℕ) (p : ℕ) (reply : Option Reply) (values next : List (Option ℤ)) (front sent : List Sent)
-    (here : Here NeedsOf pre p) (len : length values ≡ length system.ports) (told : Explains system rules before pre values front) (turn : Turn system rules p reply values next sent) →
-    (explains_more NeedsOf system rules about before pre p reply values next front sent here len told turn).replies ≡ with_reply p reply told.replies
+pub more_replies : (NeedsOf : ℕ → ℕ → Type 0) (system : System) (rules : Rules) (about : AreAbout NeedsOf system rules) (before : List (Option ℤ)) (pre : List ℕ) (p : ℕ) (reply : Option Reply) (values next : List (Option ℤ)) (prefix sent : List Sent)
+    (here : Here NeedsOf pre p) (len : length values ≡ length system.ports) (told : Explains system rules before pre values prefix) (turn : Turn system rules p reply values next sent) →
+    (explains_more NeedsOf system rules about before pre p reply values next prefix sent here len told turn).replies ≡ with_reply p reply told.replies
 unfolding explains_more
-more_replies NeedsOf system rules about before pre p reply values next front sent here len told turn = refl
+more_replies NeedsOf system rules about before pre p reply values next prefix sent here len told turn = refl
 
 -- what the log of a walk tells
 pub explained : (IsAmong : ℕ → Type 0) (NeedsOf : ℕ → ℕ → Type 0) (system : System) (rules : Rules) → AreAbout NeedsOf system rules → (before : List (Option ℤ)) (order : List ℕ) → IsOrder IsAmong NeedsOf order → length before ≡ length system.ports →
@@ -225,7 +232,7 @@ module _ (IsAmong : ℕ → Type 0) (NeedsOf : ℕ → ℕ → Type 0) (system :
           p = p;
           rest = drop (k + 1) order;
           order_is = split_order order k p at;
-          front = log;
+          prefix = log;
           last = turn.says.0;
           log_is = ap (λ es. log ++ es) turn.says.1;
           told = explained IsAmong NeedsOf system rules about before order ordered len (take k order) _ values log (split_order order k p at) walked;
@@ -245,9 +252,9 @@ module _ (IsAmong : ℕ → Type 0) (NeedsOf : ℕ → ℕ → Type 0) (system :
 -- ---- what holds of the calls, by what holds of those of each port
 
 module _ {X : Type 0} (P : X → Type 0) where
-  pub all_front : (xs ys : List X) → All P (xs ++ ys) → All P xs
-  all_front [] ys all = All-nil P
-  all_front (x ∷ xs) ys all = All-cons P x xs (All-head P x (xs ++ ys) all) (all_front xs ys (All-tail P x (xs ++ ys) all))
+  pub all_prefix : (xs ys : List X) → All P (xs ++ ys) → All P xs
+  all_prefix [] ys all = All-nil P
+  all_prefix (x ∷ xs) ys all = All-cons P x xs (All-head P x (xs ++ ys) all) (all_prefix xs ys (All-tail P x (xs ++ ys) all))
 
   all_back : (xs ys : List X) → All P (xs ++ ys) → All P ys
   all_back [] ys all = all
@@ -283,5 +290,5 @@ module _ (P : Sent → Type 0) (system : System) (rules : Rules) (values : List 
   -- and of those of one of the ports
   pub said_at : (ps : List ℕ) (k p : ℕ) → slice_get ps k ≡ Some p → All P (all_said system rules values replies ps) → Of p
   said_at [] k p at all = absurd (cc)
-  said_at (x ∷ ps) zero p at all = subst Of (same_Some x p at) (all_front P (said system rules values replies x) (all_said system rules values replies ps) all)
+  said_at (x ∷ ps) zero p at all = subst Of (same_Some x p at) (all_prefix P (said system rules values replies x) (all_said system rules values replies ps) all)
   said_at (x ∷ ps) (suc k) p at all = said_at ps k p at (all_back P (said system rules values replies x) (all_said system rules values replies ps) all)

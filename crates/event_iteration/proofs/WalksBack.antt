@@ -10,7 +10,7 @@ use Rattle.system_model.specs.declared.system.Port.{Port}
 use Rattle.system_model.specs.declared.system.System.{System}
 use Rattle.system_model.specs.Needs.{Needs, NeedsInitially, is_unclocked_at}
 use Rattle.system_model.specs.Orders.{IsOrder}
-use Rattle.system_model.specs.Ports.{numbers}
+use Rattle.system_model.specs.Ports.{port_numbers}
 use Rattle.system_model.specs.Sound.{IsSound}
 use Rattle.system_model.proofs.CallerLemmas.{true_false, place_of}
 use Rattle.system_model.specs.Values.{value}
@@ -55,13 +55,13 @@ module _ (IsAmong : ℕ → Type 0) (NeedsOf : ℕ → ℕ → Type 0) (system :
     (len : length before ≡ length system.ports) (there : (p : ℕ) → Contains order p → There system p) where
   module _ (taken left : List ℕ) (is : order ≡ taken ++ left) (values : List (Option ℤ)) (log : List Sent) (told : Explains system rules before taken values log) where
     -- so far
-    record SoFar (pre : List ℕ) (next : List (Option ℤ)) (front : List Sent) : Type 0 where
-      walked : Walked system rules before pre next front
+    record SoFar (pre : List ℕ) (next : List (Option ℤ)) (prefix : List Sent) : Type 0 where
+      walked : Walked system rules before pre next prefix
       places : length next ≡ length system.ports
       new : (q : ℕ) → Contains pre q → value next q ≡ value values q
       old : (q : ℕ) → (Contains pre q → ⊥) → value next q ≡ value before q
 
-    module _ (pre rest : List ℕ) (p : ℕ) (split : taken ≡ pre ++ p ∷ rest) (next : List (Option ℤ)) (front : List Sent) (far : SoFar pre next front) where
+    module _ (pre rest : List ℕ) (p : ℕ) (split : taken ≡ pre ++ p ∷ rest) (next : List (Option ℤ)) (prefix : List Sent) (far : SoFar pre next prefix) where
       in_order_at : order ≡ pre ++ p ∷ (rest ++ left)
       in_order_at = is ∙ ap (λ (xs : List ℕ). xs ++ left) split ∙ append_assoc pre (p ∷ rest) left
 
@@ -105,9 +105,9 @@ module _ (IsAmong : ℕ → Type 0) (NeedsOf : ℕ → ℕ → Type 0) (system :
           ∙ ap (λ o. rules.takes p here.port values o reply) (far.old p fresh)
           ∙ sym (told.taken_values p here.port here.is in_taken)
 
-      farther : SoFar (pre ++ p ∷ []) after (front ++ said system rules values told.replies p)
+      farther : SoFar (pre ++ p ∷ []) after (prefix ++ said system rules values told.replies p)
       farther = record {
-        walked = Went (pre ++ p ∷ []) pre p reply next after (front ++ said system rules values told.replies p) front (said system rules values told.replies p) refl refl far.walked turn;
+        walked = Went (pre ++ p ∷ []) pre p reply next after (prefix ++ said system rules values told.replies p) prefix (said system rules values told.replies p) refl refl far.walked turn;
         places = length-set next p _ ∙ far.places;
         new = λ q m. push_cases pre p q m
             (λ before_it. next_beside turn q (λ same. fresh (subst (Contains pre) same before_it)) ∙ far.new q before_it)
@@ -115,12 +115,12 @@ module _ (IsAmong : ℕ → Type 0) (NeedsOf : ℕ → ℕ → Type 0) (system :
         old = λ q m. next_beside turn q (λ same. m (subst (Contains (pre ++ p ∷ [])) (sym same) (Contains-push pre p))) ∙ far.old q (λ before_it. m (Contains-append_left pre (p ∷ []) q before_it));
       }
 
-    goes : (pre rest : List ℕ) → taken ≡ pre ++ rest → (next : List (Option ℤ)) (front : List Sent) → SoFar pre next front → (last : List (Option ℤ)) × SoFar taken last (front ++ all_said system rules values told.replies rest)
-    goes pre [] split next front far =
-        (next, subst (λ (xs : List ℕ). SoFar xs next (front ++ [])) (sym (split ∙ append-nil pre)) (subst (SoFar pre next) (sym (append-nil front)) far))
-    goes pre (p ∷ rest) split next front far =
-        let more = goes (pre ++ p ∷ []) rest (split ∙ sym (append_assoc pre (p ∷ []) rest)) (after pre rest p split next front far) (front ++ said system rules values told.replies p) (farther pre rest p split next front far) in
-        (more.0, subst (SoFar taken more.0) (append_assoc front (said system rules values told.replies p) (all_said system rules values told.replies rest)) more.1)
+    goes : (pre rest : List ℕ) → taken ≡ pre ++ rest → (next : List (Option ℤ)) (prefix : List Sent) → SoFar pre next prefix → (last : List (Option ℤ)) × SoFar taken last (prefix ++ all_said system rules values told.replies rest)
+    goes pre [] split next prefix far =
+        (next, subst (λ (xs : List ℕ). SoFar xs next (prefix ++ [])) (sym (split ∙ append-nil pre)) (subst (SoFar pre next) (sym (append-nil prefix)) far))
+    goes pre (p ∷ rest) split next prefix far =
+        let more = goes (pre ++ p ∷ []) rest (split ∙ sym (append_assoc pre (p ∷ []) rest)) (after pre rest p split next prefix far) (prefix ++ said system rules values told.replies p) (farther pre rest p split next prefix far) in
+        (more.0, subst (SoFar taken more.0) (append_assoc prefix (said system rules values told.replies p) (all_said system rules values told.replies rest)) more.1)
 
     all_along : (last : List (Option ℤ)) × SoFar taken last (all_said system rules values told.replies taken)
     all_along = goes [] taken refl before [] (record { walked = Begun [] before [] refl refl refl; places = len; new = λ q m. absurd (none_in q m); old = λ q m. refl })
@@ -155,17 +155,17 @@ module _ (system : System) (sound : IsSound system) where
     at (x ∷ ports) (suc q) e = let more = at ports q e in omega (arith, more)
 
   -- of Initialization Mode, as far as it went
-  pub finding_back : (taken left : List ℕ) → numbers system.initial_order ≡ taken ++ left → (values : List (Option ℤ)) (log : List Sent) → Explains system (initially system) (no_values system) taken values log →
+  pub finding_back : (taken left : List ℕ) → port_numbers system.initial_order ≡ taken ++ left → (values : List (Option ℤ)) (log : List Sent) → Explains system (initially system) (no_values system) taken values log →
       IsWalked system (initially system) (no_values system) taken values log
   finding_back taken left is values log told =
-      walked_back (λ q. is_unclocked_at system.ports q ≡ true) (NeedsInitially system) system (initially system) (about_initially system) (no_values system) (numbers system.initial_order) sound.initial_order
+      walked_back (λ q. is_unclocked_at system.ports q ≡ true) (NeedsInitially system) system (initially system) (about_initially system) (no_values system) (port_numbers system.initial_order) sound.initial_order
       (length-map system.ports (λ (x : Port). None)) (λ p m. there_at system sound p (within_of p (sound.initial_order.only p m))) taken left is values log told
 
   -- of an instant, as far as it went
-  pub instant_back : (ticks : ℕ → Bool) (is_first : Bool) (before : List (Option ℤ)) → length before ≡ length system.ports → (taken left : List ℕ) → numbers system.instant_order ≡ taken ++ left → (values : List (Option ℤ)) (log : List Sent) →
+  pub instant_back : (ticks : ℕ → Bool) (is_first : Bool) (before : List (Option ℤ)) → length before ≡ length system.ports → (taken left : List ℕ) → port_numbers system.instant_order ≡ taken ++ left → (values : List (Option ℤ)) (log : List Sent) →
       Explains system (in_instant ticks is_first) before taken values log → IsWalked system (in_instant ticks is_first) before taken values log
   instant_back ticks is_first before len taken left is values log told =
-      walked_back (λ q. q < length system.ports) (Needs system) system (in_instant ticks is_first) (about_instant system ticks is_first) before (numbers system.instant_order) sound.instant_order len
+      walked_back (λ q. q < length system.ports) (Needs system) system (in_instant ticks is_first) (about_instant system ticks is_first) before (port_numbers system.instant_order) sound.instant_order len
       (λ p m. there_at system sound p (sound.instant_order.only p m)) taken left is values log told
 
   -- of the Sets before a step

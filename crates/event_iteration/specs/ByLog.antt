@@ -1,6 +1,6 @@
 -- What the calls of each part of a run make of told machines, by its log alone: the values that it found, the timers, what the answers say, and the states after it (FMI 3.0, 4.2.1; 2.2.9).
 use Rattle.std.specs.Prelude.{◌≡◌, ℕ, ◌==◌, ℤ, Bool, List, Option, length}
-use Rattle.system_model.specs.Ports.{numbers}
+use Rattle.system_model.specs.Ports.{port_numbers}
 use Rattle.system_model.specs.Sound.{IsSound}
 use Rattle.run_model.specs.AfterInstant.{any_update, asks_again, asks_for_end, next_events, next_timers, updated, written}
 use Rattle.run_model.specs.Equations.{Solves}
@@ -32,7 +32,8 @@ pub record FoundInitially (r : Run) (values : List (Option ℤ)) (log : List Sen
 abbrev pub InitialByLog : Type 0
 InitialByLog =
     (r : Run) (values : List (Option ℤ)) (log : List Sent) → IsSound r.system → AreMachines r →
-    Explains r.system (initially r.system) (no_values r.system) (numbers r.system.initial_order)
+    Explains r.system (initially r.system) (no_values r.system)
+    (port_numbers r.system.initial_order)
     values log → AreReplies r (initializing r) log → FoundInitially r values log
 
 -- what the fixed and changing Clocks' FMUs answer are the timers of the run, and the states stay
@@ -54,7 +55,8 @@ InstantByLog =
     IsSound r.system → AreMachines r → IsSituation r s →
     AreTicks r.system r.plan.start s.timers s.t s.n ticks →
     length values ≡ length r.system.ports →
-    Explains r.system (in_instant ticks (s.n == 0)) s.before (numbers r.system.instant_order) values
+    Explains r.system (in_instant ticks (s.n == 0)) s.before (port_numbers r.system.instant_order)
+    values
     log → AreReplies r s.states log →
     Solves r s values × (states_by r s.states log ≡ written r s values)
 

@@ -51,10 +51,10 @@ pub record ExplainsUntil (system : System) (rules : Rules) (before : List (Optio
   pub p : ℕ
   pub rest : List ℕ
   pub order_is : order ≡ taken ++ p ∷ rest
-  pub front : List Sent
+  pub prefix : List Sent
   pub last : Sent
-  pub log_is : log ≡ front ++ last ∷ []
-  pub told : Explains system rules before taken values front
+  pub log_is : log ≡ prefix ++ last ∷ []
+  pub told : Explains system rules before taken values prefix
   pub stops : Stops system rules p bad values last
 
 -- a walk through the order, up to the first answer that isn't good. What the values are after that doesn't matter: the log tells those up to it

@@ -73,8 +73,8 @@ abbrev pub IsPlaced : ℕ → Port → Type 0
 IsPlaced n port = IfSome (source_of port.role) (λ q. q < n)
 
 -- in Initialization Mode
-abbrev pub IsInitializing : View → Type 0
-IsInitializing v = v.phase.state ≡ P.Initialization
+abbrev pub IsInInitialization : View → Type 0
+IsInInitialization v = v.phase.state ≡ P.Initialization
 
 -- before it no port has a value
 abbrev pub no_values : System → List (Option ℤ)

@@ -24,7 +24,7 @@ use Rattle.run_model.specs.Machines.{AreMachines, IsSituation}
 use Rattle.run_model.specs.Timers.{answered, armed_after, fixed, is_armed_for, rearmed}
 use Rattle.slot_calls.specs.declared.bad_answer.BadAnswer.{BadAnswer}
 use Rattle.slot_calls.specs.Carried.{reply_in}
-use Rattle.slot_calls.specs.Log.{Asking, Sent, Told}
+use Rattle.slot_calls.specs.Log.{ComponentCall, Sent, Told}
 use Rattle.slot_calls.specs.Stage.{IsAnswered, StopsAt, shapes_of}
 use Rattle.event_iteration.specs.Clocks.{is_due_at}
 use Rattle.event_iteration.specs.Explains.{Explains, ExplainsUntil}
@@ -41,7 +41,7 @@ shift_by reply = option_map_or shift_in reply (record { counter = 0; resolution 
 -- ---- fixed and changing Clocks, in Initialization Mode
 
 -- interval and shift of a fixed Clock whose FMU is asked for them, and the shift of a changing Clock
-abbrev pub timing_calls_of : Role → Port → List Asking
+abbrev pub timing_calls_of : Role → Port → List ComponentCall
 timing_calls_of (TimeClock Answered) port =
     record { component = port.component.0; call = C.GetInterval port.reference } ∷
     record { component = port.component.0; call = C.GetShift port.reference } ∷ []
@@ -54,12 +54,12 @@ timing_calls_of Output port = []
 timing_calls_of (ClockInput feed) port = []
 timing_calls_of ClockOutput port = []
 
-abbrev pub timing_calls_in : List Port → List Asking
+abbrev pub timing_calls_in : List Port → List ComponentCall
 timing_calls_in [] = []
 timing_calls_in (port ∷ ports) = timing_calls_of port.role port ++ timing_calls_in ports
 
 -- those of all these Clocks, in port order
-abbrev pub timing_calls : System → List Asking
+abbrev pub timing_calls : System → List ComponentCall
 timing_calls system = timing_calls_in system.ports
 
 -- the timer that two answers tell, which stand first in the log
@@ -70,10 +70,10 @@ told_timer per_second (interval ∷ []) = Never
 told_timer per_second [] = Never
 
 -- the log after those two
-abbrev pub behind_two : List Sent → List Sent
-behind_two (interval ∷ shift ∷ log) = log
-behind_two (interval ∷ []) = []
-behind_two [] = []
+abbrev pub after_two : List Sent → List Sent
+after_two (interval ∷ shift ∷ log) = log
+after_two (interval ∷ []) = []
+after_two [] = []
 
 -- the timer that the answer tells which stands first in the log: armed after the shift from the start
 abbrev pub shifted_timer : (per_second start : ℕ) → List Sent → Timer
@@ -82,9 +82,9 @@ shifted_timer per_second start (shift ∷ log) =
 shifted_timer per_second start [] = Never
 
 -- the log after that one
-abbrev pub behind_one : List Sent → List Sent
-behind_one (shift ∷ log) = log
-behind_one [] = []
+abbrev pub after_one : List Sent → List Sent
+after_one (shift ∷ log) = log
+after_one [] = []
 
 -- the timer of a port before the first instant: by its description, or by the answers that stand first in the log
 abbrev pub first_told_by : Role → (per_second start : ℕ) → List Sent → Timer
@@ -98,21 +98,21 @@ first_told_by (ClockInput feed) per_second start log = Never
 first_told_by ClockOutput per_second start log = Never
 
 -- the log after the answers that are about the port
-abbrev pub log_behind : Role → List Sent → List Sent
-log_behind (TimeClock Answered) log = behind_two log
-log_behind (TimeClock Changing) log = behind_one log
-log_behind (TimeClock (Periodic interval shift)) log = log
-log_behind (TimeClock Countdown) log = log
-log_behind (Input feed) log = log
-log_behind Output log = log
-log_behind (ClockInput feed) log = log
-log_behind ClockOutput log = log
+abbrev pub log_after : Role → List Sent → List Sent
+log_after (TimeClock Answered) log = after_two log
+log_after (TimeClock Changing) log = after_one log
+log_after (TimeClock (Periodic interval shift)) log = log
+log_after (TimeClock Countdown) log = log
+log_after (Input feed) log = log
+log_after Output log = log
+log_after (ClockInput feed) log = log
+log_after ClockOutput log = log
 
 abbrev pub first_told_in : (per_second start : ℕ) → List Port → List Sent → List Timer
 first_told_in per_second start [] log = []
 first_told_in per_second start (port ∷ ports) log =
     first_told_by port.role per_second start log ∷
-    first_told_in per_second start ports (log_behind port.role log)
+    first_told_in per_second start ports (log_after port.role log)
 
 -- the timers of all ports by the answers of these Clocks
 abbrev pub first_told : (per_second start : ℕ) → System → List Sent → List Timer
@@ -164,36 +164,36 @@ intervals now = record {
 }
 
 -- the timer of a port after an instant: its tick takes the arming of a countdown Clock away, and then what its FMU answers arms it, leaves it or takes it away; a changing Clock that ticked is armed by what its FMU answers
-abbrev pub timer_behind : Role → (per_second t : ℕ) → Option ℤ → Option Reply → Timer → Timer
-timer_behind (TimeClock Countdown) per_second t v reply old =
+abbrev pub timer_after : Role → (per_second t : ℕ) → Option ℤ → Option Reply → Timer → Timer
+timer_after (TimeClock Countdown) per_second t v reply old =
     answered per_second t (interval_by reply) (if is_active v then Never else old)
-timer_behind (TimeClock Changing) per_second t v reply old =
+timer_after (TimeClock Changing) per_second t v reply old =
     if is_active v then rearmed per_second t (interval_by reply) else old
-timer_behind (TimeClock (Periodic interval shift)) per_second t v reply old = old
-timer_behind (TimeClock Answered) per_second t v reply old = old
-timer_behind (Input feed) per_second t v reply old = old
-timer_behind Output per_second t v reply old = old
-timer_behind (ClockInput feed) per_second t v reply old = old
-timer_behind ClockOutput per_second t v reply old = old
+timer_after (TimeClock (Periodic interval shift)) per_second t v reply old = old
+timer_after (TimeClock Answered) per_second t v reply old = old
+timer_after (Input feed) per_second t v reply old = old
+timer_after Output per_second t v reply old = old
+timer_after (ClockInput feed) per_second t v reply old = old
+timer_after ClockOutput per_second t v reply old = old
 
-abbrev pub timers_behind_from : (per_second t : ℕ) → List (Option ℤ) → (ℕ → Option Reply) → ℕ →
+abbrev pub timers_after_from : (per_second t : ℕ) → List (Option ℤ) → (ℕ → Option Reply) → ℕ →
     List Port → List Timer → List Timer
-timers_behind_from per_second t values replies p (port ∷ ports) (old ∷ olds) =
-    timer_behind port.role per_second t (value values p) (replies p) old ∷
-    timers_behind_from per_second t values replies (suc p) ports olds
-timers_behind_from per_second t values replies p [] olds = []
-timers_behind_from per_second t values replies p (port ∷ ports) [] = []
+timers_after_from per_second t values replies p (port ∷ ports) (old ∷ olds) =
+    timer_after port.role per_second t (value values p) (replies p) old ∷
+    timers_after_from per_second t values replies (suc p) ports olds
+timers_after_from per_second t values replies p [] olds = []
+timers_after_from per_second t values replies p (port ∷ ports) [] = []
 
-abbrev pub timers_behind : (per_second t : ℕ) → System → List (Option ℤ) → (ℕ → Option Reply) →
+abbrev pub timers_after : (per_second t : ℕ) → System → List (Option ℤ) → (ℕ → Option Reply) →
     List Timer → List Timer
-timers_behind per_second t system values replies olds =
-    timers_behind_from per_second t values replies 0 system.ports olds
+timers_after per_second t system values replies olds =
+    timers_after_from per_second t values replies 0 system.ports olds
 
 -- by this log the countdown and changing Clocks were asked after an instant at the point, with its values, and the timers went from these to those
 pub record Rearms (system : System) (per_second t : ℕ) (values : List (Option ℤ))
     (olds news : List Timer) (log : List Sent) : Type 0 where
   pub explains : Explains system (intervals values) values (port_order system) values log
-  pub timers_are : news ≡ timers_behind per_second t system values explains.replies olds
+  pub timers_are : news ≡ timers_after per_second t system values explains.replies olds
 
 -- a Clock is armed for the point
 abbrev pub is_some_armed : ℕ → List Timer → Bool

@@ -12,3 +12,4 @@ pub mod WalkCalls
 pub mod ByLog
 pub mod Waits
 pub mod Lost
+pub mod Participants

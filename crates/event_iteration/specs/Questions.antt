@@ -151,7 +151,7 @@ pub record FixesPort (port : Port) (per_second p : ℕ) (before after : Timetabl
 -- the Clocks of the first ports stand where their FMUs have answered, and the others as at first
 pub record IsFixedUpTo (system : System) (k : ℕ) (table : Timetable) : Type 0 where
   pub len : length table.clocks ≡ length system.ports
-  pub behind : (q : ℕ) (port : Port) (place : ClockState) → q < k →
+  pub after : (q : ℕ) (port : Port) (place : ClockState) → q < k →
       slice_get system.ports q ≡ Some port → slice_get table.clocks q ≡ Some place →
       IsFirstPlace table.start port.role place
   pub ahead : (q : ℕ) (port : Port) → k ≤ q → slice_get system.ports q ≡ Some port →
@@ -218,18 +218,18 @@ abbrev pub ticked_if : Bool → ClockState → ClockState
 ticked_if ticks place = if ticks then after_tick place else place
 
 -- where a port stands after an instant at the point, in which it has this value
-abbrev pub place_behind : Role → (per_second t : ℕ) → Option ℤ → Interval → ClockState → ClockState
-place_behind (TimeClock Countdown) per_second t v told place =
+abbrev pub place_after : Role → (per_second t : ℕ) → Option ℤ → Interval → ClockState → ClockState
+place_after (TimeClock Countdown) per_second t v told place =
     rearmed per_second t told (ticked_if (is_active v) place)
-place_behind (TimeClock Changing) per_second t v told place =
+place_after (TimeClock Changing) per_second t v told place =
     if is_active v then armed_anew per_second t told else place
-place_behind (TimeClock (Periodic interval shift)) per_second t v told place =
+place_after (TimeClock (Periodic interval shift)) per_second t v told place =
     ticked_if (is_active v) place
-place_behind (TimeClock Answered) per_second t v told place = ticked_if (is_active v) place
-place_behind (Input feed) per_second t v told place = place
-place_behind Output per_second t v told place = place
-place_behind (ClockInput feed) per_second t v told place = place
-place_behind ClockOutput per_second t v told place = place
+place_after (TimeClock Answered) per_second t v told place = ticked_if (is_active v) place
+place_after (Input feed) per_second t v told place = place
+place_after Output per_second t v told place = place
+place_after (ClockInput feed) per_second t v told place = place
+place_after ClockOutput per_second t v told place = place
 
 -- the port stands somewhere before it goes on, as its role says, and it has ticked exactly where it is due
 pub record GoesFrom (table : Timetable) (role : Role) (t p : ℕ) (v : Option ℤ) : Type 0 where
@@ -240,11 +240,11 @@ pub record GoesFrom (table : Timetable) (role : Role) (t p : ℕ) (v : Option �
   pub within : t ≤ table.stop
 
 -- it has gone on
-abbrev pub IsBehind : Role → (per_second t p : ℕ) → Option ℤ → Interval →
+abbrev pub IsAfter : Role → (per_second t p : ℕ) → Option ℤ → Interval →
     Timetable → Timetable → Type 0
-IsBehind role per_second t p v told before after =
+IsAfter role per_second t p v told before after =
     (place : ClockState) → slice_get before.clocks p ≡ Some place →
-    after ≡ with_clock before p (place_behind role per_second t v told place)
+    after ≡ with_clock before p (place_after role per_second t v told place)
 
 -- it is told whether the Clock at the place is armed for the point
 abbrev pub IsArmed : (t p : ℕ) → Timetable → Bool → Type 0
@@ -264,14 +264,14 @@ arms_now per_second (Changed f) =
     option_map_or (λ counts. counts == 0) (counts_of f per_second) false
 
 -- the first ports stand as after the instant, and the others as before
-pub record IsBehindUpTo (system : System) (per_second t : ℕ) (values : List (Option ℤ))
-    (replies : ℕ → Option Reply) (k : ℕ) (before after : Timetable) : Type 0 where
-  pub start : after.start ≡ before.start
-  pub stop : after.stop ≡ before.stop
-  pub events : after.events ≡ before.events
-  pub len : length after.clocks ≡ length before.clocks
-  pub behind : (q : ℕ) (port : Port) (place : ClockState) → q < k →
+pub record IsAfterUpTo (system : System) (per_second t : ℕ) (values : List (Option ℤ))
+    (replies : ℕ → Option Reply) (k : ℕ) (before now : Timetable) : Type 0 where
+  pub start : now.start ≡ before.start
+  pub stop : now.stop ≡ before.stop
+  pub events : now.events ≡ before.events
+  pub len : length now.clocks ≡ length before.clocks
+  pub after : (q : ℕ) (port : Port) (place : ClockState) → q < k →
       slice_get system.ports q ≡ Some port → slice_get before.clocks q ≡ Some place →
-      slice_get after.clocks q ≡ Some
-      (place_behind port.role per_second t (value values q) (interval_by (replies q)) place)
-  pub ahead : (q : ℕ) → k ≤ q → slice_get after.clocks q ≡ slice_get before.clocks q
+      slice_get now.clocks q ≡ Some
+      (place_after port.role per_second t (value values q) (interval_by (replies q)) place)
+  pub ahead : (q : ℕ) → k ≤ q → slice_get now.clocks q ≡ slice_get before.clocks q

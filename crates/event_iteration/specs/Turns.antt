@@ -104,6 +104,6 @@ pub data Walked (system : System) (rules : Rules) (before : List (Option ℤ)) :
   Begun : (taken : List ℕ) (values : List (Option ℤ)) (log : List Sent) → taken ≡ [] →
       values ≡ before → log ≡ [] → Walked system rules before taken values log
   Went : (taken pre : List ℕ) (p : ℕ) (reply : Option Reply) (values next : List (Option ℤ))
-      (log front sent : List Sent) → taken ≡ pre ++ p ∷ [] → log ≡ front ++ sent →
-      Walked system rules before pre values front → Turn system rules p reply values next sent →
+      (log prefix sent : List Sent) → taken ≡ pre ++ p ∷ [] → log ≡ prefix ++ sent →
+      Walked system rules before pre values prefix → Turn system rules p reply values next sent →
       Walked system rules before taken next log

@@ -12,13 +12,13 @@ use Rattle.run_model.specs.AfterInstant.{any_update, asks_again, asks_for_end, e
 use Rattle.run_model.specs.Machines.{AreMachines, IsSituation}
 use Rattle.run_model.specs.Run.{Run, Situation}
 use Rattle.slot_calls.specs.declared.bad_answer.BadAnswer.{BadAnswer}
-use Rattle.slot_calls.specs.Log.{Asking, Sent}
+use Rattle.slot_calls.specs.Log.{ComponentCall, Sent}
 use Rattle.slot_calls.specs.Stage.{Stage, has_events, shapes, to_those}
 use Rattle.event_iteration.specs.declared.updates.Updated.{Updated}
 use Rattle.event_iteration.specs.Machines.{AreAt}
 
 -- each FMU with event mode, in their order
-abbrev pub updating : List Shape → List Asking
+abbrev pub updating : List Shape → List ComponentCall
 updating shapes = to_those has_events (λ (shape : Shape). C.Update) shapes
 
 abbrev pub answer_passes : (Reply → Bool) → Result Reply PeerFault → Bool

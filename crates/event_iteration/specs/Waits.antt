@@ -1,5 +1,5 @@
 -- Calls of a walk that wait, and are sent together: those that read outputs of one FMU, or set inputs of it (FMI 3.0, 2.2.6.2: fmi3Get and fmi3Set take several variables at once).
-use Rattle.std.specs.Prelude.{◌≡◌, ◌⊎◌, ◌==◌, ℕ, ◌<◌, ◌≤◌, ℤ, Bool, true, false, List, [], ◌∷◌, ◌++◌, All, Option, Some, None, IfSome, Result, Ok, Err, Contains, length, map, take, drop, filter, slice_set}
+use Rattle.std.specs.Prelude.{◌≡◌, ◌⊎◌, ◌==◌, ℕ, ◌<◌, ◌≤◌, ℤ, Bool, true, false, List, [], ◌∷◌, ◌++◌, All, Option, Some, None, IfSome, Result, Ok, Err, Contains, length, map, take, slice_set}
 use Rattle.std.specs.List.{list_any, slice_get}
 use Rattle.std.specs.Option.{option_and_then, option_map_or}
 use Rattle.std.specs.Result.{result_ok}
@@ -19,7 +19,7 @@ use Rattle.system_model.specs.declared.system.Port.{Port}
 use Rattle.system_model.specs.declared.system.Role.{Role}
 use Rattle.system_model.specs.declared.system.Role.TheVariants.{Input, Output, ClockInput, ClockOutput, TimeClock}
 use Rattle.system_model.specs.declared.system.System.{System}
-use Rattle.system_model.specs.Ports.{is_clock_role, numbers, source_of}
+use Rattle.system_model.specs.Ports.{is_clock_role, is_output_role, port_numbers, source_of}
 use Rattle.system_model.specs.Values.{value}
 use Rattle.run_model.specs.Machines.{AreFitting}
 use Rattle.slot_calls.specs.declared.bad_answer.BadAnswer.{BadAnswer}
@@ -35,6 +35,14 @@ use Rattle.event_iteration.specs.Turns.{MayTurn, Rules, Stops, Walked}
 
 abbrev pub waits_in : Waiting → List ℕ
 waits_in waiting = take waiting.count waiting.ports
+
+-- the inputs that were passed since: each is fed by one that waits
+abbrev pub passed_in : Waiting → List ℕ
+passed_in waiting = take waiting.passed waiting.inputs
+
+-- nothing waits any more
+abbrev pub emptied : Waiting → Waiting
+emptied waiting = record waiting { count = 0; passed = 0 }
 
 -- a call of this kind to this component may wait with those that do: none does, or there is room, and they are alike
 abbrev pub IsOpen : Waiting → CompId → Kind → Type 0
@@ -66,7 +74,7 @@ pub data ReadsPort (system : System) (p q : ℕ) : Type 0 where
   OfSource : (port : Port) → slice_get system.ports p ≡ Some port →
       source_of port.role ≡ Some q → ReadsPort system p q
   OfClock : (port : Port) → slice_get system.ports p ≡ Some port →
-      Contains (numbers port.clocks) q → ReadsPort system p q
+      Contains (port_numbers port.clocks) q → ReadsPort system p q
 
 -- each turn is about these alone; a Clock is neither read nor set as a variable is; and what a port takes is of its type
 pub record AreTurns (system : System) (rules : Rules) : Type 0 where
@@ -86,10 +94,10 @@ pub record AreTurns (system : System) (rules : Rules) : Type 0 where
       IfSome last (Fits port.kind) → IfSome (rules.takes p port values last reply) (Fits port.kind)
 
 -- each port stands once in the order, and none before one that its turn is about
-pub record StandsBehindReads (system : System) (order : List ℕ) : Type 0 where
+pub record StandsAfterReads (system : System) (order : List ℕ) : Type 0 where
   pub within : (p : ℕ) → Contains order p → p < length system.ports
   pub once : (taken rest : List ℕ) (p : ℕ) → order ≡ taken ++ p ∷ rest → Contains taken p → ⊥
-  pub behind : (taken rest : List ℕ) (p q : ℕ) → order ≡ taken ++ p ∷ rest →
+  pub after : (taken rest : List ℕ) (p q : ℕ) → order ≡ taken ++ p ∷ rest →
       ReadsPort system p q → Contains rest q → ⊥
 
 -- the port sends nothing, whatever its source's value is
@@ -98,8 +106,18 @@ IsSilent system rules p values =
     (port : Port) (c : Component) (others : List (Option ℤ)) →
     slice_get system.ports p ≡ Some port →
     slice_get system.components port.component.0 ≡ Some c →
-    ((q : ℕ) → Contains (numbers port.clocks) q → value others q ≡ value values q) →
+    ((q : ℕ) → Contains (port_numbers port.clocks) q → value others q ≡ value values q) →
     rules.asks p port c others ≡ None
+
+-- the port sends nothing and keeps its value, whatever values others have that are no Clocks of it
+abbrev pub IsIdle : System → Rules → ℕ → List (Option ℤ) → Type 0
+IsIdle system rules p values =
+    (port : Port) (c : Component) (others : List (Option ℤ)) →
+    slice_get system.ports p ≡ Some port →
+    slice_get system.components port.component.0 ≡ Some c →
+    ((q : ℕ) → Contains (port_numbers port.clocks) q → value others q ≡ value values q) →
+    (rules.asks p port c others ≡ None) ×
+    (rules.takes p port others (value values p) None ≡ value values p)
 
 -- an instance whose machine isn't told
 abbrev pub untold : Instance → Instance
@@ -117,8 +135,8 @@ MayWalk system rules before order olds =
 -- ---- values after several turns
 
 -- the value that a port takes
-abbrev pub value_behind : System → Rules → List (Option ℤ) → ℕ → Option Reply → Option ℤ
-value_behind system rules values p reply =
+abbrev pub value_after : System → Rules → List (Option ℤ) → ℕ → Option Reply → Option ℤ
+value_after system rules values p reply =
     option_and_then (λ (port : Port). rules.takes p port values (value values p) reply)
     (slice_get system.ports p)
 
@@ -127,9 +145,9 @@ abbrev pub turned : System → Rules → List ℕ → List (Option Reply) → Li
     List (Option ℤ)
 turned system rules [] replies values = values
 turned system rules (p ∷ ps) [] values =
-    turned system rules ps [] (slice_set values p (value_behind system rules values p None))
+    turned system rules ps [] (slice_set values p (value_after system rules values p None))
 turned system rules (p ∷ ps) (reply ∷ replies) values =
-    turned system rules ps replies (slice_set values p (value_behind system rules values p reply))
+    turned system rules ps replies (slice_set values p (value_after system rules values p reply))
 
 -- the call of a port's turn, by its number
 abbrev pub call_in : System → Rules → List (Option ℤ) → ℕ → Option Call
@@ -142,7 +160,8 @@ call_in system rules values p =
 abbrev pub IsWay : System → Rules → Waiting → ℕ → List (Option ℤ) → Way → Type 0
 IsWay system rules waiting p values Send = 0 < waiting.count
 IsWay system rules waiting p values Skip =
-    (is_fed system (waits_in waiting) p ≡ true) × IsSilent system rules p values
+    (is_fed system (waits_in waiting) p ≡ true) × IsSilent system rules p values ×
+    (waiting.passed < 64)
 IsWay system rules waiting p values (Wait call) =
     (is_fed system (waits_in waiting) p ≡ false) × ReadsOrSets (kind_of call) ×
     ((port : Port) (c : Component) → slice_get system.ports p ≡ Some port →
@@ -210,17 +229,19 @@ pub record ComesTo (system : System) (rules : Rules) (before : List (Option ℤ)
   pub at : port.component.0 ≡ i
   pub asks : rules.asks p port component values ≡ Some call
 
--- the ports after the first that waits that are fed by one that waits
-abbrev pub skipped : System → List ℕ → ℕ → Waiting → List ℕ
-skipped system order k waiting =
-    filter (is_fed system (waits_in waiting)) (drop waiting.since (take k order))
+-- an input that is no Clock
+pub record IsInput (system : System) (p : ℕ) : Type 0 where
+  pub port : Port
+  pub is : slice_get system.ports p ≡ Some port
+  pub plain : is_clock_role port.role ≡ false
+  pub output : is_output_role port.role ≡ false
 
 -- the walk has come so far in the order, while some calls wait: by any good answers to these it was walked so far, or up to each of them by good answers to those before it
 pub record Gathers (system : System) (rules : Rules) (before : List (Option ℤ)) (order : List ℕ)
     (olds : List Instance) (k : ℕ) (waiting : Waiting) (values : List (Option ℤ))
     (is : List Instance) : Type 0 where
   pub turns : AreTurns system rules
-  pub ordered : StandsBehindReads system order
+  pub ordered : StandsAfterReads system order
   pub may : MayWalk system rules before order olds
   pub alike : shapes is ≡ shapes_of system
   pub places : length values ≡ length system.ports
@@ -228,8 +249,11 @@ pub record Gathers (system : System) (rules : Rules) (before : List (Option ℤ)
   pub log : List Sent
   pub told : Told log olds is
   pub within : k ≤ length order
-  pub since : waiting.since ≤ k
   pub few : waiting.count ≤ 64
+  pub passed_few : waiting.passed ≤ 64
+  pub none_passed : waiting.count ≡ 0 → passed_in waiting ≡ []
+  pub passed : (q : ℕ) → Contains (passed_in waiting) q →
+      Contains (take k order) q × IsInput system q
   pub many : length (waits_in waiting) ≡ waiting.count
   pub kind : ReadsOrSets waiting.kind
   pub calls : List Call
@@ -242,7 +266,7 @@ pub record Gathers (system : System) (rules : Rules) (before : List (Option ℤ)
       MayAskAll x.view.fixed.shape x.view.phase calls
   pub walked : (es : List Exchange) → calls_in es ≡ calls →
       AreGoodAt system waiting.component.0 es →
-      Walked system rules before (take k order) (turned system rules (skipped system order k waiting)
+      Walked system rules before (take k order) (turned system rules (passed_in waiting)
       [] (turned system rules (waits_in waiting) (replies_in es) values))
       (log ++ sents waiting.component.0 es)
   pub comes : (es : List Exchange) (call : Call) (left : List Call) →
@@ -257,6 +281,15 @@ Gathered system rules order k waiting values is =
     (before : List (Option ℤ)) × (olds : List Instance) ×
     Gathers system rules before order olds k waiting values is
 
+-- somewhere in some order
+pub record GathersSome (system : System) (rules : Rules) (waiting : Waiting)
+    (values : List (Option ℤ)) (is : List Instance) : Type 0 where
+  pub before : List (Option ℤ)
+  pub order : List ℕ
+  pub olds : List Instance
+  pub k : ℕ
+  pub gathers : Gathers system rules before order olds k waiting values is
+
 -- the walk ended with an answer that isn't good
 pub record EndsBadly (system : System) (rules : Rules) (before : List (Option ℤ)) (order : List ℕ)
     (olds news : List Instance) (bad : BadAnswer) : Type 0 where
@@ -265,10 +298,10 @@ pub record EndsBadly (system : System) (rules : Rules) (before : List (Option �
   pub rest : List ℕ
   pub values : List (Option ℤ)
   pub order_is : order ≡ taken ++ p ∷ rest
-  pub front : List Sent
+  pub prefix : List Sent
   pub last : Sent
-  pub walked : Walked system rules before taken values front
-  pub told : Told (front ++ last ∷ []) olds news
+  pub walked : Walked system rules before taken values prefix
+  pub told : Told (prefix ++ last ∷ []) olds news
   pub stops : Stops system rules p bad values last
 
 -- where a walk was and is, in one step of it
@@ -286,20 +319,37 @@ abbrev pub GathersAt : System → Rules → List (Option ℤ) → List ℕ → L
 GathersAt system rules before order olds at =
     Gathers system rules before order olds at.k at.waiting at.values at.instances
 
+-- a Clock that was taken keeps its value, and so does a port that isn't taken yet
+pub record KeepsOthers (system : System) (order : List ℕ) (from to : Place) : Type 0 where
+  pub clocks : (q : ℕ) (port : Port) → Contains (take from.k order) q →
+      slice_get system.ports q ≡ Some port → is_clock_role port.role ≡ true →
+      value to.values q ≡ value from.values q
+  pub untaken : (q : ℕ) → (Contains (take to.k order) q → ⊥) →
+      value to.values q ≡ value from.values q
+
 -- from one place it comes to the other, or ends with a bad answer
 abbrev pub Moves : System → Rules → List ℕ → Place → Place → Result (Unit {0}) BadAnswer → Type 0
 Moves system rules order from to (Ok x) =
     (before : List (Option ℤ)) (olds : List Instance) →
-    GathersAt system rules before order olds from → GathersAt system rules before order olds to
+    GathersAt system rules before order olds from →
+    GathersAt system rules before order olds to × KeepsOthers system order from to
 Moves system rules order from to (Err bad) =
     (before : List (Option ℤ)) (olds : List Instance) →
     GathersAt system rules before order olds from → AreFitting system to.values ×
     EndsBadly system rules before order olds to.instances bad
 
+-- what waits is sent, wherever the walk is
+abbrev pub Sends : System → Rules → Waiting → Waiting → (values next : List (Option ℤ)) →
+    (olds news : List Instance) → Result (Unit {0}) BadAnswer → Type 0
+Sends system rules waiting left values next olds news result =
+    (order : List ℕ) (k : ℕ) →
+    Moves system rules order (place k waiting values olds) (place k left next news) result
+
 -- a walk through the order, up to the first answer that isn't good
-abbrev pub Goes : System → Rules → List (Option ℤ) → List ℕ → List (Option ℤ) → List Instance →
+abbrev pub WalkOutcome : System → Rules → List (Option ℤ) → List ℕ → List (Option ℤ) →
+    List Instance →
     List Instance → Result (Unit {0}) BadAnswer → Type 0
-Goes system rules before order values olds news (Ok x) =
+WalkOutcome system rules before order values olds news (Ok x) =
     (log : List Sent) × Told log olds news × Walked system rules before order values log
-Goes system rules before order values olds news (Err bad) =
+WalkOutcome system rules before order values olds news (Err bad) =
     EndsBadly system rules before order olds news bad

@@ -5,13 +5,13 @@ use Rattle.std.specs.Option.{option_map_or}
 use Rattle.value_types.specs.declared.shape.Shape.{Shape}
 use Rattle.fmi_calls.specs.declared.call.Call.{Call}
 use Rattle.fmi_calls.specs.declared.call.Call.TheVariants as C
-use Rattle.fmu_peer.specs.Lean.{NoneTwiceBehind}
+use Rattle.fmu_peer.specs.Lean.{NoneTwiceAfter}
 use Rattle.system_model.specs.declared.system.Component.{Component}
 use Rattle.system_model.specs.declared.system.System.{System}
-use Rattle.system_model.specs.Ports.{numbers}
+use Rattle.system_model.specs.Ports.{port_numbers}
 use Rattle.system_model.specs.Sound.{IsSound}
 use Rattle.slot_calls.specs.declared.bad_answer.BadAnswer.{BadAnswer}
-use Rattle.slot_calls.specs.Log.{Asking, Sent, askings}
+use Rattle.slot_calls.specs.Log.{ComponentCall, Sent, component_calls}
 use Rattle.slot_calls.specs.Stage.{IsFirst, IsGoodOf, shapes_of}
 use Rattle.event_iteration.specs.Explains.{Explains, ExplainsUntil}
 use Rattle.event_iteration.specs.Initialization.{initially}
@@ -23,7 +23,7 @@ use Rattle.event_iteration.specs.Turns.{Rules}
 -- ---- the calls of one FMU
 
 -- those to it
-abbrev pub own : ℕ → List Asking → List Call
+abbrev pub own : ℕ → List ComponentCall → List Call
 own k [] = []
 own k (a ∷ calls) = if a.component == k then a.call ∷ own k calls else own k calls
 
@@ -56,7 +56,7 @@ pub record AreNew (span : Span) (calls : List Call) : Type 0 where
   pub names : 0 < span.from
   pub uses : All (IsUse span) calls
   pub once : (seen : List Call) → All (λ (c : Call). use_in c < span.from) seen →
-      NoneTwiceBehind seen calls
+      NoneTwiceAfter seen calls
 
 -- ---- walks
 
@@ -65,7 +65,7 @@ pub data WalksBy (system : System) (rules : Rules) (before : List (Option ℤ))
     (order : List ℕ) : List Sent → Type 0 where
   Whole : (values : List (Option ℤ)) (log : List Sent) →
       Explains system rules before order values log → WalksBy system rules before order log
-  Front : (bad : BadAnswer) (values : List (Option ℤ)) (log : List Sent) →
+  Prefix : (bad : BadAnswer) (values : List (Option ℤ)) (log : List Sent) →
       ExplainsUntil system rules before order bad values log →
       WalksBy system rules before order log
 
@@ -73,7 +73,7 @@ pub data WalksBy (system : System) (rules : Rules) (before : List (Option ℤ))
 abbrev pub WalkUses : System → Rules → List ℕ → (Bool → Span) → Type 0
 WalkUses system rules order span =
     (before : List (Option ℤ)) (log : List Sent) → WalksBy system rules before order log →
-    (k : ℕ) → AreNew (span (has_events_at system k)) (own k (askings log))
+    (k : ℕ) → AreNew (span (has_events_at system k)) (own k (component_calls log))
 
 -- in Initialization Mode it is read and set
 abbrev pub initial_span : Bool → Span
@@ -100,9 +100,9 @@ timing_span = record { from = 3; below = 4 }
 
 -- the walks of a sound system, and its questions for the timing of fixed and changing Clocks
 pub record UsesAre (system : System) : Type 0 where
-  pub initial : WalkUses system (initially system) (numbers system.initial_order) initial_span
+  pub initial : WalkUses system (initially system) (port_numbers system.initial_order) initial_span
   pub instant : (ticks : ℕ → Bool) (is_first : Bool) →
-      WalkUses system (in_instant ticks is_first) (numbers system.instant_order)
+      WalkUses system (in_instant ticks is_first) (port_numbers system.instant_order)
       (instant_span is_first)
   pub interval : (values : List (Option ℤ)) →
       WalkUses system (intervals values) (port_order system) interval_span
@@ -117,10 +117,10 @@ EachCallOnce = (system : System) → IsSound system → UsesAre system
 
 -- the last answer, of a component that is there, is the first that isn't good
 pub record LastIsBad (shapes : List Shape) (bad : BadAnswer) (log : List Sent) : Type 0 where
-  pub front : List Sent
+  pub prefix : List Sent
   pub last : Sent
-  pub log_is : log ≡ front ++ last ∷ []
-  pub first : IsFirst shapes bad front last
+  pub log_is : log ≡ prefix ++ last ∷ []
+  pub first : IsFirst shapes bad prefix last
   pub within : last.component < length shapes
 
 -- the answers of a walk are good, or those up to the last

@@ -13,7 +13,7 @@ ghost use Rattle.slot_calls.specs.Carried.{with_some};
 ghost use Rattle.slot_calls.specs.Slots.{LiveSlot, Stands, instances};
 ghost use Rattle.slot_calls.specs.Stage.{Stage, shapes, shapes_of};
 ghost use Rattle.event_iteration.specs.Clocks.{StandsAt, first_clock, first_place, first_table, timers_in, unasked};
-ghost use Rattle.event_iteration.specs.Initialization.{IsInitializing};
+ghost use Rattle.event_iteration.specs.Initialization.{IsInInitialization};
 ghost use Rattle.event_iteration.specs.Intervals.{Fixes, FixesForMachines};
 ghost use Rattle.event_iteration.specs.Questions.{FixesPort, InstanceMode, IsEntered, IsShifted, MayTell, counts_told, first_reply, is_asked, is_changing, modes};
 
@@ -115,7 +115,7 @@ pub fn fix_clocks<L: Peer>(
         system.now.components }
     requires shapes { shapes (instances L.view slots.old) ≡ shapes_of system.now }
     requires live { All (LiveSlot L.view) slots.old }
-    requires initializing { All (Stands IsInitializing L.view) slots.old }
+    requires initializing { All (Stands IsInInitialization L.view) slots.old }
     requires first { schedule.old ≡ first_table system.now schedule.old.start schedule.old.stop }
     requires run { schedule.old.start ≤ schedule.old.stop }
     requires start { schedule.old.start ≡ start }

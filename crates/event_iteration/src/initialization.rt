@@ -1,8 +1,8 @@
-ghost use Rattle.std.specs.Prelude.{◌≡◌, ◌<◌, ℕ, OnOk, All, None, length, slice_index_or};
+ghost use Rattle.std.specs.Prelude.{◌≡◌, ◌<◌, OnOk, All, length};
 ghost use Rattle.std.specs.Option.{option_map};
 ghost use Rattle.system_model.specs.declared.system.Port.{Port};
 ghost use Rattle.system_model.specs.Needs.{is_unclocked};
-ghost use Rattle.system_model.specs.Ports.{numbers};
+ghost use Rattle.system_model.specs.Ports.{port_numbers};
 ghost use Rattle.system_model.specs.Sound.{IsSound};
 ghost use Rattle.run_model.specs.Equations.{fed};
 ghost use Rattle.run_model.specs.Initial as I;
@@ -10,13 +10,14 @@ ghost use Rattle.run_model.specs.Machines.{AreFitting};
 ghost use Rattle.slot_calls.specs.Slots.{LiveSlot, Stands, instances};
 ghost use Rattle.slot_calls.specs.Stage.{shapes, shapes_of};
 ghost use Rattle.event_iteration.specs.Explains.{Walks};
-ghost use Rattle.event_iteration.specs.Initialization.{AreReads, IsInitializing, IsPlaced, asks_initially, initially, is_set_from_feed, is_silent_initially, no_values, seen, takes_initially};
+ghost use Rattle.event_iteration.specs.Initialization.{AreReads, IsInInitialization, IsPlaced, asks_initially, initially, is_set_from_feed, is_silent_initially, no_values, seen, takes_initially};
 ghost use Rattle.event_iteration.specs.Machines.{SolvesForMachines};
 
 use crate::InitialReads;
 use crate::walk::{Turns, walk};
 use fmi_calls::{Call, Reply};
 use fmu_peer::{Peer, Slot};
+use port_values::PortValues;
 use slot_calls::{BadAnswer, value_in};
 use system_model::{Feed, Port, Role, System, carried};
 use value_types::PortType;
@@ -32,11 +33,11 @@ pub(crate) fn is_unclocked(port: &Port) -> bool
 }
 
 // What comes to an input of a type from its source, along its path.
-pub(crate) fn fed(kind: PortType, feed: &Feed, values: &[Option<i128>]) -> Option<i128>
+pub(crate) fn fed(kind: PortType, feed: &Feed, values: &PortValues) -> Option<i128>
     requires { feed.now.from.0 < length values.now }
     ensures { result ≡ fed kind feed.now values.now }
 {
-    match values[feed.from.0 as usize] {
+    match values.at(feed.from.0 as usize) {
         Some(value) => carried(feed.changes.as_slice(), kind, value),
         None => None,
     }
@@ -51,7 +52,7 @@ pub(crate) fn is_set_from(ports: &[Port], port: &Port, feed: &Feed) -> bool
 }
 
 // The call that a port's turn sends.
-fn call_of(ports: &[Port], port: &Port, is_read: bool, values: &[Option<i128>]) -> Option<Call>
+fn call_of(ports: &[Port], port: &Port, is_read: bool, values: &PortValues) -> Option<Call>
     requires placed { IsPlaced (length ports.now) port.now }
     requires values { length values.now ≡ length ports.now }
     ensures { result ≡ asks_initially port.now.role ports.now is_read port.now values.now }
@@ -97,12 +98,7 @@ fn is_silent(ports: &[Port], port: &Port) -> bool
 }
 
 // The value that a port takes with this reply.
-fn value_of(
-    ports: &[Port],
-    port: &Port,
-    values: &[Option<i128>],
-    reply: &Option<Reply>,
-) -> Option<i128>
+fn value_of(ports: &[Port], port: &Port, values: &PortValues, reply: &Option<Reply>) -> Option<i128>
     requires placed { IsPlaced (length ports.now) port.now }
     requires values { length values.now ≡ length ports.now }
     ensures { result ≡ takes_initially port.now.role ports.now port.now values.now reply.now }
@@ -158,12 +154,12 @@ impl<'a> Turns for Initially<'a> {
 
     ghost holds = { λ i system. AreReads system i.reads.now };
 
-    fn call_of(&self, system: &System, p: usize, values: &[Option<i128>]) -> Option<Call> {
+    fn call_of(&self, system: &System, p: usize, values: &PortValues) -> Option<Call> {
         let ports = system.ports.as_slice();
         call_of(ports, &ports[p], self.reads[p], values)
     }
 
-    fn is_silent(&self, system: &System, p: usize, _values: &[Option<i128>]) -> bool {
+    fn is_silent(&self, system: &System, p: usize, _values: &PortValues) -> bool {
         let ports = system.ports.as_slice();
         is_silent(ports, &ports[p])
     }
@@ -172,7 +168,7 @@ impl<'a> Turns for Initially<'a> {
         &self,
         system: &System,
         p: usize,
-        values: &[Option<i128>],
+        values: &PortValues,
         _last: Option<i128>,
         reply: &Option<Reply>,
     ) -> Option<i128> {
@@ -189,33 +185,25 @@ pub fn initialize<L: Peer>(
     slots: &mut [Slot<L>],
     system: &System,
     reads: &InitialReads,
-    values: &mut [Option<i128>],
+    values: &mut PortValues,
 ) -> Result<(), BadAnswer>
     requires sound { IsSound system.now }
     requires shapes { shapes (instances L.view slots.old) ≡ shapes_of system.now }
     requires live { All (LiveSlot L.view) slots.old }
-    requires initializing { All (Stands IsInitializing L.view) slots.old }
+    requires initializing { All (Stands IsInInitialization L.view) slots.old }
     requires reads { AreReads system.now reads.now }
     requires values { length values.old ≡ length system.now.ports }
     ensures live { OnOk result (All (LiveSlot L.view) slots.new) }
     ensures walks { Walks system.now (initially system.now) (no_values system.now)
-        (numbers system.now.initial_order) values.new (instances L.view slots.old)
+        (port_numbers system.now.initial_order) values.new (instances L.view slots.old)
         (instances L.view slots.new) result }
+    ensures values { OnOk result (length values.new ≡ length system.now.ports) }
     ensures fitting { AreFitting system.now values.new }
     ensures solved { OnOk result (SolvesForMachines system.now values.new
         (instances L.view slots.old) (instances L.view slots.new)) }
 {
-    clear(values);
+    values.clear();
     walk_all(slots, system, reads.as_slice(), values)
-}
-
-// Clears each value.
-fn clear(values: &mut [Option<i128>])
-    ensures { (p : ℕ) → slice_index_or values.new p None ≡ None }
-{
-    for i in 0..values.len() {
-        values[i] = None;
-    }
 }
 
 // Takes the ports without Clocks in the stored order, up to the first answer that isn't good.
@@ -223,18 +211,19 @@ fn walk_all<L: Peer>(
     slots: &mut [Slot<L>],
     system: &System,
     reads: &[bool],
-    values: &mut [Option<i128>],
+    values: &mut PortValues,
 ) -> Result<(), BadAnswer>
     requires sound { IsSound system.now }
     requires shapes { shapes (instances L.view slots.old) ≡ shapes_of system.now }
     requires live { All (LiveSlot L.view) slots.old }
-    requires initializing { All (Stands IsInitializing L.view) slots.old }
+    requires initializing { All (Stands IsInInitialization L.view) slots.old }
     requires reads { AreReads system.now reads.now }
     requires none { values.old ≡ no_values system.now }
     ensures live { OnOk result (All (LiveSlot L.view) slots.new) }
     ensures walks { Walks system.now (initially system.now) (no_values system.now)
-        (numbers system.now.initial_order) values.new (instances L.view slots.old)
+        (port_numbers system.now.initial_order) values.new (instances L.view slots.old)
         (instances L.view slots.new) result }
+    ensures values { OnOk result (length values.new ≡ length system.now.ports) }
     ensures fitting { AreFitting system.now values.new }
     ensures solved { OnOk result (SolvesForMachines system.now values.new
         (instances L.view slots.old) (instances L.view slots.new)) }

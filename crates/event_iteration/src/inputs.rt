@@ -5,13 +5,16 @@ ghost use Rattle.run_model.specs.Machines.{AreFitting};
 ghost use Rattle.slot_calls.specs.Slots.{LiveSlot, Stands, instances};
 ghost use Rattle.slot_calls.specs.Stage.{shapes, shapes_of};
 ghost use Rattle.event_iteration.specs.Explains.{Walks};
+ghost use Rattle.event_iteration.specs.Participants.{AreParticipants};
 ghost use Rattle.event_iteration.specs.Settings.{DepartsForMachines, IsUnset, before_step, port_order, sets_to};
 ghost use Rattle.event_iteration.specs.Turns.{MayTurn, TakesTurn};
 
+use crate::Participants;
 use crate::initialization::set_call;
 use crate::turn::{ask_if, has_event_mode};
 use fmi_calls::Call;
 use fmu_peer::{Peer, Slot};
+use port_values::PortValues;
 use slot_calls::BadAnswer;
 use system_model::{Port, Role, System};
 
@@ -36,7 +39,7 @@ fn call_of(port: &Port, has_event_mode: bool, value: Option<i128>) -> Option<Cal
 fn set_input<L: Peer>(
     slots: &mut [Slot<L>],
     system: &System,
-    values: &[Option<i128>],
+    values: &PortValues,
     p: usize,
 ) -> Result<(), BadAnswer>
     requires port { p < length system.now.ports }
@@ -53,7 +56,7 @@ fn set_input<L: Peer>(
 {
     let port = &system.ports.as_slice()[p];
     let has_event_mode = has_event_mode(system, port.component);
-    let call = call_of(port, has_event_mode, values[p]);
+    let call = call_of(port, has_event_mode, values.at(p));
     match ask_if(&mut slots[port.component.0 as usize], call) {
         Ok(_) => Ok(()),
         Err(why) => Err(BadAnswer {
@@ -68,9 +71,11 @@ fn set_input<L: Peer>(
 pub fn set_inputs<L: Peer>(
     slots: &mut [Slot<L>],
     system: &System,
-    values: &[Option<i128>],
+    participants: &Participants,
+    values: &PortValues,
 ) -> Result<(), BadAnswer>
     requires sound { IsSound system.now }
+    requires participants { AreParticipants system.now participants.now }
     requires shapes { shapes (instances L.view slots.old) ≡ shapes_of system.now }
     requires live { All (LiveSlot L.view) slots.old }
     requires unset { All (Stands IsUnset L.view) slots.old }
@@ -83,11 +88,13 @@ pub fn set_inputs<L: Peer>(
     ensures departs { OnOk result (DepartsForMachines system.now values.now
         (instances L.view slots.old) (instances L.view slots.new)) }
 {
-    for p in 0..values.len() {
+    let mut p = participants.set_before_steps.from(0);
+    while p < values.len() {
         match set_input(slots, system, values, p) {
             Ok(()) => {}
             Err(bad) => return Err(bad),
         }
+        p = participants.set_before_steps.from(p + 1);
     }
     Ok(())
 }

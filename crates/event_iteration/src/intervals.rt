@@ -12,13 +12,16 @@ ghost use Rattle.slot_calls.specs.Stage.{shapes, shapes_of};
 ghost use Rattle.event_iteration.specs.Clocks.{StandsAt, timers_in};
 ghost use Rattle.event_iteration.specs.Instants.{IsRunning};
 ghost use Rattle.event_iteration.specs.Intervals.{AsksIntervals, RearmsForMachines, TellsTicks, interval_by, is_time_clock};
-ghost use Rattle.event_iteration.specs.Questions.{AreActive, AreRunning, AsksPort, GoesFrom, IsActive, IsArmed, IsBehind, armed_anew, arms_now, counts_down, has_no_count, is_asked_after, modes, rearmed, ticked_if};
+ghost use Rattle.event_iteration.specs.Participants.{AreParticipants};
+ghost use Rattle.event_iteration.specs.Questions.{AreActive, AreRunning, AsksPort, GoesFrom, IsActive, IsAfter, IsArmed, armed_anew, arms_now, counts_down, has_no_count, is_asked_after, modes, rearmed, ticked_if};
 
+use crate::Participants;
 use crate::clocks::{ask, interval_in};
 use crate::instants::is_active;
 use clock_fraction::{Fraction, to_counts};
 use fmi_calls::{Call, Interval, Reply};
 use fmu_peer::{Peer, Slot};
+use port_values::PortValues;
 use slot_calls::BadAnswer;
 use system_model::{Role, System, Timing};
 use tick_schedule::{Schedule, plain};
@@ -31,13 +34,15 @@ use tick_schedule::{Schedule, plain};
 pub fn ask_intervals<L: Peer>(
     slots: &mut [Slot<L>],
     system: &System,
+    participants: &Participants,
     schedule: &mut Schedule,
     per_second: u64,
     is_first: bool,
-    values: &[Option<i128>],
+    values: &PortValues,
     t: u64,
 ) -> Result<bool, BadAnswer>
     requires sound { IsSound system.now }
+    requires participants { AreParticipants system.now participants.now }
     requires counts { All (λ (c : Component). c.shape.resolution ≡ per_second)
         system.now.components }
     requires shapes { shapes (instances L.view slots.old) ≡ shapes_of system.now }
@@ -60,13 +65,23 @@ pub fn ask_intervals<L: Peer>(
 {
     let ports = system.ports.as_slice();
     let mut is_armed = false;
-    for p in 0..values.len() {
-        let reply = match ask_interval(slots, system, p, values[p]) {
+    let mut p = participants.time_clocks.from(0);
+    while p < values.len() {
+        let reply = match ask_interval(slots, system, p, values.at(p)) {
             Ok(reply) => reply,
             Err(bad) => return Err(bad),
         };
         let told = interval_by(&reply);
-        is_armed |= go_on(schedule, &ports[p].role, per_second, values[p], t, p, told);
+        is_armed |= go_on(
+            schedule,
+            &ports[p].role,
+            per_second,
+            values.at(p),
+            t,
+            p,
+            told,
+        );
+        p = participants.time_clocks.from(p + 1);
     }
     Ok(is_armed)
 }
@@ -127,7 +142,7 @@ fn go_on(
     interval: Interval,
 ) -> bool
     requires place { GoesFrom schedule.old role.now t p value }
-    ensures goes { IsBehind role.now per_second t p value interval schedule.old schedule.new }
+    ensures goes { IsAfter role.now per_second t p value interval schedule.old schedule.new }
     ensures armed { IsArmed t p schedule.new result }
 {
     if !is_time_clock(role) {

@@ -13,6 +13,7 @@ ghost use Rattle.event_iteration.specs.Lost.{FindsLost, IsLostAt, IsPlain};
 
 use crate::initialization::{fed, is_set_from};
 use crate::instants::is_present;
+use port_values::PortValues;
 use sim_base::PortId;
 use system_model::{Feed, Port, Role, System};
 use value_types::PortType;
@@ -27,15 +28,15 @@ pub struct LostValue {
 }
 
 // Whether the source of an input of a type has a value that is lost on the way.
-fn is_lost(kind: PortType, feed: &Feed, values: &[Option<i128>]) -> bool
+fn is_lost(kind: PortType, feed: &Feed, values: &PortValues) -> bool
     requires { feed.now.from.0 < length values.now }
     ensures { result ≡ is_lost kind feed.now values.now }
 {
-    values[feed.from.0 as usize].is_some() && fed(kind, feed, values).is_none()
+    values.at(feed.from.0 as usize).is_some() && fed(kind, feed, values).is_none()
 }
 
 // Whether a port is such an input in an instant with these values.
-fn is_bad(port: &Port, values: &[Option<i128>]) -> bool
+fn is_bad(port: &Port, values: &PortValues) -> bool
     requires placed { IsPlaced (length values.now) port.now }
     requires clocks { HasPlacedClocks (length values.now) port.now }
     ensures { result ≡ is_bad values.now port.now }
@@ -53,7 +54,7 @@ fn is_bad(port: &Port, values: &[Option<i128>]) -> bool
 }
 
 // Whether a port is such an input in Initialization Mode with these values.
-fn is_bad_initially(system: &System, port: &Port, values: &[Option<i128>]) -> bool
+fn is_bad_initially(system: &System, port: &Port, values: &PortValues) -> bool
     requires placed { IsPlaced (length system.now.ports) port.now }
     requires values { length values.now ≡ length system.now.ports }
     ensures { result ≡ is_bad_initially system.now values.now port.now }
@@ -71,14 +72,14 @@ fn is_bad_initially(system: &System, port: &Port, values: &[Option<i128>]) -> bo
 }
 
 // The value of the source of a port, if it is a connected input.
-fn value_before(port: &Port, values: &[Option<i128>]) -> Option<i128>
+fn value_before(port: &Port, values: &PortValues) -> Option<i128>
     requires { IsPlaced (length values.now) port.now }
     ensures { (feed : Feed) → feed_of port.now.role ≡ Some feed →
         result ≡ source_value feed values.now }
 {
     match &port.role {
         Role::Input { feed: Some(feed) } | Role::ClockInput { feed: Some(feed) } => {
-            values[feed.from.0 as usize]
+            values.at(feed.from.0 as usize)
         }
         Role::Input { feed: None }
         | Role::Output
@@ -118,11 +119,7 @@ fn is_changed(role: &Role) -> bool
 
 /// The least port that is a connected input of an instant whose source's value is lost on the way to it. `has_changes` tells
 /// whether some path makes a change: where none does, the ports aren't looked at.
-pub fn lost_in_instant(
-    system: &System,
-    has_changes: bool,
-    values: &[Option<i128>],
-) -> Option<LostValue>
+pub fn lost_in_instant(system: &System, has_changes: bool, values: &PortValues) -> Option<LostValue>
     requires sound { IsSound system.now }
     requires changes { has_changes ≡ false → HasNoChanges system.now }
     requires values { length values.now ≡ length system.now.ports }
@@ -142,7 +139,7 @@ pub fn lost_in_instant(
 }
 
 /// The least port that is a connected input of Initialization Mode whose source's value is lost on the way to it.
-pub fn lost_initially(system: &System, values: &[Option<i128>]) -> Option<LostValue>
+pub fn lost_initially(system: &System, values: &PortValues) -> Option<LostValue>
     requires sound { IsSound system.now }
     requires values { length values.now ≡ length system.now.ports }
     ensures { FindsLost (is_bad_initially system.now values.now) system.now.ports values.now
@@ -158,7 +155,7 @@ pub fn lost_initially(system: &System, values: &[Option<i128>]) -> Option<LostVa
 }
 
 // What is lost on the way to a port.
-fn lost_at(ports: &[Port], p: usize, values: &[Option<i128>]) -> Option<LostValue>
+fn lost_at(ports: &[Port], p: usize, values: &PortValues) -> Option<LostValue>
     requires few { length ports.now < 2 ^ 32 }
     requires port { p < length ports.now }
     requires placed { All (IsPlaced (length ports.now)) ports.now }

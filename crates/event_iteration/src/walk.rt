@@ -1,6 +1,6 @@
 //! A walk through ports in an order, in which calls that read outputs of one FMU, or set inputs of it, wait and are sent
 //! together.
-ghost use Rattle.std.specs.Prelude.{◌≡◌, ◌+◌, ◌<◌, ◌≤◌, ◌++◌, ◌∷◌, ◌==◌, [], ℕ, Some, OnOk, All, IsTrue, if◌then◌else◌, filter, length, map, get_or, true, List};
+ghost use Rattle.std.specs.Prelude.{◌≡◌, ◌+◌, ◌<◌, ◌≤◌, ◌++◌, ◌∷◌, ◌==◌, [], ℕ, Some, OnOk, All, IsTrue, if◌then◌else◌, length, map, get_or, true, List};
 ghost use Rattle.std.specs.List.{list_any, slice_get};
 ghost use Rattle.fmi_calls.specs.declared.call.Reply.{Reply};
 ghost use Rattle.sim_base.specs.declared.numbers.PortId.{PortId};
@@ -8,17 +8,18 @@ ghost use Rattle.fmi_calls.specs.declared.call.Call.{Call};
 ghost use Rattle.fmi_calls.specs.Kinds.{kind_of};
 ghost use Rattle.system_model.specs.declared.system.Component.{Component};
 ghost use Rattle.system_model.specs.declared.system.Port.{Port};
-ghost use Rattle.system_model.specs.Ports.{numbers};
+ghost use Rattle.system_model.specs.Ports.{port_numbers};
 ghost use Rattle.system_model.specs.Sound.{IsSound};
 ghost use Rattle.run_model.specs.Machines.{AreFitting};
 ghost use Rattle.slot_calls.specs.Slots.{LiveSlot, instances};
 ghost use Rattle.slot_calls.specs.Stage.{shapes, shapes_of};
 ghost use Rattle.event_iteration.specs.Turns.{MayTurn, TakesTurn};
-ghost use Rattle.event_iteration.specs.Waits.{AreTurns, Gathered, Goes, IsOpen, IsReady, IsSilent, IsWay, IsWayOfCall, MayWalk, Moves, ReadsOrSets, StandsBehindReads, call_in, is_fed, is_fed_by, place, turned, waits_in};
+ghost use Rattle.event_iteration.specs.Waits.{AreTurns, Gathered, GathersSome, IsOpen, IsReady, IsSilent, IsWay, IsWayOfCall, MayWalk, Moves, ReadsOrSets, Sends, StandsAfterReads, WalkOutcome, call_in, emptied, is_fed_by, passed_in, place, turned, waits_in};
 
 use crate::turn::ask_if;
 use fmi_calls::{BadStatus, Call, Kind, Reply};
 use fmu_peer::{Peer, Slot};
+use port_values::PortValues;
 use sim_base::{CompId, PortId};
 use slot_calls::{BadAnswer, send_many};
 use system_model::{Port, Role, System};
@@ -38,7 +39,7 @@ pub(crate) trait Turns {
     ghost holds: { Self → System → Type 0 };
 
     /// The call that a port's turn sends.
-    fn call_of(&self, system: &System, p: usize, values: &[Option<i128>]) -> Option<Call>
+    fn call_of(&self, system: &System, p: usize, values: &PortValues) -> Option<Call>
         requires sound { IsSound system.now }
         requires holds { holds self.now system.now }
         requires port { p < length system.now.ports }
@@ -48,7 +49,7 @@ pub(crate) trait Turns {
             result ≡ (rules self.now system.now).asks p port c values.now };
 
     /// Whether the port sends nothing, whatever its source's value is.
-    fn is_silent(&self, system: &System, p: usize, values: &[Option<i128>]) -> bool
+    fn is_silent(&self, system: &System, p: usize, values: &PortValues) -> bool
         requires sound { IsSound system.now }
         requires holds { holds self.now system.now }
         requires port { p < length system.now.ports }
@@ -60,7 +61,7 @@ pub(crate) trait Turns {
         &self,
         system: &System,
         p: usize,
-        values: &[Option<i128>],
+        values: &PortValues,
         last: Option<i128>,
         reply: &Option<Reply>,
     ) -> Option<i128>
@@ -87,32 +88,35 @@ pub(crate) enum Way {
     Ask(Call),
 }
 
-// The ports whose calls wait, in their order: all of one FMU, all to be read or all to be set.
+/// The ports whose calls wait, in their order: all of one FMU, all to be read or all to be set.
 #[derive(Drop)]
 pub(crate) struct Waiting {
     ports: [u32; MOST],
     count: usize,
     // the call of the first of them
     first: Call,
-    // the place in the order of the first of them
-    since: usize,
     component: CompId,
     kind: Kind,
+    // the inputs that were passed since, each fed by one that waits
+    inputs: [u32; MOST],
+    passed: usize,
 }
 
 impl Waiting {
-    fn none() -> Waiting
+    /// None waits.
+    pub(crate) fn none() -> Waiting
         ensures none { result.count ≡ 0 }
-        ensures since { result.since ≡ 0 }
+        ensures passed { result.passed ≡ 0 }
         ensures kind { ReadsOrSets result.kind }
     {
         Waiting {
             ports: [0; MOST],
             count: 0,
             first: NO_CALL,
-            since: 0,
             component: CompId(0),
             kind: Kind::Get,
+            inputs: [0; MOST],
+            passed: 0,
         }
     }
 
@@ -124,24 +128,36 @@ impl Waiting {
         self.count == 0 || (self.count < MOST && self.component == component && self.kind == kind)
     }
 
-    // One more waits with its call, at this place of the order.
-    fn push(&mut self, number: u32, k: usize, component: CompId, call: Call)
+    // One more waits with its call.
+    fn push(&mut self, number: u32, component: CompId, call: Call)
         requires few { self.old.count < 64 }
         ensures ports { waits_in self.new ≡ waits_in self.old ++ number ∷ [] }
         ensures count { self.new.count ≡ self.old.count + 1 }
-        ensures since { self.new.since ≡ (if self.old.count == 0 then k else self.old.since) }
         ensures first { self.new.first ≡ (if self.old.count == 0 then call else self.old.first) }
         ensures component { self.new.component ≡ component }
         ensures kind { self.new.kind ≡ kind_of call }
+        ensures inputs { self.new.inputs ≡ self.old.inputs }
+        ensures passed { self.new.passed ≡ self.old.passed }
     {
         if self.count == 0 {
-            self.since = k;
             self.first = call;
         }
         self.ports[self.count] = number;
         self.count += 1;
         self.component = component;
         self.kind = call.kind();
+    }
+
+    // An input is passed, which is fed by one that waits.
+    fn pass(&mut self, number: u32)
+        requires few { self.old.passed < 64 }
+        ensures inputs { passed_in self.new ≡ passed_in self.old ++ number ∷ [] }
+        ensures passed { self.new.passed ≡ self.old.passed + 1 }
+        ensures others { self.new ≡
+            record self.old { inputs = self.new.inputs; passed = self.new.passed } }
+    {
+        self.inputs[self.passed] = number;
+        self.passed += 1;
     }
 
     fn as_slice(&self) -> &[u32]
@@ -151,9 +167,16 @@ impl Waiting {
         &self.ports[..self.count]
     }
 
+    fn inputs(&self) -> &[u32]
+        requires { self.now.passed ≤ 64 }
+        ensures { result.now ≡ passed_in self.now }
+    {
+        &self.inputs[..self.passed]
+    }
+
     // How it goes on with a port.
     #[inline(always)]
-    fn way_of<T: Turns>(&self, system: &System, turns: &T, p: usize, values: &[Option<i128>]) -> Way
+    fn way_of<T: Turns>(&self, system: &System, turns: &T, p: usize, values: &PortValues) -> Way
         requires sound { IsSound system.now }
         requires holds { T.holds turns.now system.now }
         requires port { p < length system.now.ports }
@@ -163,7 +186,7 @@ impl Waiting {
     {
         let port = &system.ports.as_slice()[p];
         if is_fed(self.as_slice(), port) {
-            return if turns.is_silent(system, p, values) {
+            return if self.passed < MOST && turns.is_silent(system, p, values) {
                 Way::Skip
             } else {
                 Way::Send
@@ -224,7 +247,7 @@ fn take<L: Peer, T: Turns>(
     slots: &mut [Slot<L>],
     system: &System,
     turns: &T,
-    values: &mut [Option<i128>],
+    values: &mut PortValues,
     p: usize,
     call: Option<Call>,
 ) -> Result<(), BadAnswer>
@@ -248,7 +271,8 @@ fn take<L: Peer, T: Turns>(
     let port = &system.ports.as_slice()[p];
     match ask_if(&mut slots[port.component.0 as usize], call) {
         Ok(reply) => {
-            values[p] = turns.value_of(system, p, values, values[p], &reply);
+            let value = turns.value_of(system, p, values, values.at(p), &reply);
+            values.put(p, value);
             Ok(())
         }
         Err(why) => Err(BadAnswer {
@@ -270,7 +294,7 @@ const NO_REPLY: Reply = Reply::Refused {
 fn make_calls<T: Turns>(
     system: &System,
     turns: &T,
-    values: &[Option<i128>],
+    values: &PortValues,
     ports: &[u32],
     calls: &mut [Call],
 )
@@ -294,7 +318,7 @@ fn make_calls<T: Turns>(
 fn take_replied<T: Turns>(
     system: &System,
     turns: &T,
-    values: &mut [Option<i128>],
+    values: &mut PortValues,
     ports: &[u32],
     replies: &[Reply],
 )
@@ -308,42 +332,34 @@ fn take_replied<T: Turns>(
 {
     for i in 0..ports.len() {
         let p = ports[i] as usize;
-        values[p] = turns.value_of(system, p, values, values[p], &Some(replies[i]));
+        let value = turns.value_of(system, p, values, values.at(p), &Some(replies[i]));
+        values.put(p, value);
     }
 }
 
-// Writes the values that inputs take which are fed by one of these ports.
-fn take_fed<T: Turns>(
-    system: &System,
-    turns: &T,
-    values: &mut [Option<i128>],
-    ports: &[u32],
-    passed: &[PortId],
-)
+// Writes the values that inputs take which were passed.
+fn take_passed<T: Turns>(system: &System, turns: &T, values: &mut PortValues, inputs: &[u32])
     requires sound { IsSound system.now }
     requires holds { T.holds turns.now system.now }
     requires values { length values.old ≡ length system.now.ports }
-    requires within { All (λ (p : PortId). p.0 < length system.now.ports) passed.now }
-    ensures { values.new ≡ turned system.now (T.rules turns.now system.now)
-        (filter (is_fed system.now ports.now) (numbers passed.now)) [] values.old }
+    requires within { All (λ (p : ℕ). p < length system.now.ports) inputs.now }
+    ensures { values.new ≡
+        turned system.now (T.rules turns.now system.now) inputs.now [] values.old }
 {
-    for k in 0..passed.len() {
-        let p = passed[k].0 as usize;
-        if is_fed(ports, &system.ports.as_slice()[p]) {
-            values[p] = turns.value_of(system, p, values, values[p], &None);
-        }
+    for i in 0..inputs.len() {
+        let p = inputs[i] as usize;
+        let value = turns.value_of(system, p, values, values.at(p), &None);
+        values.put(p, value);
     }
 }
 
 // Sends the calls that wait, of which there are as many as places, and writes the values that their ports take, and those
-// of the inputs that were passed since and are fed by them.
+// of the inputs that were passed since.
 fn send_run<L: Peer, T: Turns>(
     slots: &mut [Slot<L>],
     system: &System,
     turns: &T,
-    order: &[PortId],
-    values: &mut [Option<i128>],
-    k: usize,
+    values: &mut PortValues,
     waiting: &Waiting,
     calls: &mut [Call],
     replies: &mut [Reply],
@@ -354,20 +370,19 @@ fn send_run<L: Peer, T: Turns>(
     requires some { 0 < waiting.now.count }
     requires calls { length calls.old ≡ waiting.now.count }
     requires replies { length replies.old ≡ waiting.now.count }
-    requires gathered { Gathered system.now (T.rules turns.now system.now) (numbers order.now) k
-        waiting.now values.old (instances L.view slots.old) }
+    requires gathered { GathersSome system.now (T.rules turns.now system.now) waiting.now
+        values.old (instances L.view slots.old) }
     ensures live { OnOk result (All (LiveSlot L.view) slots.new) }
-    ensures moves { Moves system.now (T.rules turns.now system.now) (numbers order.now)
-        (place k waiting.now values.old (instances L.view slots.old))
-        (place k (record waiting.now { count = 0 }) values.new (instances L.view slots.new))
-        result }
+    ensures sends { Sends system.now (T.rules turns.now system.now) waiting.now
+        (emptied waiting.now) values.old values.new (instances L.view slots.old)
+        (instances L.view slots.new) result }
 {
     let ports = waiting.as_slice();
     make_calls(system, turns, values, ports, calls);
     match send_many(&mut slots[waiting.component.0 as usize], calls, replies) {
         Ok(()) => {
             take_replied(system, turns, values, ports, replies);
-            take_fed(system, turns, values, ports, &order[waiting.since..k]);
+            take_passed(system, turns, values, waiting.inputs());
             Ok(())
         }
         Err(why) => Err(BadAnswer {
@@ -383,22 +398,19 @@ fn send_several<L: Peer, T: Turns>(
     slots: &mut [Slot<L>],
     system: &System,
     turns: &T,
-    order: &[PortId],
-    values: &mut [Option<i128>],
-    k: usize,
+    values: &mut PortValues,
     waiting: &Waiting,
 ) -> Result<(), BadAnswer>
     requires sound { IsSound system.now }
     requires holds { T.holds turns.now system.now }
     requires live { All (LiveSlot L.view) slots.old }
     requires some { 0 < waiting.now.count }
-    requires gathered { Gathered system.now (T.rules turns.now system.now) (numbers order.now) k
-        waiting.now values.old (instances L.view slots.old) }
+    requires gathered { GathersSome system.now (T.rules turns.now system.now) waiting.now
+        values.old (instances L.view slots.old) }
     ensures live { OnOk result (All (LiveSlot L.view) slots.new) }
-    ensures moves { Moves system.now (T.rules turns.now system.now) (numbers order.now)
-        (place k waiting.now values.old (instances L.view slots.old))
-        (place k (record waiting.now { count = 0 }) values.new (instances L.view slots.new))
-        result }
+    ensures sends { Sends system.now (T.rules turns.now system.now) waiting.now
+        (emptied waiting.now) values.old values.new (instances L.view slots.old)
+        (instances L.view slots.new) result }
 {
     let mut calls = [NO_CALL; MOST];
     let mut replies = [NO_REPLY; MOST];
@@ -406,9 +418,7 @@ fn send_several<L: Peer, T: Turns>(
         slots,
         system,
         turns,
-        order,
         values,
-        k,
         waiting,
         &mut calls[..waiting.count],
         &mut replies[..waiting.count],
@@ -421,22 +431,19 @@ fn send_one<L: Peer, T: Turns>(
     slots: &mut [Slot<L>],
     system: &System,
     turns: &T,
-    order: &[PortId],
-    values: &mut [Option<i128>],
-    k: usize,
+    values: &mut PortValues,
     waiting: &Waiting,
 ) -> Result<(), BadAnswer>
     requires sound { IsSound system.now }
     requires holds { T.holds turns.now system.now }
     requires live { All (LiveSlot L.view) slots.old }
     requires one { waiting.now.count ≡ 1 }
-    requires gathered { Gathered system.now (T.rules turns.now system.now) (numbers order.now) k
-        waiting.now values.old (instances L.view slots.old) }
+    requires gathered { GathersSome system.now (T.rules turns.now system.now) waiting.now
+        values.old (instances L.view slots.old) }
     ensures live { OnOk result (All (LiveSlot L.view) slots.new) }
-    ensures moves { Moves system.now (T.rules turns.now system.now) (numbers order.now)
-        (place k waiting.now values.old (instances L.view slots.old))
-        (place k (record waiting.now { count = 0 }) values.new (instances L.view slots.new))
-        result }
+    ensures sends { Sends system.now (T.rules turns.now system.now) waiting.now
+        (emptied waiting.now) values.old values.new (instances L.view slots.old)
+        (instances L.view slots.new) result }
 {
     let ports = waiting.as_slice();
     let calls = [waiting.first];
@@ -448,7 +455,7 @@ fn send_one<L: Peer, T: Turns>(
     ) {
         Ok(()) => {
             take_replied(system, turns, values, ports, &replies);
-            take_fed(system, turns, values, ports, &order[waiting.since..k]);
+            take_passed(system, turns, values, waiting.inputs());
             Ok(())
         }
         Err(why) => Err(BadAnswer {
@@ -464,58 +471,52 @@ fn send_all<L: Peer, T: Turns>(
     slots: &mut [Slot<L>],
     system: &System,
     turns: &T,
-    order: &[PortId],
-    values: &mut [Option<i128>],
-    k: usize,
+    values: &mut PortValues,
     waiting: &Waiting,
 ) -> Result<(), BadAnswer>
     requires sound { IsSound system.now }
     requires holds { T.holds turns.now system.now }
     requires live { All (LiveSlot L.view) slots.old }
     requires some { 0 < waiting.now.count }
-    requires gathered { Gathered system.now (T.rules turns.now system.now) (numbers order.now) k
-        waiting.now values.old (instances L.view slots.old) }
+    requires gathered { GathersSome system.now (T.rules turns.now system.now) waiting.now
+        values.old (instances L.view slots.old) }
     ensures live { OnOk result (All (LiveSlot L.view) slots.new) }
-    ensures moves { Moves system.now (T.rules turns.now system.now) (numbers order.now)
-        (place k waiting.now values.old (instances L.view slots.old))
-        (place k (record waiting.now { count = 0 }) values.new (instances L.view slots.new))
-        result }
+    ensures sends { Sends system.now (T.rules turns.now system.now) waiting.now
+        (emptied waiting.now) values.old values.new (instances L.view slots.old)
+        (instances L.view slots.new) result }
 {
     if waiting.count == 1 {
-        return send_one(slots, system, turns, order, values, k, waiting);
+        return send_one(slots, system, turns, values, waiting);
     }
-    send_several(slots, system, turns, order, values, k, waiting)
+    send_several(slots, system, turns, values, waiting)
 }
 
-// Sends what waits, if anything does.
+/// Sends what waits, if anything does.
 #[inline(always)]
-fn send_waiting<L: Peer, T: Turns>(
+pub(crate) fn send_waiting<L: Peer, T: Turns>(
     slots: &mut [Slot<L>],
     system: &System,
     turns: &T,
-    order: &[PortId],
-    values: &mut [Option<i128>],
-    k: usize,
+    values: &mut PortValues,
     waiting: &mut Waiting,
 ) -> Result<(), BadAnswer>
     requires sound { IsSound system.now }
     requires holds { T.holds turns.now system.now }
     requires live { All (LiveSlot L.view) slots.old }
-    requires gathered { Gathered system.now (T.rules turns.now system.now) (numbers order.now) k
-        waiting.old values.old (instances L.view slots.old) }
+    requires gathered { GathersSome system.now (T.rules turns.now system.now) waiting.old
+        values.old (instances L.view slots.old) }
     ensures none { OnOk result (waiting.new.count ≡ 0) }
     ensures live { OnOk result (All (LiveSlot L.view) slots.new) }
-    ensures moves { Moves system.now (T.rules turns.now system.now) (numbers order.now)
-        (place k waiting.old values.old (instances L.view slots.old))
-        (place k waiting.new values.new (instances L.view slots.new))
-        result }
+    ensures sends { Sends system.now (T.rules turns.now system.now) waiting.old waiting.new
+        values.old values.new (instances L.view slots.old) (instances L.view slots.new) result }
 {
     if waiting.count == 0 {
         return Ok(());
     }
-    match send_all(slots, system, turns, order, values, k, waiting) {
+    match send_all(slots, system, turns, values, waiting) {
         Ok(()) => {
             waiting.count = 0;
+            waiting.passed = 0;
             return Ok(());
         }
         Err(bad) => return Err(bad),
@@ -529,7 +530,7 @@ fn advance<L: Peer, T: Turns>(
     system: &System,
     turns: &T,
     order: &[PortId],
-    values: &mut [Option<i128>],
+    values: &mut PortValues,
     k: usize,
     waiting: &mut Waiting,
     way: Way,
@@ -538,13 +539,14 @@ fn advance<L: Peer, T: Turns>(
     requires holds { T.holds turns.now system.now }
     requires live { All (LiveSlot L.view) slots.old }
     requires within { k < length order.now }
-    requires gathered { Gathered system.now (T.rules turns.now system.now) (numbers order.now) k
+    requires gathered { Gathered system.now (T.rules turns.now system.now) (port_numbers order.now)
+        k
         waiting.old values.old (instances L.view slots.old) }
     requires way { (d : PortId) → IsWay system.now (T.rules turns.now system.now) waiting.old
         (get_or order.now k d).0 values.old way }
     requires ready { IsReady way }
     ensures live { OnOk result (All (LiveSlot L.view) slots.new) }
-    ensures moves { Moves system.now (T.rules turns.now system.now) (numbers order.now)
+    ensures moves { Moves system.now (T.rules turns.now system.now) (port_numbers order.now)
         (place k waiting.old values.old (instances L.view slots.old))
         (place (k + 1) waiting.new values.new (instances L.view slots.new))
         result }
@@ -553,14 +555,18 @@ fn advance<L: Peer, T: Turns>(
     let p = number as usize;
     match way {
         Way::Send => unreachable!(),
-        Way::Skip => return Ok(()),
+        Way::Skip => {
+            waiting.pass(number);
+            return Ok(());
+        }
         Way::Wait(call) => {
             let component = system.ports.as_slice()[p].component;
-            waiting.push(number, k, component, call);
+            waiting.push(number, component, call);
             return Ok(());
         }
         Way::Quiet => {
-            values[p] = turns.value_of(system, p, values, values[p], &None);
+            let value = turns.value_of(system, p, values, values.at(p), &None);
+            values.put(p, value);
             return Ok(());
         }
         Way::Ask(call) => return take(slots, system, turns, values, p, Some(call)),
@@ -575,7 +581,7 @@ fn send_first<L: Peer, T: Turns>(
     system: &System,
     turns: &T,
     order: &[PortId],
-    values: &mut [Option<i128>],
+    values: &mut PortValues,
     k: usize,
     waiting: &mut Waiting,
 ) -> Result<(), BadAnswer>
@@ -583,15 +589,16 @@ fn send_first<L: Peer, T: Turns>(
     requires holds { T.holds turns.now system.now }
     requires live { All (LiveSlot L.view) slots.old }
     requires within { k < length order.now }
-    requires gathered { Gathered system.now (T.rules turns.now system.now) (numbers order.now) k
+    requires gathered { Gathered system.now (T.rules turns.now system.now) (port_numbers order.now)
+        k
         waiting.old values.old (instances L.view slots.old) }
     ensures live { OnOk result (All (LiveSlot L.view) slots.new) }
-    ensures moves { Moves system.now (T.rules turns.now system.now) (numbers order.now)
+    ensures moves { Moves system.now (T.rules turns.now system.now) (port_numbers order.now)
         (place k waiting.old values.old (instances L.view slots.old))
         (place (k + 1) waiting.new values.new (instances L.view slots.new))
         result }
 {
-    match send_waiting(slots, system, turns, order, values, k, waiting) {
+    match send_waiting(slots, system, turns, values, waiting) {
         Ok(()) => {
             let p = order[k].0 as usize;
             let next = waiting.way_of(system, turns, p, values);
@@ -601,14 +608,14 @@ fn send_first<L: Peer, T: Turns>(
     }
 }
 
-// Goes on with the port at a place of the order.
+/// Goes on with the port at a place of the order.
 #[inline(always)]
-fn go_on<L: Peer, T: Turns>(
+pub(crate) fn go_on<L: Peer, T: Turns>(
     slots: &mut [Slot<L>],
     system: &System,
     turns: &T,
     order: &[PortId],
-    values: &mut [Option<i128>],
+    values: &mut PortValues,
     k: usize,
     waiting: &mut Waiting,
 ) -> Result<(), BadAnswer>
@@ -616,10 +623,11 @@ fn go_on<L: Peer, T: Turns>(
     requires holds { T.holds turns.now system.now }
     requires live { All (LiveSlot L.view) slots.old }
     requires within { k < length order.now }
-    requires gathered { Gathered system.now (T.rules turns.now system.now) (numbers order.now) k
+    requires gathered { Gathered system.now (T.rules turns.now system.now) (port_numbers order.now)
+        k
         waiting.old values.old (instances L.view slots.old) }
     ensures live { OnOk result (All (LiveSlot L.view) slots.new) }
-    ensures moves { Moves system.now (T.rules turns.now system.now) (numbers order.now)
+    ensures moves { Moves system.now (T.rules turns.now system.now) (port_numbers order.now)
         (place k waiting.old values.old (instances L.view slots.old))
         (place (k + 1) waiting.new values.new (instances L.view slots.new))
         result }
@@ -633,13 +641,14 @@ fn go_on<L: Peer, T: Turns>(
 }
 
 /// Takes the ports in an order, up to the first answer that isn't good. Each maximal run of calls that read outputs of one
-/// FMU, or set inputs of it, with no other call between them, is sent together, 64 at a time.
+/// FMU, or set inputs of it, with no other call between them, is sent together, 64 at a time; it is parted too where 64 inputs
+/// were passed that wait for it.
 pub(crate) fn walk<L: Peer, T: Turns>(
     slots: &mut [Slot<L>],
     system: &System,
     turns: &T,
     order: &[PortId],
-    values: &mut [Option<i128>],
+    values: &mut PortValues,
 ) -> Result<(), BadAnswer>
     requires sound { IsSound system.now }
     requires holds { T.holds turns.now system.now }
@@ -648,11 +657,12 @@ pub(crate) fn walk<L: Peer, T: Turns>(
     requires values { length values.old ≡ length system.now.ports }
     requires fitting { AreFitting system.now values.old }
     requires local { AreTurns system.now (T.rules turns.now system.now) }
-    requires order { StandsBehindReads system.now (numbers order.now) }
+    requires order { StandsAfterReads system.now (port_numbers order.now) }
     requires may { MayWalk system.now (T.rules turns.now system.now) values.old
-        (numbers order.now) (instances L.view slots.old) }
+        (port_numbers order.now) (instances L.view slots.old) }
     ensures live { OnOk result (All (LiveSlot L.view) slots.new) }
-    ensures goes { Goes system.now (T.rules turns.now system.now) values.old (numbers order.now)
+    ensures goes { WalkOutcome system.now (T.rules turns.now system.now) values.old
+        (port_numbers order.now)
         values.new (instances L.view slots.old) (instances L.view slots.new) result }
     ensures fitting { AreFitting system.now values.new }
 {
@@ -663,15 +673,7 @@ pub(crate) fn walk<L: Peer, T: Turns>(
             Err(bad) => return Err(bad),
         }
     }
-    match send_waiting(
-        slots,
-        system,
-        turns,
-        order,
-        values,
-        order.len(),
-        &mut waiting,
-    ) {
+    match send_waiting(slots, system, turns, values, &mut waiting) {
         Ok(()) => return Ok(()),
         Err(bad) => return Err(bad),
     }

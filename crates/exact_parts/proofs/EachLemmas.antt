@@ -3,9 +3,9 @@ use Rattle.std.proofs.Common.{◌≡◌, ℕ, ◌+◌, List, [], ◌∷◌, ◌+
 use Rattle.std.proofs.lemmas.List.{length-append}
 use Rattle.exact_parts.specs.declared.taken.Taken.{Taken}
 use Rattle.exact_parts.specs.declared.taken.Taken.TheVariants.{Got, NeedMore, Bad}
-use Rattle.exact_parts.specs.Taking.{AreSingle, Behind, Breaks, Gets, IsFront, Takes, moved}
+use Rattle.exact_parts.specs.Taking.{After, AreSingle, Breaks, Gets, IsPrefix, Takes, moved}
 use Rattle.exact_parts.specs.Each.{EachFrom}
-use Rattle.exact_parts.proofs.BehindLemmas.{Followed, behind_single, first_bad, first_begins, first_more, next_takes}
+use Rattle.exact_parts.proofs.AfterLemmas.{Followed, after_single, first_bad, first_begins, first_more, next_takes}
 
 -- ---- a part for each
 
@@ -16,7 +16,7 @@ none_single before v w xs more p q =
 
 pub each_single : {A V : Type 0} (part : A → V → List ℕ → Type 0) → ((a : A) → AreSingle (part a)) → (things : List A) (before : List V) → AreSingle (EachFrom part things before)
 each_single part single [] before = none_single before
-each_single part single (a ∷ more) before = behind_single (part a) (λ v. EachFrom part more (before ++ v ∷ [])) (single a) (λ v. each_single part single more (before ++ v ∷ []))
+each_single part single (a ∷ more) before = after_single (part a) (λ v. EachFrom part more (before ++ v ∷ [])) (single a) (λ v. each_single part single more (before ++ v ∷ []))
 
 -- each thing has some value
 pub record HasSome {V : Type 0} (frame : V → List ℕ → Type 0) : Type 0 where
@@ -29,7 +29,7 @@ each_some part some [] before = record { value = before; bytes = []; spelled = (
 each_some part some (a ∷ more) before =
     let one = some a in
     let rest = each_some part some more (before ++ one.value ∷ []) in
-    record { value = rest.value; bytes = one.bytes ++ rest.bytes; spelled = record { number = one.value; front = one.bytes; rest = rest.bytes; is_first = one.spelled; is_next = rest.spelled; both = refl } }
+    record { value = rest.value; bytes = one.bytes ++ rest.bytes; spelled = record { number = one.value; prefix = one.bytes; rest = rest.bytes; is_first = one.spelled; is_next = rest.spelled; both = refl } }
 
 pub each_followed : {A V : Type 0} (part : A → V → List ℕ → Type 0) → ((a : A) → HasSome (part a)) → (things : List A) (before : List V) → Followed (λ (v : V). EachFrom part things (before ++ v ∷ []))
 each_followed {V = V} part some things before =
@@ -69,9 +69,9 @@ goes_end part things before bytes values n rest goes =
     subst (λ k. Takes (EachFrom part things before) bytes (Got values k)) same (goes (Got values 0) (record { within = omega arith; spelled = (refl, refl) }))
 
 pub goes_more : {A V : Type 0} (part : A → V → List ℕ → Type 0) → ((a : A) → HasSome (part a)) → (things : List A) (before : List V) (a : A) (left : List A) (bytes : List ℕ) (values : List V) (n : ℕ) (rest : List ℕ) →
-    Goes part things before (a ∷ left) bytes values n rest → IsFront (part a) rest → Takes (EachFrom part things before) bytes NeedMore
-goes_more part some things before a left bytes values n rest goes front =
-    goes NeedMore (first_more (part a) (λ w. EachFrom part left (values ++ w ∷ [])) (each_followed part some left values) rest front)
+    Goes part things before (a ∷ left) bytes values n rest → IsPrefix (part a) rest → Takes (EachFrom part things before) bytes NeedMore
+goes_more part some things before a left bytes values n rest goes prefix =
+    goes NeedMore (first_more (part a) (λ w. EachFrom part left (values ++ w ∷ [])) (each_followed part some left values) rest prefix)
 
 pub goes_bad : {A V : Type 0} (part : A → V → List ℕ → Type 0) → ((a : A) → AreSingle (part a)) → ((a : A) → HasSome (part a)) → (things : List A) (before : List V) (a : A) (left : List A) (bytes : List ℕ) (values : List V) (n : ℕ) (rest : List ℕ) (at : ℕ) →
     Goes part things before (a ∷ left) bytes values n rest → Breaks (part a) rest at → Takes (EachFrom part things before) bytes (Bad (n + at))
@@ -84,24 +84,24 @@ goes_bad part single some things before a left bytes values n rest at goes break
 abbrev pub LeadsTo : {N V : Type 0} → (N → List ℕ → Type 0) → (N → V → List ℕ → Type 0) → Type 0
 LeadsTo {N = N} first next = (n : N) (bytes : List ℕ) → first n bytes → HasSome (next n)
 
-pub led_more : {N V : Type 0} (first : N → List ℕ → Type 0) (next : N → V → List ℕ → Type 0) → LeadsTo first next → (bytes : List ℕ) → IsFront first bytes → IsFront (Behind first next) bytes
+pub led_more : {N V : Type 0} (first : N → List ℕ → Type 0) (next : N → V → List ℕ → Type 0) → LeadsTo first next → (bytes : List ℕ) → IsPrefix first bytes → IsPrefix (After first next) bytes
 led_more first next leads bytes f =
     let s = leads f.value (bytes ++ f.more) f.spelled in
     record {
       value = s.value;
       more = f.more ++ s.bytes;
-      spelled = record { number = f.value; front = bytes ++ f.more; rest = s.bytes; is_first = f.spelled; is_next = s.spelled; both = sym (append_assoc bytes f.more s.bytes) };
+      spelled = record { number = f.value; prefix = bytes ++ f.more; rest = s.bytes; is_first = f.spelled; is_next = s.spelled; both = sym (append_assoc bytes f.more s.bytes) };
       goes_on = omega (arith, f.goes_on, length-append f.more s.bytes);
     }
 
-pub led_bad : {N V : Type 0} (first : N → List ℕ → Type 0) (next : N → V → List ℕ → Type 0) → AreSingle first → LeadsTo first next → (bytes : List ℕ) (at : ℕ) → Breaks first bytes at → Breaks (Behind first next) bytes at
+pub led_bad : {N V : Type 0} (first : N → List ℕ → Type 0) (next : N → V → List ℕ → Type 0) → AreSingle first → LeadsTo first next → (bytes : List ℕ) (at : ℕ) → Breaks first bytes at → Breaks (After first next) bytes at
 led_bad first next single leads bytes at h = record {
   within = h.within;
-  front = led_more first next leads (take at bytes) h.front;
-  none = λ b. h.none (first_begins first next single bytes at h.within h.front b);
+  prefix = led_more first next leads (take at bytes) h.prefix;
+  none = λ b. h.none (first_begins first next single bytes at h.within h.prefix b);
 }
 
-pub led_some : {N V : Type 0} (first : N → List ℕ → Type 0) (next : N → V → List ℕ → Type 0) → HasSome first → LeadsTo first next → HasSome (Behind first next)
+pub led_some : {N V : Type 0} (first : N → List ℕ → Type 0) (next : N → V → List ℕ → Type 0) → HasSome first → LeadsTo first next → HasSome (After first next)
 led_some first next some leads =
     let s = leads some.value some.bytes some.spelled in
-    record { value = s.value; bytes = some.bytes ++ s.bytes; spelled = record { number = some.value; front = some.bytes; rest = s.bytes; is_first = some.spelled; is_next = s.spelled; both = refl } }
+    record { value = s.value; bytes = some.bytes ++ s.bytes; spelled = record { number = some.value; prefix = some.bytes; rest = s.bytes; is_first = some.spelled; is_next = s.spelled; both = refl } }

@@ -1,7 +1,7 @@
 pub mod CallerLemmas
 mod ListLemmas
 mod TakingLemmas
-mod BehindLemmas
+mod AfterLemmas
 mod MapLemmas
 mod SpanLemmas
 mod FieldLemmas

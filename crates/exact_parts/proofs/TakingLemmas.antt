@@ -4,7 +4,7 @@ use Rattle.std.proofs.lemmas.Bool.{cases_lt}
 use Rattle.std.proofs.lemmas.List.{take-append-drop, take-take, length-append, append-nil, length-take}
 use Rattle.exact_parts.specs.declared.taken.Taken.{Taken}
 use Rattle.exact_parts.specs.declared.taken.Taken.TheVariants.{Got, NeedMore, Bad}
-use Rattle.exact_parts.specs.Taking.{AreSingle, Begins, IsFront, Gets, Breaks, Takes}
+use Rattle.exact_parts.specs.Taking.{AreSingle, Begins, IsPrefix, Gets, Breaks, Takes}
 
 -- a prefix of a prefix
 rest_of : (m n : ℕ) (bytes more : List ℕ) → m ≤ n → take n bytes ++ more ≡ take m bytes ++ (drop m (take n bytes) ++ more)
@@ -12,8 +12,8 @@ rest_of m n bytes more le =
     let cut : take m bytes ++ drop m (take n bytes) ≡ take n bytes = rw (← take-take m n bytes le) (take-append-drop m (take n bytes)) in
     ap (λ (xs : List ℕ). xs ++ more) (sym cut) ∙ append_assoc (take m bytes) (drop m (take n bytes)) more
 
-begins_front : {V : Type 0} (frame : V → List ℕ → Type 0) (m n : ℕ) (bytes : List ℕ) → m ≤ n → Begins frame (take n bytes) → Begins frame (take m bytes)
-begins_front frame m n bytes le b = record {
+begins_prefix : {V : Type 0} (frame : V → List ℕ → Type 0) (m n : ℕ) (bytes : List ℕ) → m ≤ n → Begins frame (take n bytes) → Begins frame (take m bytes)
+begins_prefix frame m n bytes le b = record {
   value = b.value;
   more = drop m (take n bytes) ++ b.more;
   spelled = subst (frame b.value) (rest_of m n bytes b.more le) b.spelled;
@@ -26,16 +26,16 @@ begins_cut frame m bytes b = record {
   spelled = subst (frame b.value) (ap (λ (xs : List ℕ). xs ++ b.more) (sym (take-append-drop m bytes)) ∙ append_assoc (take m bytes) (drop m bytes) b.more) b.spelled;
 }
 
-pub begins : {V : Type 0} (frame : V → List ℕ → Type 0) (bytes : List ℕ) → IsFront frame bytes → Begins frame bytes
+pub begins : {V : Type 0} (frame : V → List ℕ → Type 0) (bytes : List ℕ) → IsPrefix frame bytes → Begins frame bytes
 begins frame bytes f = record { value = f.value; more = f.more; spelled = f.spelled }
 
 -- a frame that ends within a prefix of another
-pub not_within : {V : Type 0} (frame : V → List ℕ → Type 0) (single : AreSingle frame) (m n : ℕ) (bytes : List ℕ) (v : V) → m ≤ n → frame v (take m bytes) → IsFront frame (take n bytes) → ⊥
+pub not_within : {V : Type 0} (frame : V → List ℕ → Type 0) (single : AreSingle frame) (m n : ℕ) (bytes : List ℕ) (v : V) → m ≤ n → frame v (take m bytes) → IsPrefix frame (take n bytes) → ⊥
 not_within frame single m n bytes v le spelled f =
     let s = single v f.value (take m bytes) (drop m (take n bytes) ++ f.more) spelled (subst (frame f.value) (rest_of m n bytes f.more le) f.spelled) in
     omega (arith, s.1, length-append (drop m (take n bytes)) f.more, f.goes_on)
 
-pub not_within_all : {V : Type 0} (frame : V → List ℕ → Type 0) (single : AreSingle frame) (m : ℕ) (bytes : List ℕ) (v : V) → frame v (take m bytes) → IsFront frame bytes → ⊥
+pub not_within_all : {V : Type 0} (frame : V → List ℕ → Type 0) (single : AreSingle frame) (m : ℕ) (bytes : List ℕ) (v : V) → frame v (take m bytes) → IsPrefix frame bytes → ⊥
 not_within_all frame single m bytes v spelled f =
     let e : bytes ++ f.more ≡ take m bytes ++ (drop m bytes ++ f.more) = ap (λ (xs : List ℕ). xs ++ f.more) (sym (take-append-drop m bytes)) ∙ append_assoc (take m bytes) (drop m bytes) f.more in
     let s = single v f.value (take m bytes) (drop m bytes ++ f.more) spelled (subst (frame f.value) e f.spelled) in
@@ -47,15 +47,15 @@ whole frame n bytes v spelled = record { value = v; more = []; spelled = subst (
 pub got_breaks : {V : Type 0} (frame : V → List ℕ → Type 0) (single : AreSingle frame) (bytes : List ℕ) (v : V) (size at : ℕ) → Gets frame bytes v size → Breaks frame bytes at → ⊥
 got_breaks frame single bytes v size at g b =
     elim (cases_lt at size) [
-      | inl lt ↦ b.none (begins_front frame (at + 1) size bytes (omega arith) (whole frame size bytes v g.spelled))
-      | inr le ↦ not_within frame single size at bytes v le g.spelled b.front
+      | inl lt ↦ b.none (begins_prefix frame (at + 1) size bytes (omega arith) (whole frame size bytes v g.spelled))
+      | inr le ↦ not_within frame single size at bytes v le g.spelled b.prefix
     ]
 
-more_breaks : {V : Type 0} (frame : V → List ℕ → Type 0) (bytes : List ℕ) (at : ℕ) → IsFront frame bytes → Breaks frame bytes at → ⊥
+more_breaks : {V : Type 0} (frame : V → List ℕ → Type 0) (bytes : List ℕ) (at : ℕ) → IsPrefix frame bytes → Breaks frame bytes at → ⊥
 more_breaks frame bytes at f b = b.none (begins_cut frame (at + 1) bytes (begins frame bytes f))
 
 earlier : {V : Type 0} (frame : V → List ℕ → Type 0) (bytes : List ℕ) (a b : ℕ) → a < b → Breaks frame bytes a → Breaks frame bytes b → ⊥
-earlier frame bytes a b lt p q = p.none (begins_front frame (a + 1) b bytes (omega arith) (begins frame (take b bytes) q.front))
+earlier frame bytes a b lt p q = p.none (begins_prefix frame (a + 1) b bytes (omega arith) (begins frame (take b bytes) q.prefix))
 
 same_place : {V : Type 0} (frame : V → List ℕ → Type 0) (bytes : List ℕ) (a b : ℕ) → Breaks frame bytes a → Breaks frame bytes b → a ≡ b
 same_place frame bytes a b p q =

@@ -38,21 +38,21 @@ fn worth(size: usize) -> u128
 }
 
 // Whether some number of the span begins so, where so many bytes follow.
-fn stands_in(behind: usize, span: Span, front: u64) -> bool
-    requires { behind ≤ 8 }
-    ensures { IsTrue result ↔ StandsIn (worth behind) span front }
+fn stands_in(after: usize, span: Span, prefix: u64) -> bool
+    requires { after ≤ 8 }
+    ensures { IsTrue result ↔ StandsIn (worth after) span prefix }
 {
-    let worth = worth(behind);
-    let least = u128::from(front) * worth;
+    let worth = worth(after);
+    let least = u128::from(prefix) * worth;
     least <= u128::from(span.high) && u128::from(span.low) < least + worth
 }
 
-fn stands(behind: usize, spans: Spans, front: u64) -> bool
-    requires { behind ≤ 8 }
-    ensures yes { IsTrue result → Stands (worth behind) spans front }
-    ensures no { Stands (worth behind) spans front → IsTrue result }
+fn stands(after: usize, spans: Spans, prefix: u64) -> bool
+    requires { after ≤ 8 }
+    ensures yes { IsTrue result → Stands (worth after) spans prefix }
+    ensures no { Stands (worth after) spans prefix → IsTrue result }
 {
-    stands_in(behind, spans.one, front) || stands_in(behind, spans.other, front)
+    stands_in(after, spans.one, prefix) || stands_in(after, spans.other, prefix)
 }
 
 /// The number that the first bytes are.
@@ -106,10 +106,10 @@ fn take_by_bytes(bytes: &[u8], size: usize, spans: Spans) -> Taken<u64>
     requires sane { IsSane size spans }
     ensures { Takes (Field size spans) bytes.now result }
 {
-    let mut front: u64 = 0;
+    let mut prefix: u64 = 0;
     for place in 0..bytes.len().min(size) {
-        front = front * 256 + u64::from(bytes[place]);
-        if !stands(size - 1 - place, spans, front) {
+        prefix = prefix * 256 + u64::from(bytes[place]);
+        if !stands(size - 1 - place, spans, prefix) {
             return Taken::Bad { at: place };
         }
     }
@@ -117,7 +117,7 @@ fn take_by_bytes(bytes: &[u8], size: usize, spans: Spans) -> Taken<u64>
         Taken::NeedMore
     } else {
         Taken::Got {
-            value: front,
+            value: prefix,
             length: size,
         }
     }

@@ -6,4 +6,4 @@ mod field;
 mod taken;
 
 pub use field::{Span, Spans, is_in, number_of, take_number};
-pub use taken::{Taken, behind};
+pub use taken::{Taken, after};

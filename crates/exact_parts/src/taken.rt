@@ -13,7 +13,7 @@ pub enum Taken<T> {
 }
 
 /// What was taken after so many bytes, told from the first of these.
-pub fn behind<T>(length: usize, taken: Taken<T>) -> Taken<T>
+pub fn after<T>(length: usize, taken: Taken<T>) -> Taken<T>
     requires { length + end_of taken < 2 ^ 64 }
     ensures { result ≡ moved length taken }
 {

@@ -103,16 +103,16 @@ module _ (t : SystemTree) (shapes : List Shape) (P : Change → Type 0) (p : Poi
     (from : IsVariable shapes Output p output) (to : IsVariable shapes Input q input)
     (each : (k : Connection) (change : Change) → k.change ≡ Some change → Contains t.connections k → IsBefore t shapes k input → P change) where
   before : (k : Connection) (s e : Point) → LeadsUpTo t shapes p s → JoinsBy t shapes k s e → LeadsOnTo t shapes e q → IsBefore t shapes k input
-  before k s e upto is on = record { output = output; p = p; s = s; e = e; q = q; from = from; upto = upto; is = is; on = on; to = to }
+  before k s e up_to is on = record { output = output; p = p; s = s; e = e; q = q; from = from; up_to = up_to; is = is; on = on; to = to }
 
   -- all changes from here on
   all_from : (s : Point) → LeadsUpTo t shapes p s → (ks : List Connection) → LeadsBy t shapes s ks q → All P (changes_along ks)
-  all_from s upto [] h = absurd h
-  all_from s upto (k ∷ []) h = cons_all P k.change [] (λ change is. each k change is h.is (before k s q upto h (inl refl))) (All-nil P)
-  all_from s upto (k ∷ (l ∷ ks)) h =
+  all_from s up_to [] h = absurd h
+  all_from s up_to (k ∷ []) h = cons_all P k.change [] (λ change is. each k change is h.is (before k s q up_to h (inl refl))) (All-nil P)
+  all_from s up_to (k ∷ (l ∷ ks)) h =
       cons_all P k.change (changes_along (l ∷ ks))
-      (λ change is. each k change is h.1.is (before k s h.0 upto h.1 (inr (h.2, reaches_by t shapes h.0 (l ∷ ks) q h.3))))
-      (all_from h.0 (inr (h.2, leads_by_last t shapes p s h.0 upto (k, h.1))) (l ∷ ks) h.3)
+      (λ change is. each k change is h.1.is (before k s h.0 up_to h.1 (inr (h.2, reaches_by t shapes h.0 (l ∷ ks) q h.3))))
+      (all_from h.0 (inr (h.2, leads_by_last t shapes p s h.0 up_to (k, h.1))) (l ∷ ks) h.3)
 
 -- what holds of the change of each connection before this input holds of those of its path
 pub along : (t : SystemTree) (shapes : List Shape) (P : Change → Type 0) (p : Point) (changes : List Change) (q : Point) (feeds : Feeds t shapes p changes q)

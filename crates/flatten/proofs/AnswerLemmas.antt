@@ -14,7 +14,7 @@ use Rattle.doc_tables.proofs.CallerLemmas.{refuses, none_sound}
 use Rattle.system_model.specs.declared.system.Component.{Component}
 use Rattle.system_model.specs.declared.system.Port.{Port}
 use Rattle.system_model.specs.declared.system.System.{System}
-use Rattle.system_model.specs.Ports.{numbers}
+use Rattle.system_model.specs.Ports.{port_numbers}
 use Rattle.system_model.specs.Sound.{IsSound}
 use Rattle.port_orders.specs.Outcome.{HasOrders, unordered}
 use Rattle.ssd_tree.specs.declared.tree.SystemTree.{SystemTree}
@@ -113,7 +113,7 @@ module _ (t : SystemTree) (shapes : List Shape) (components : List Component) (p
     | inl first ↦ absurd (none_sound number (ViolatesFlattening t shapes) node rule first.1 fitting)
     | inr loop ↦
         let same = same_parts t shapes loop.1.system wanted given loop.1.flat is.flat in
-        absurd (no_loop loop.1.system wanted same.0 same.1 is.orders (numbers nodes) loop.1.loop)
+        absurd (no_loop loop.1.system wanted same.0 same.1 is.orders (port_numbers nodes) loop.1.loop)
   ]
 
 pub all_sound : (t : SystemTree) (shapes : List Shape) → IsWholeTree t → AreShapesOf t shapes → IsFitting t shapes → (r : Result System Refusal) → IfOk r (Flattens t shapes) → IfOk r IsSound

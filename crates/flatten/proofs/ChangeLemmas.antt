@@ -54,7 +54,7 @@ module _ (t : SystemTree) (shapes : List Shape) (points : List paths.Point) (sou
   -- what is led to on both sides
   pub record StandsBetween (k : Connection) (change : Change) : Type 0 where
     pub before : IsLedTo t shapes (IsOutputAt t shapes) k.start
-    pub behind : IsLedTo (turned t) shapes (IsInputBeside (class_for change) t shapes) k.end
+    pub after : IsLedTo (turned t) shapes (IsInputBeside (class_for change) t shapes) k.end
 
   pub between : (k : Connection) (change : Change) → k.change ≡ Some change → HasOtherChange t shapes k → StandsBetween k change
   between k change has h =
@@ -62,7 +62,7 @@ module _ (t : SystemTree) (shapes : List Shape) (points : List paths.Point) (sou
       let input : Variable = h.2.0 in
       let b : IsBefore t shapes k input = h.2.1 in
       let other = beside change (class_at input) (subst (λ (z : Change). Suits z (class_at input) → ⊥) same h.2.2) in
-      let c = start_connector t shapes b.p b.s k.start b.is.start b.upto in
+      let c = start_connector t shapes b.p b.s k.start b.is.start b.up_to in
       let d = start_connector (turned t) shapes b.q b.e k.end b.is.end (up_from_on t shapes b.q b.e b.on) in
       let output_named = names_variable t shapes points sound are Output c.0 b.p b.output c.1 b.from in
       let input_named = names_variable t shapes points sound are Input d.0 b.q input d.1 b.to in
@@ -74,9 +74,9 @@ module _ (t : SystemTree) (shapes : List Shape) (points : List paths.Point) (sou
           is_start = subst (λ (o : Option Variable). IsSomeAnd o (λ (x : Variable). (x.causality ≡ Output) × Unit {0})) (sym output_named) (b.from.1, tt);
           stands = c.1;
           there = b.is.start;
-          leads = b.upto;
+          leads = b.up_to;
         };
-        behind = record {
+        after = record {
           start = d.0;
           from = b.q;
           to = b.e;
@@ -90,7 +90,7 @@ module _ (t : SystemTree) (shapes : List Shape) (points : List paths.Point) (sou
   pub has_other : (k : Connection) (change : Change) → k.change ≡ Some change → Contains t.connections k → StandsBetween k change → HasOtherChange t shapes k
   has_other k change has among w =
       let x = some_and (λ (v : Variable). (v.causality ≡ Output) × Unit {0}) (variable_of t shapes w.before.start) w.before.is_start in
-      let y = some_and (λ (v : Variable). (v.causality ≡ Input) × (class_at v ≢ Some (class_for change))) (variable_of t shapes w.behind.start) w.behind.is_start in (
+      let y = some_and (λ (v : Variable). (v.causality ≡ Input) × (class_at v ≢ Some (class_for change))) (variable_of t shapes w.after.start) w.after.is_start in (
         change,
         has,
         (
@@ -99,25 +99,25 @@ module _ (t : SystemTree) (shapes : List Shape) (points : List paths.Point) (sou
             output = x.0;
             p = w.before.from;
             s = w.before.to;
-            e = w.behind.to;
-            q = w.behind.from;
+            e = w.after.to;
+            q = w.after.from;
             from = variable_here t shapes points sound are Output w.before.start w.before.from x.0 w.before.stands x.1 x.2.0;
-            upto = w.before.leads;
-            is = record { is = among; start = w.before.there; end = w.behind.there };
-            on = on_from_up t shapes w.behind.from w.behind.to w.behind.leads;
-            to = variable_here t shapes points sound are Input w.behind.start w.behind.from y.0 w.behind.stands y.1 y.2.0;
+            up_to = w.before.leads;
+            is = record { is = among; start = w.before.there; end = w.after.there };
+            on = on_from_up t shapes w.after.from w.after.to w.after.leads;
+            to = variable_here t shapes points sound are Input w.after.start w.after.from y.0 w.after.stands y.1 y.2.0;
           },
           unsuited change (class_at y.0) y.2.1,
         ),
       )
 
   -- what the marks tell of a connection with a transformation
-  pub told : (e : Connection) (change : Change) → e.change ≡ Some change → Contains t.connections e → (fed behind : List Bool) → AreLedTo t shapes (IsOutputAt t shapes) fed →
-      AreLedTo (turned t) shapes (IsInputBeside (class_for change) t shapes) behind → e.start < length t.connectors → e.end < length t.connectors → IsMarked fed e.start → (b : Bool) → get_or behind e.end false ≡ b →
+  pub told : (e : Connection) (change : Change) → e.change ≡ Some change → Contains t.connections e → (fed after : List Bool) → AreLedTo t shapes (IsOutputAt t shapes) fed →
+      AreLedTo (turned t) shapes (IsInputBeside (class_for change) t shapes) after → e.start < length t.connectors → e.end < length t.connectors → IsMarked fed e.start → (b : Bool) → get_or after e.end false ≡ b →
       (b ≡ true) ↔ HasOtherChange t shapes e
-  told e change has among fed behind led on start end marked b is = (
-    λ h. has_other e change has among (record { before = (led.each e.start start).0 marked; behind = (on.each e.end end).0 (is ∙ h) }),
-    λ h. sym is ∙ (on.each e.end end).1 (between e change has h).behind,
+  told e change has among fed after led on start end marked b is = (
+    λ h. has_other e change has among (record { before = (led.each e.start start).0 marked; after = (on.each e.end end).0 (is ∙ h) }),
+    λ h. sym is ∙ (on.each e.end end).1 (between e change has h).after,
   )
 
   -- and of one to where no output leads

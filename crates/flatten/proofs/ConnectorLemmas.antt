@@ -39,8 +39,8 @@ module _ (t : SystemTree) (shapes : List Shape) (points : List paths.Point) (are
       by : IsItself t shapes points c ⊎ IsNamed t shapes points c → slice_get (all_variables shapes) n ≡ variable_of t shapes c
       by (inl i) =
           let number : i.number ≡ Numbered n = same_Some i.number (Numbered n) (sym i.numbered ∙ there) in
-          let behind = ap (number_of (length (all_variables shapes))) number in
-          let past = i.behind in
+          let after = ap (number_of (length (all_variables shapes))) number in
+          let past = i.after in
           slice_get_past (all_variables shapes) n (omega arith) ∙ sym i.names
       by (inr m) =
           let same : Numbered (begin_of shapes m.component + m.place) ≡ Numbered n = same_Some (Numbered (begin_of shapes m.component + m.place)) (Numbered n) (sym m.numbered ∙ there) in

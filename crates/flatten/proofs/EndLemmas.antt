@@ -149,7 +149,7 @@ module _ (t : SystemTree) (shapes : List Shape) (points : List paths.Point) (sou
                 record {
                   from = r.from;
                   to = variable_here t shapes points sound are Input k.end r.q input r.ends x.0 x.1;
-                  upto = r.upto;
+                  up_to = r.up_to;
                   last = record { is = is; start = r.begins; end = r.ends };
                 },
                 r.broken,
@@ -162,14 +162,14 @@ module _ (t : SystemTree) (shapes : List Shape) (points : List paths.Point) (sou
   last_by : (Fault : PathFault) (k : Connection) (input : Variable) → Contains t.connections k → input_of t shapes k.end ≡ Some input → IsReachedBy Fault t shapes k.start input → IsLastOf Fault t shapes k
   last_by Fault k input is names r =
       let q = point_at t shapes k.end (end_within k is) in
-      last_at Fault k input is names (record { output = r.output; p = r.p; s = r.s; q = q.0; from = r.from; begins = r.begins; ends = q.1; upto = r.upto; broken = r.broken q.0 })
+      last_at Fault k input is names (record { output = r.output; p = r.p; s = r.s; q = q.0; from = r.from; begins = r.begins; ends = q.1; up_to = r.up_to; broken = r.broken q.0 })
 
   pub last_input : (Fault : PathFault) (k : Connection) → IsLastOf Fault t shapes k → (x : Variable) × (input_of t shapes k.end ≡ Some x) × IsReachedAt Fault t shapes k.start k.end x
   last_input Fault k h =
       let e = h.1.1.1.1.1 in (
         h.1.1.1.1.0,
         input_from t shapes k.end h.1.1.1.1.0 (names_variable t shapes points sound are Input k.end h.1.1.0 h.1.1.1.1.0 e.last.end e.to) e.to.1,
-        record { output = h.1.1.1.0; p = h.0; s = h.1.0; q = h.1.1.0; from = e.from; begins = e.last.start; ends = e.last.end; upto = e.upto; broken = h.1.1.1.1.2 },
+        record { output = h.1.1.1.0; p = h.0; s = h.1.0; q = h.1.1.0; from = e.from; begins = e.last.start; ends = e.last.end; up_to = e.up_to; broken = h.1.1.1.1.2 },
       )
 
   of_last : (Fault : PathFault) (k : Connection) (input : Variable) → input_of t shapes k.end ≡ Some input → IsLastOf Fault t shapes k → IsReachedAt Fault t shapes k.start k.end input
@@ -193,7 +193,7 @@ module _ (t : SystemTree) (shapes : List Shape) (points : List paths.Point) (sou
       (λ h. last_by Fault k input is named (by.0 h), λ h. by.1 (at_any (of_last Fault k input named h)))
     where
       at_any : IsReachedAt Fault t shapes k.start k.end input → IsReachedBy Fault t shapes k.start input
-      at_any r = record { output = r.output; p = r.p; s = r.s; from = r.from; begins = r.begins; upto = r.upto; broken = λ q. any r.p r.s r.q q r.output input r.broken }
+      at_any r = record { output = r.output; p = r.p; s = r.s; from = r.from; begins = r.begins; up_to = r.up_to; broken = λ q. any r.p r.s r.q q r.output input r.broken }
 
   -- a connection that ends at no input is the last of no path
   pub no_input : (Fault : PathFault) (ends : joints.Connection) → None ≡ input_of t shapes ends.end → (k : Connection) → ends ≡ ends_of k → IsLastOf Fault t shapes k → ⊥
@@ -208,7 +208,7 @@ module _ (t : SystemTree) (shapes : List Shape) (points : List paths.Point) (sou
     where
       by : IsItself t shapes points c ⊎ IsNamed t shapes points c → number_of (length (all_variables shapes)) p < length (all_variables shapes) + length points
       by (inl i) =
-          let b = i.behind in
+          let b = i.after in
           let n = are.len in
           let same = ap (number_of (length (all_variables shapes))) (same_Some p i.number (sym e ∙ i.numbered)) in
           omega (arith, b, n, same, l)

@@ -1,9 +1,8 @@
 -- What feeds an input: where no two connections have one end, the one output that is found.
-use Rattle.std.proofs.Common.{◌≡◌, ◌⊎◌, ℕ, zero, suc, ◌+◌, ◌<◌, ◌≤◌, List, [], ◌∷◌, length, set, replicate, Option, Some, None, refl, sym, ap, ◌∙◌, subst, inl, inr, arith}
+use Rattle.std.proofs.Common.{◌≡◌, ◌⊎◌, ℕ, ◌+◌, ◌<◌, ◌≤◌, List, length, Option, Some, None, refl, sym, ap, ◌∙◌, subst, inl, inr, arith}
 use Rattle.std.specs.List.{slice_get}
 use Rattle.std.specs.Option.{IsSomeAnd}
 use Rattle.std.proofs.lemmas.Bool.{cases_lt, cases_order}
-use Rattle.std.proofs.lemmas.List.{length-replicate}
 use Rattle.std.proofs.lemmas.Option.{slice_get_within, same_Some}
 use Rattle.sim_base.specs.declared.numbers.PortId.{PortId}
 use Rattle.value_types.specs.declared.shape.Causality.TheVariants.{Input, Output}
@@ -30,35 +29,6 @@ use Rattle.flatten.proofs.AloneLemmas.{one_path, output_alone}
 use Rattle.flatten.proofs.BridgeLemmas.{point_within}
 use Rattle.flatten.proofs.LastLemmas.{reaches_by}
 use Rattle.flatten.proofs.PathLemmas.{first_connector, last_joins, names_variable, variable_here}
-
--- ---- a list written at one place
-
-pub set_here : {A : Type 0} (xs : List A) (i : ℕ) (x : A) → i < length xs → slice_get (set xs i x) i ≡ Some x
-set_here [] i x l = absurd (omega arith)
-set_here (y ∷ ys) zero x l = refl
-set_here (y ∷ ys) (suc i) x l = set_here ys i x (omega arith)
-
-pub set_other : {A : Type 0} (xs : List A) (i j : ℕ) (x : A) → (j ≡ i → ⊥) → slice_get (set xs i x) j ≡ slice_get xs j
-set_other [] i j x apart = refl
-set_other (y ∷ ys) zero zero x apart = absurd (apart refl)
-set_other (y ∷ ys) zero (suc j) x apart = refl
-set_other (y ∷ ys) (suc i) zero x apart = refl
-set_other (y ∷ ys) (suc i) (suc j) x apart = set_other ys i j x (λ e. apart (ap suc e))
-
-pub length_set : {A : Type 0} (xs : List A) (i : ℕ) (x : A) → length (set xs i x) ≡ length xs
-length_set [] i x = refl
-length_set (y ∷ ys) zero x = refl
-length_set (y ∷ ys) (suc i) x = ap suc (length_set ys i x)
-
--- ---- inputs
-
--- an input is among the variables
-pub input_within : (f : FlatTree) (c n : ℕ) → IsIndexed f → IsInputWith f c n → n < length (all_variables f.shapes.now)
-input_within f c n indexed is = by (variable_of f.tree.now f.shapes.now c) refl is.1
-  where
-    by : (o : Option Variable) → variable_of f.tree.now f.shapes.now c ≡ o → IsSomeAnd o (λ (x : Variable). x.causality ≡ Input) → n < length (all_variables f.shapes.now)
-    by None e input = absurd input
-    by (Some x) e input = slice_get_within (all_variables f.shapes.now) n x (variable_numbered f.tree.now f.shapes.now f.points.items indexed.points c n is.0 ∙ e)
 
 -- ---- the numbers of points
 
@@ -112,21 +82,14 @@ module _ (t : SystemTree) (shapes : List Shape) (points : List paths.Point) (sou
 -- ---- one connector after another
 
 -- the feeds that the connectors so far give
-pub record AreFedBelow (f : FlatTree) (numbers : List (Option PortId)) (i : ℕ) (feeds : List (Option Feed)) : Type 0 where
-  pub len : length feeds ≡ length (all_variables f.shapes.now)
-  pub noted : (c n : ℕ) (g : Feed) → c < i → IsInputWith f c n → FeedsFrom f numbers c g → (h : Feed) × (slice_get feeds n ≡ Some (Some h))
-  pub told : (n : ℕ) (g : Feed) → slice_get feeds n ≡ Some (Some g) → (c : ℕ) × (c < i) × IsInputWith f c n × FeedsFrom f numbers c g
+pub record AreFedBelow (f : FlatTree) (numbers : List (Option PortId)) (i : ℕ) (feeds : ℕ → Option Feed) : Type 0 where
+  pub noted : (c n : ℕ) (g : Feed) → c < i → IsInputWith f c n → FeedsFrom f numbers c g → (h : Feed) × (feeds n ≡ Some h)
+  pub told : (n : ℕ) (g : Feed) → feeds n ≡ Some g → (c : ℕ) × (c < i) × IsInputWith f c n × FeedsFrom f numbers c g
 
-none_fed : (k n : ℕ) (g : Feed) → slice_get (replicate k None) n ≡ Some (Some g) → ⊥
-none_fed zero n g e = cc
-none_fed (suc k) zero g e = cc
-none_fed (suc k) (suc n) g e = none_fed k n g e
-
-pub fed_none : (f : FlatTree) (numbers : List (Option PortId)) (k : ℕ) (feeds : List (Option Feed)) → feeds ≡ replicate k None → k ≡ length (all_variables f.shapes.now) → AreFedBelow f numbers 0 feeds
-fed_none f numbers k feeds is len = record {
-  len = ap length is ∙ length-replicate k None ∙ len;
+pub fed_none : (f : FlatTree) (numbers : List (Option PortId)) (feeds : ℕ → Option Feed) → ((n : ℕ) → feeds n ≡ None) → AreFedBelow f numbers 0 feeds
+fed_none f numbers feeds none = record {
   noted = λ c n g less. absurd (omega arith);
-  told = λ n g e. absurd (none_fed k n g (ap (λ z. slice_get z n) (sym is) ∙ e));
+  told = λ n g e. absurd (let un : None ≡ Some g = sym (none n) ∙ e in cc);
 }
 
 earlier_or_here : (c i : ℕ) → c < i + 1 → (c < i) ⊎ (c ≡ i)
@@ -148,22 +111,21 @@ one_input : (f : FlatTree) (c m n : ℕ) → IsInputWith f c m → IsInputWith f
 one_input f c m n a b = let same : Numbered m ≡ Numbered n = same_Some (Numbered m) (Numbered n) (sym a.0 ∙ b.0) in cc
 
 -- the next connector is fed
-pub fed_more : (f : FlatTree) (numbers : List (Option PortId)) (i n : ℕ) (feed : Feed) (old new : List (Option Feed)) → IsInputWith f i n → FeedsFrom f numbers i feed → length new ≡ length old
-    → slice_get new n ≡ Some (Some feed) → ((m : ℕ) → (m ≡ n → ⊥) → slice_get new m ≡ slice_get old m) → AreFedBelow f numbers i old → AreFedBelow f numbers (i + 1) new
-fed_more f numbers i n feed old new input from len here only fed = record {
-  len = len ∙ fed.len;
+pub fed_more : (f : FlatTree) (numbers : List (Option PortId)) (i n : ℕ) (feed : Feed) (old new : ℕ → Option Feed) → IsInputWith f i n → FeedsFrom f numbers i feed
+    → new n ≡ Some feed → ((m : ℕ) → (m ≡ n → ⊥) → new m ≡ old m) → AreFedBelow f numbers i old → AreFedBelow f numbers (i + 1) new
+fed_more f numbers i n feed old new input from here only fed = record {
   noted = λ c m g less is feeds. noted c m g (earlier_or_here c i less) is feeds (same_or_other m n);
   told = λ m g e. told m g e (same_or_other m n);
 }
   where
-    noted : (c m : ℕ) (g : Feed) → (c < i) ⊎ (c ≡ i) → IsInputWith f c m → FeedsFrom f numbers c g → (m ≡ n) ⊎ (m ≡ n → ⊥) → (h : Feed) × (slice_get new m ≡ Some (Some h))
-    noted c m g where_ is feeds (inl e) = (feed, ap (slice_get new) e ∙ here)
+    noted : (c m : ℕ) (g : Feed) → (c < i) ⊎ (c ≡ i) → IsInputWith f c m → FeedsFrom f numbers c g → (m ≡ n) ⊎ (m ≡ n → ⊥) → (h : Feed) × (new m ≡ Some h)
+    noted c m g where_ is feeds (inl e) = (feed, ap new e ∙ here)
     noted c m g (inl l) is feeds (inr apart) = let h = fed.noted c m g l is feeds in (h.0, only m apart ∙ h.1)
     noted c m g (inr e) is feeds (inr apart) = absurd (apart (one_input f i m n (subst (λ z. IsInputWith f z m) e is) input))
 
-    told : (m : ℕ) (g : Feed) → slice_get new m ≡ Some (Some g) → (m ≡ n) ⊎ (m ≡ n → ⊥) → (c : ℕ) × (c < i + 1) × IsInputWith f c m × FeedsFrom f numbers c g
+    told : (m : ℕ) (g : Feed) → new m ≡ Some g → (m ≡ n) ⊎ (m ≡ n → ⊥) → (c : ℕ) × (c < i + 1) × IsInputWith f c m × FeedsFrom f numbers c g
     told m g e (inl same) =
-        let is : feed ≡ g = same_Some feed g (same_Some (Some feed) (Some g) (sym here ∙ ap (slice_get new) (sym same) ∙ e)) in
+        let is : feed ≡ g = same_Some feed g (sym here ∙ ap new (sym same) ∙ e) in
         (i, omega arith, subst (IsInputWith f i) (sym same) input, subst (FeedsFrom f numbers i) is from)
     told m g e (inr apart) =
         let w = fed.told m g (sym (only m apart) ∙ e) in
@@ -171,14 +133,13 @@ fed_more f numbers i n feed old new input from len here only fed = record {
         (w.0, omega arith, w.2, w.3)
 
 -- it is none that is fed
-pub fed_past : (f : FlatTree) (numbers : List (Option PortId)) (i : ℕ) (feeds : List (Option Feed)) → ((n : ℕ) (g : Feed) → IsInputWith f i n → FeedsFrom f numbers i g → ⊥) → AreFedBelow f numbers i feeds → AreFedBelow f numbers (i + 1) feeds
+pub fed_past : (f : FlatTree) (numbers : List (Option PortId)) (i : ℕ) (feeds : ℕ → Option Feed) → ((n : ℕ) (g : Feed) → IsInputWith f i n → FeedsFrom f numbers i g → ⊥) → AreFedBelow f numbers i feeds → AreFedBelow f numbers (i + 1) feeds
 fed_past f numbers i feeds other fed = record {
-  len = fed.len;
   noted = λ c n g less is from. noted c n g is from (earlier_or_here c i less);
   told = λ n g e. let w = fed.told n g e in let l = w.1 in (w.0, omega arith, w.2, w.3);
 }
   where
-    noted : (c n : ℕ) (g : Feed) → IsInputWith f c n → FeedsFrom f numbers c g → (c < i) ⊎ (c ≡ i) → (h : Feed) × (slice_get feeds n ≡ Some (Some h))
+    noted : (c n : ℕ) (g : Feed) → IsInputWith f c n → FeedsFrom f numbers c g → (c < i) ⊎ (c ≡ i) → (h : Feed) × (feeds n ≡ Some h)
     noted c n g is from (inl l) = fed.noted c n g l is from
     noted c n g is from (inr e) = absurd (other n g (subst (λ z. IsInputWith f z n) e is) (subst (λ z. FeedsFrom f numbers z g) e from))
 
@@ -253,8 +214,8 @@ module _ (f : FlatTree) (numbers : List (Option PortId)) (indexed : IsIndexed f)
       let port : g.from ≡ h.from = same_Some g.from h.from (same_Some (Some g.from) (Some h.from) (sym a.port.2 ∙ ap (slice_get numbers) same ∙ b.port.2)) in
       same_feed g h port (a.makes ∙ ap changes_along paths ∙ sym b.makes)
 
-  module _ (feeds : List (Option Feed)) (i : ℕ) (whole : length f.tree.now.connectors ≤ i) (fed : AreFedBelow f numbers i feeds) where
-    told_at : (n : ℕ) (g : Feed) → slice_get feeds n ≡ Some (Some g) → IsTold f numbers n g
+  module _ (feeds : ℕ → Option Feed) (i : ℕ) (whole : length f.tree.now.connectors ≤ i) (fed : AreFedBelow f numbers i feeds) where
+    told_at : (n : ℕ) (g : Feed) → feeds n ≡ Some g → IsTold f numbers n g
     told_at n g e = let w = fed.told n g e in told_is w.0 n g w.2 w.3
 
     -- the port that is told is that of an output that feeds the input
@@ -299,7 +260,7 @@ module _ (f : FlatTree) (numbers : List (Option PortId)) (indexed : IsIndexed f)
           },
         )
 
-    feed_found : (m n : ℕ) (p q : Point) (g : Feed) → IsNumberOf f.shapes.now m p → IsNumberOf f.shapes.now n q → slice_get numbers m ≡ Some (Some g.from) → Feeds f.tree.now f.shapes.now p g.changes q → slice_get feeds n ≡ Some (Some g)
+    feed_found : (m n : ℕ) (p q : Point) (g : Feed) → IsNumberOf f.shapes.now m p → IsNumberOf f.shapes.now n q → slice_get numbers m ≡ Some (Some g.from) → Feeds f.tree.now f.shapes.now p g.changes q → feeds n ≡ Some g
     feed_found m n p q g number_p number_q there h =
         let last = last_joins f.tree.now f.shapes.now p q (reaches_by f.tree.now f.shapes.now p h.path q h.leads) in
         let c = last.2.0.end in
@@ -307,11 +268,10 @@ module _ (f : FlatTree) (numbers : List (Option PortId)) (indexed : IsIndexed f)
         let both = feeds_from m n p q g c number_p number_q there stands h in
         let within = point_within f.tree.now f.shapes.now c q stands in
         let some = fed.noted c n g (omega arith) both.0 both.1 in
-        some.1 ∙ ap (λ (z : Feed). Some (Some z)) (told_alone n some.0 g (told_at n some.0 some.1) (told_is c n g both.0 both.1))
+        some.1 ∙ ap Some (told_alone n some.0 g (told_at n some.0 some.1) (told_is c n g both.0 both.1))
 
     pub fed_whole : AreFeeds f.tree.now f.shapes.now numbers feeds
     fed_whole = record {
-      len = fed.len;
       each = λ m n p q g number_p number_q there. (
         λ e. told_feeds m n p q g number_p number_q there (told_at n g e),
         λ h. feed_found m n p q g number_p number_q there h,

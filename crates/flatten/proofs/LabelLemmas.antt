@@ -27,9 +27,9 @@ ahead [] ys k x is = absurd (none_some _ is)
 ahead (y ∷ xs) ys zero x is = is
 ahead (y ∷ xs) ys (suc k) x is = ahead xs ys k x is
 
-pub behind : {X : Type 0} (xs ys : List X) (k : ℕ) → slice_get (xs ++ ys) (length xs + k) ≡ slice_get ys k
-behind [] ys k = let e : 0 + k ≡ k = omega arith in ap (slice_get ys) e
-behind (x ∷ xs) ys k = let e : length (x ∷ xs) + k ≡ suc (length xs + k) = omega arith in ap (slice_get (x ∷ (xs ++ ys))) e ∙ behind xs ys k
+pub after : {X : Type 0} (xs ys : List X) (k : ℕ) → slice_get (xs ++ ys) (length xs + k) ≡ slice_get ys k
+after [] ys k = let e : 0 + k ≡ k = omega arith in ap (slice_get ys) e
+after (x ∷ xs) ys k = let e : length (x ∷ xs) + k ≡ suc (length xs + k) = omega arith in ap (slice_get (x ∷ (xs ++ ys))) e ∙ after xs ys k
 
 pub count_append : {X : Type 0} (p : X → Bool) (xs ys : List X) → count_by p (xs ++ ys) ≡ count_by p xs + count_by p ys
 count_append p xs ys = sum_by-append (λ x. cond (p x) 1 0) xs ys
@@ -49,12 +49,12 @@ variable_at_number (z ∷ ss) zero s place x of there =
 variable_at_number (z ∷ ss) (suc c) s place x of there =
     let far : begin_of (z ∷ ss) (suc c) ≡ length z.variables + begin_of ss c = length-append z.variables (all_variables (take c ss)) in
     let e : begin_of (z ∷ ss) (suc c) + place ≡ length z.variables + (begin_of ss c + place) = omega (arith, far) in
-    ap (slice_get (all_variables (z ∷ ss))) e ∙ behind z.variables (all_variables ss) (begin_of ss c + place) ∙ variable_at_number ss c s place x of there
+    ap (slice_get (all_variables (z ∷ ss))) e ∙ after z.variables (all_variables ss) (begin_of ss c + place) ∙ variable_at_number ss c s place x of there
 
 pub element_there : {X : Type 0} (xs : List X) (n : ℕ) → n < length xs → (x : X) × (slice_get xs n ≡ Some x)
 element_there xs n within = elim (slice_get_cases xs n).1 [
   | inl there ↦ (there.0, there.2)
-  | inr past ↦ absurd (let behind : length xs ≤ n = past.0 in omega (arith, within, behind))
+  | inr past ↦ absurd (let after : length xs ≤ n = past.0 in omega (arith, within, after))
 ]
 
 -- the number of a variable is below that of all variables
@@ -189,7 +189,7 @@ label_at_number i (z ∷ ss) (suc c) s place x label of there named is =
     ap (λ n. slice_get (labels_in i (z ∷ ss)) (ports_before (z ∷ ss) n)) e
     ∙ ap (λ xs. slice_get (labels_in i (z ∷ ss)) (count_by is_port xs)) (take-append-add z.variables (all_variables ss) (begin_of ss c + place))
     ∙ ap (slice_get (labels_in i (z ∷ ss))) count
-    ∙ behind (filter_map (label_at i) z.variables) (labels_in (suc i) ss) (ports_before ss (begin_of ss c + place))
+    ∙ after (filter_map (label_at i) z.variables) (labels_in (suc i) ss) (ports_before ss (begin_of ss c + place))
     ∙ label_at_number (suc i) ss c s place x label of there (ap (λ k. label_at k x) (sym number) ∙ named) is
 
 -- ---- the same by components

@@ -14,7 +14,7 @@ module _ {A : Type 0} (Link : A → A → Type 0) (Through : A → Type 0) where
   -- the last link of a path, and the path up to it
   pub record HasLast (a b : A) : Type 0 where
     pub start : A
-    pub upto : (a ≡ start) ⊎ (Through start × Reaches Link Through a start)
+    pub up_to : (a ≡ start) ⊎ (Through start × Reaches Link Through a start)
     pub link : Link start b
 
   further : (a x s : A) → Link a x → Through x → (x ≡ s) ⊎ (Through s × Reaches Link Through x s) → Through s × Reaches Link Through a s
@@ -22,10 +22,10 @@ module _ {A : Type 0} (Link : A → A → Type 0) (Through : A → Type 0) where
   further a x s link at (inr more) = (more.0, record { between = x ∷ more.1.between; through = All-cons Through x more.1.between at more.1.through; leads = (link, more.1.leads) })
 
   last_link : (a : A) (xs : List A) (b : A) → All Through xs → Leads Link a xs b → HasLast a b
-  last_link a [] b all leads = record { start = a; upto = inl refl; link = leads }
+  last_link a [] b all leads = record { start = a; up_to = inl refl; link = leads }
   last_link a (x ∷ xs) b all leads =
       let more : HasLast x b = last_link x xs b (All-tail Through x xs all) leads.1 in
-      record { start = more.start; upto = inr (further a x more.start leads.0 (All-head Through x xs all) more.upto); link = more.link }
+      record { start = more.start; up_to = inr (further a x more.start leads.0 (All-head Through x xs all) more.up_to); link = more.link }
 
   pub last_of : (a b : A) → Reaches Link Through a b → HasLast a b
   last_of a b path = last_link a path.between b path.through path.leads
@@ -50,5 +50,5 @@ ends_at t shapes p changes q feeds =
     record {
       connection = last.link.0;
       start = last.start;
-      ends = record { from = feeds.from; to = feeds.to; upto = last.upto; last = last.link.1 };
+      ends = record { from = feeds.from; to = feeds.to; up_to = last.up_to; last = last.link.1 };
     }

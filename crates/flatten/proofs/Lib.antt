@@ -27,6 +27,7 @@ pub mod RuleLemmas
 pub mod SameLemmas
 pub mod SoundLemmas
 pub mod StandsLemmas
+pub mod TableLemmas
 pub mod TreeForLemmas
 pub mod TurnedLemmas
 pub mod UnsavedLemmas

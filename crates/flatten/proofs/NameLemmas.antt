@@ -21,8 +21,21 @@ use Rattle.value_types.specs.declared.shape.Shape.{Shape}
 use Rattle.flatten.specs.declared.names.VariableNames.{VariableNames}
 use Rattle.flatten.specs.Indexed.{AreNames, LeadTo, place_by, place_for, place_if, wanted_at, wanted_by, with_places}
 use Rattle.flatten.specs.Points.{has_name}
-use Rattle.flatten.proofs.FeedLemmas.{set_here, set_other}
 use Rattle.flatten.proofs.PieceLemmas.{element_at, get_left, get_right}
+
+-- ---- a list written at one place
+
+set_here : {A : Type 0} (xs : List A) (i : ℕ) (x : A) → i < length xs → slice_get (set xs i x) i ≡ Some x
+set_here [] i x l = absurd (omega arith)
+set_here (y ∷ ys) zero x l = refl
+set_here (y ∷ ys) (suc i) x l = set_here ys i x (omega arith)
+
+set_other : {A : Type 0} (xs : List A) (i j : ℕ) (x : A) → (j ≡ i → ⊥) → slice_get (set xs i x) j ≡ slice_get xs j
+set_other [] i j x apart = refl
+set_other (y ∷ ys) zero zero x apart = absurd (apart refl)
+set_other (y ∷ ys) zero (suc j) x apart = refl
+set_other (y ∷ ys) (suc i) zero x apart = refl
+set_other (y ∷ ys) (suc i) (suc j) x apart = set_other ys i j x (λ e. apart (ap suc e))
 
 -- ---- the names that connectors give
 

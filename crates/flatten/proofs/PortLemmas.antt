@@ -33,7 +33,7 @@ use Rattle.flatten.specs.Rules.{IsFitting}
 use Rattle.flatten.specs.Flat.{AreComponentsOf, HasFeeds, IsSourceWith, point_of_port}
 use Rattle.flatten.specs.Given.{AreShapesOf}
 use Rattle.flatten.specs.Indexed.{all_variables, begin_of}
-use Rattle.flatten.specs.Ports.{IsMade, IsNumberOf, IsPortOf, IsPortTable, IsPortUnder, labels_in}
+use Rattle.flatten.specs.Ports.{IsMade, IsNumberOf, IsPortOf, IsPortTable, IsPortUnder, labels_in, at_number}
 use Rattle.flatten.proofs.LabelLemmas.{Numbered, numbered, label_at_number, as_port, label_there, labels_by_components, length_labels, numbered_port, port_numbered, ports_before, shapes_apart, variable_at_number, element_there}
 use Rattle.flatten.proofs.LastLemmas.{ends_at}
 use Rattle.flatten.proofs.RoleLemmas.{some_at, some_of}
@@ -203,7 +203,7 @@ module _ (t : SystemTree) (shapes : List Shape) (table : PortTable) (ports : Lis
   fed_by p target feed at source =
       let m = made_at p target at in
       let n = begin_of shapes target.component.0 + m.0 in
-      let fed : slice_get table.feeds.items n ≡ Some (Some feed) = m.1.fed ∙ ap Some (source_feed m.1.shape m.1.variable m.1.feed target.role feed m.1.source source) in
+      let fed : at_number table.feeds n ≡ Some feed = m.1.fed ∙ source_feed m.1.shape m.1.variable m.1.feed target.role feed m.1.source source in
       let from = is.feeds.none n feed fed in
       let y = element_there (all_variables shapes) from.0 (omega (arith, slice_get_within table.numbers.items from.0 (Some feed.from) from.1, is.numbers.len)) in
       let is_number = numbered_port shapes from.0 y.0 feed.from (same_Some _ _ (sym (is.numbers.each from.0 y.0 y.1) ∙ from.1)) in
@@ -238,7 +238,7 @@ module _ (t : SystemTree) (shapes : List Shape) (table : PortTable) (ports : Lis
       let number : slice_get table.numbers.items k ≡ Some (Some feed.from) =
       is.numbers.each k o.1.variable there ∙ ap Some (port_numbered shapes k o.1.variable o.1.is) ∙ ap (λ (z : PortId). Some (Some z)) here in
       let fed = (is.feeds.each k n (point_of_port source.0) (point_of_port target) feed (number_of_port source.0 o.0 o.1) (number_of_port target m.0 m.1) number).1 feeds in
-      let feed_is : m.1.feed ≡ Some feed = same_Some _ _ (sym m.1.fed ∙ fed) in
+      let feed_is : m.1.feed ≡ Some feed = sym m.1.fed ∙ fed in
       let own : variable_at_point shapes (point_of_port target) ≡ Some m.1.variable =
       ap (option_and_then (λ (s : Shape). variable_at s.variables target.reference)) m.1.of ∙ own_variable target m.0 m.1 in
       let input : m.1.variable.causality ≡ c.Input = ap (λ (v : Variable). v.causality) (same_Some _ _ (sym own ∙ feeds.to.0)) ∙ feeds.to.1 in

@@ -13,12 +13,12 @@ module _ {A : Type 0} (Link : A → A → Type 0) (Through : A → Type 0) where
   pub reaches_at_once : (a b : A) → Link a b → Reaches Link Through a b
   reaches_at_once a b link = record { between = []; through = All-nil Through; leads = link }
 
-  reaches_behind : (a b c : A) → Link a b → Through b → Reaches Link Through b c → Reaches Link Through a c
-  reaches_behind a b c link through more = record { between = b ∷ more.between; through = All-cons Through b more.between through more.through; leads = (link, more.leads) }
+  reaches_after : (a b c : A) → Link a b → Through b → Reaches Link Through b c → Reaches Link Through a c
+  reaches_after a b c link through more = record { between = b ∷ more.between; through = All-cons Through b more.between through more.through; leads = (link, more.leads) }
 
   joined : (a : A) (xs : List A) (b c : A) → All Through xs → Leads Link a xs b → Through b → Reaches Link Through b c → Reaches Link Through a c
-  joined a [] b c all leads through more = reaches_behind a b c leads through more
-  joined a (x ∷ xs) b c all leads through more = reaches_behind a x c leads.0 (All-head Through x xs all) (joined x xs b c (All-tail Through x xs all) leads.1 through more)
+  joined a [] b c all leads through more = reaches_after a b c leads through more
+  joined a (x ∷ xs) b c all leads through more = reaches_after a x c leads.0 (All-head Through x xs all) (joined x xs b c (All-tail Through x xs all) leads.1 through more)
 
   -- a path to a point that paths pass, and one from there
   pub reaches_on : (a b c : A) → Reaches Link Through a b → Through b → Reaches Link Through b c → Reaches Link Through a c
@@ -75,7 +75,7 @@ module _ {A B : Type 0} (Ends : ℕ → ℕ → Type 0) (at : ℕ → Option A) 
       let s = apart a x leads.0 in
       let r = there s.end x s.to in
       let rest = carried x xs b s.end d r.0 q (All-tail Through x xs all) leads.1 s.to eb r.1 eq in
-      reaches_behind Link' Through' p r.0 q (one_link a x c s.end p r.0 leads.0 ea s.to ep r.1) (through s.end x r.0 s.to r.1 (All-head Through x xs all)) rest
+      reaches_after Link' Through' p r.0 q (one_link a x c s.end p r.0 leads.0 ea s.to ep r.1) (through s.end x r.0 s.to r.1 (All-head Through x xs all)) rest
 
   pub reaches_carried : (c d : ℕ) (a b : A) (p q : B) → at c ≡ Some a → at d ≡ Some b → at' c ≡ Some p → at' d ≡ Some q → Reaches Link Through a b → Reaches Link' Through' p q
   reaches_carried c d a b p q ea eb ep eq r = carried a r.between b c d p q r.through r.leads ea eb ep eq

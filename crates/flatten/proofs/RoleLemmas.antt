@@ -42,7 +42,7 @@ timed_among shape (z ∷ zs) cs zero x distinct zip is clock =
         subst (λ b. IsSomeAnd (if b then Some u else timing_at us x.reference) (IsSoundClock shape x)) (sym (eq-eqb u.reference x.reference sound.reference)) sound
 timed_among shape (z ∷ zs) cs (suc k) x distinct zip is clock =
     (elim (is_clock z) as (λ b. is_clock z ≡ b → AllZip (IsSoundClock shape) (cond b (z ∷ filter is_clock zs) (filter is_clock zs)) cs → IsSomeAnd (timing_at cs x.reference) (IsSoundClock shape x)) [
-      | true ↦ λ t. behind (λ us zipped. timed_among shape zs us k x (IsDistinct-tail nat_eq z.reference (map (λ (y : Variable). y.reference) zs) distinct) zipped is clock) cs
+      | true ↦ λ t. after (λ us zipped. timed_among shape zs us k x (IsDistinct-tail nat_eq z.reference (map (λ (y : Variable). y.reference) zs) distinct) zipped is clock) cs
       | false ↦ λ t zipped. timed_among shape zs cs k x (IsDistinct-tail nat_eq z.reference (map (λ (y : Variable). y.reference) zs) distinct) zipped is clock
     ]) refl zip
   where
@@ -52,10 +52,10 @@ timed_among shape (z ∷ zs) cs (suc k) x distinct zip is clock =
         absurd (absent_from (λ (y : Variable). y.reference) z.reference zs (IsDistinct-head nat_eq z.reference (map (λ (y : Variable). y.reference) zs) distinct) k x is (sym sound.reference ∙ eqb-true u.reference x.reference e))
     other u sound us more false e = more
 
-    behind : ((us : List ClockTiming) → AllZip (IsSoundClock shape) (filter is_clock zs) us → IsSomeAnd (timing_at us x.reference) (IsSoundClock shape x)) → (us : List ClockTiming)
+    after : ((us : List ClockTiming) → AllZip (IsSoundClock shape) (filter is_clock zs) us → IsSomeAnd (timing_at us x.reference) (IsSoundClock shape x)) → (us : List ClockTiming)
         → AllZip (IsSoundClock shape) (z ∷ filter is_clock zs) us → IsSomeAnd (timing_at us x.reference) (IsSoundClock shape x)
-    behind more [] zipped = absurd zipped
-    behind more (u ∷ us) zipped = other u zipped.0 us (more us zipped.1) (u.reference == x.reference) refl
+    after more [] zipped = absurd zipped
+    after more (u ∷ us) zipped = other u zipped.0 us (more us zipped.1) (u.reference == x.reference) refl
 
 -- a Clock of a sound shape has its timing under its reference
 pub timed : (shape : Shape) (x : Variable) → IsSoundShape shape → Contains shape.variables x → is_clock x ≡ true → IsSomeAnd (timing_at shape.clocks x.reference) (IsSoundClock shape x)

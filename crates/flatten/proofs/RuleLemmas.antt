@@ -140,16 +140,16 @@ module _ (t : SystemTree) (shapes : List Shape) (points : List paths.Point) (sou
     from : IsVariable shapes Output p output
     has : R output
     there : point_of t shapes c ≡ Some s
-    upto : LeadsUpTo t shapes p s
+    up_to : LeadsUpTo t shapes p s
 
   source_of : (R : Variable → Type 0) (c : ℕ) → IsLedTo t shapes (NamesOutput R t shapes) c → Source R c
   source_of R c l =
       let x = some_and (λ (v : Variable). (v.causality ≡ Output) × R v) (variable_of t shapes l.start) l.is_start in
-      record { output = x.0; p = l.from; s = l.to; from = variable_here t shapes points sound are Output l.start l.from x.0 l.stands x.1 x.2.0; has = x.2.1; there = l.there; upto = l.leads }
+      record { output = x.0; p = l.from; s = l.to; from = variable_here t shapes points sound are Output l.start l.from x.0 l.stands x.1 x.2.0; has = x.2.1; there = l.there; up_to = l.leads }
 
   led_by : (R : Variable → Type 0) (c : ℕ) → Source R c → IsLedTo t shapes (NamesOutput R t shapes) c
   led_by R c o =
-      let d = start_connector t shapes o.p o.s c o.there o.upto in
+      let d = start_connector t shapes o.p o.s c o.there o.up_to in
       let names = names_variable t shapes points sound are Output d.0 o.p o.output d.1 o.from in
       record {
         start = d.0;
@@ -158,7 +158,7 @@ module _ (t : SystemTree) (shapes : List Shape) (points : List paths.Point) (sou
         is_start = subst (λ z. IsSomeAnd z (λ (v : Variable). (v.causality ≡ Output) × R v)) (sym names) (o.from.1, o.has);
         stands = d.1;
         there = o.there;
-        leads = o.upto;
+        leads = o.up_to;
       }
 
   -- ---- another class
@@ -169,13 +169,13 @@ module _ (t : SystemTree) (shapes : List Shape) (points : List paths.Point) (sou
       by : IsOfClass t shapes class l.start → IsReachedBy (IsOtherClass t shapes) t shapes c input
       by (inl names) =
           let o = source_of (λ x. class_at x ≡ class) c (record { start = l.start; from = l.from; to = l.to; is_start = names; stands = l.stands; there = l.there; leads = l.leads }) in
-          record { output = o.output; p = o.p; s = o.s; from = o.from; begins = o.there; upto = o.upto; broken = λ q. inr (inl (λ e. other (sym o.has ∙ e))) }
+          record { output = o.output; p = o.p; s = o.s; from = o.from; begins = o.there; up_to = o.up_to; broken = λ q. inr (inl (λ e. other (sym o.has ∙ e))) }
       by (inr passes) =
           let o = source_of (λ x. Unit {0}) l.start passes.0 in
           let k = some_and (λ (z : Connector). IsSomeAnd z.child (λ (type : TypeChild). child_class type ≡ class)) (slice_get t.connectors l.start) passes.1.1 in
           let here : l.from ≡ Itself l.start = itself_there t shapes points sound are l.start l.from l.stands passes.1.0 in
           let end : o.s ≡ Itself l.start = itself_there t shapes points sound are l.start o.s o.there passes.1.0 in
-          let leads : Leads t shapes o.p (Itself l.start) = led_on o.p (Itself l.start) o.output o.from passes.1.0 (subst (LeadsUpTo t shapes o.p) end o.upto) in
+          let leads : Leads t shapes o.p (Itself l.start) = led_on o.p (Itself l.start) o.output o.from passes.1.0 (subst (LeadsUpTo t shapes o.p) end o.up_to) in
           let on : LeadsUpTo t shapes (Itself l.start) l.to = subst (λ z. LeadsUpTo t shapes z l.to) here l.leads in
           record {
             output = o.output;
@@ -183,7 +183,7 @@ module _ (t : SystemTree) (shapes : List Shape) (points : List paths.Point) (sou
             s = l.to;
             from = o.from;
             begins = l.there;
-            upto = leads_up_on t shapes o.p (Itself l.start) l.to leads passes.1.0 on;
+            up_to = leads_up_on t shapes o.p (Itself l.start) l.to leads passes.1.0 on;
             broken = λ q. inr (inr (l.start, (k.0, (passes.1.0, leads, on), k.1, other_gives (class_at input) class k.0.child k.2 other)));
           }
         where
@@ -200,9 +200,9 @@ module _ (t : SystemTree) (shapes : List Shape) (points : List paths.Point) (sou
   class_marked c input r = by (r.broken r.s)
     where
       by : IsOtherClass t shapes r.p r.s r.s r.output input → IsMarkedOther c input
-      by (inl foreign) = inl (foreign, led_by (λ x. Unit {0}) c (record { output = r.output; p = r.p; s = r.s; from = r.from; has = tt; there = r.begins; upto = r.upto }))
+      by (inl ignored) = inl (ignored, led_by (λ x. Unit {0}) c (record { output = r.output; p = r.p; s = r.s; from = r.from; has = tt; there = r.begins; up_to = r.up_to }))
       by (inr (inl other)) =
-          let l = led_by (λ x. class_at x ≡ class_at r.output) c (record { output = r.output; p = r.p; s = r.s; from = r.from; has = refl; there = r.begins; upto = r.upto }) in
+          let l = led_by (λ x. class_at x ≡ class_at r.output) c (record { output = r.output; p = r.p; s = r.s; from = r.from; has = refl; there = r.begins; up_to = r.up_to }) in
           inr (class_at r.output, other, started_as t shapes points sound are (NamesOutput (λ x. class_at x ≡ class_at r.output) t shapes) (IsOfClass t shapes (class_at r.output)) c (λ s w h. inl h) l)
       by (inr (inr h)) =
           let d = h.0 in
@@ -211,7 +211,7 @@ module _ (t : SystemTree) (shapes : List Shape) (points : List paths.Point) (sou
           let at = h.1.2 in
           let g = gives_class (class_at input) k.child h.1.3 in
           let e = point_here d k at on.0 in
-          let l = led_by (λ x. Unit {0}) d (record { output = r.output; p = r.p; s = Itself d; from = r.from; has = tt; there = e; upto = inr (on.0, on.1) }) in
+          let l = led_by (λ x. Unit {0}) d (record { output = r.output; p = r.p; s = Itself d; from = r.from; has = tt; there = e; up_to = inr (on.0, on.1) }) in
           inr (
             g.0,
             g.1,
@@ -245,7 +245,7 @@ module _ (t : SystemTree) (shapes : List Shape) (points : List paths.Point) (sou
 
   pub no_other_tells : (marks : List ClassMarks) (fed : List Bool) (c i : ℕ) (input : Variable) → c < length t.connectors → AllZip (AreClassMarks t shapes) CLASSES marks → AreLedTo t shapes (IsOutputAt t shapes) fed
       → (input.kind ≡ None → IsMarked fed c → ⊥) → length marks ≤ i → ((j : ℕ) (m : ClassMarks) → j < i → TellsOther c (class_at input) (get_or marks j m) → ⊥) → IsReachedBy (IsOtherClass t shapes) t shapes c input → ⊥
-  no_other_tells marks fed c i input w all are_fed foreign past none r = by (class_marked c input r)
+  no_other_tells marks fed c i input w all are_fed ignored past none r = by (class_marked c input r)
     where
       at_class : (class : Option Class) (j : ℕ) → j < 5 → get_or CLASSES j None ≡ class → class ≢ class_at input → IsLedTo t shapes (IsOfClass t shapes class) c → ⊥
       at_class class j b is other l =
@@ -255,13 +255,13 @@ module _ (t : SystemTree) (shapes : List Shape) (points : List paths.Point) (sou
           none j m.0 (omega (arith, n, b, past)) ((λ e. other (sym (a.0 ∙ is) ∙ e)), (a.1.each c w).1 (subst (λ z. IsLedTo t shapes (IsOfClass t shapes z) c) (sym is) l))
 
       by : IsMarkedOther c input → ⊥
-      by (inl h) = foreign h.0 ((are_fed.each c w).1 h.1)
+      by (inl h) = ignored h.0 ((are_fed.each c w).1 h.1)
       by (inr h) = let j = class_listed h.0 in at_class h.0 j.0 j.1 j.2 h.1 h.2
 
-  pub foreign_fed : (fed : List Bool) (c : ℕ) (input : Variable) → c < length t.connectors → AreLedTo t shapes (IsOutputAt t shapes) fed → input.kind ≡ None → IsMarked fed c → IsReachedBy (IsOtherClass t shapes) t shapes c input
-  foreign_fed fed c input w are_fed foreign marked =
+  pub ignored_fed : (fed : List Bool) (c : ℕ) (input : Variable) → c < length t.connectors → AreLedTo t shapes (IsOutputAt t shapes) fed → input.kind ≡ None → IsMarked fed c → IsReachedBy (IsOtherClass t shapes) t shapes c input
+  ignored_fed fed c input w are_fed ignored marked =
       let o = source_of (λ x. Unit {0}) c ((are_fed.each c w).0 marked) in
-      record { output = o.output; p = o.p; s = o.s; from = o.from; begins = o.there; upto = o.upto; broken = λ q. inl foreign }
+      record { output = o.output; p = o.p; s = o.s; from = o.from; begins = o.there; up_to = o.up_to; broken = λ q. inl ignored }
 
   -- ---- a range that is too wide
 
@@ -274,14 +274,14 @@ module _ (t : SystemTree) (shapes : List Shape) (points : List paths.Point) (sou
         s = o.s;
         from = o.from;
         begins = o.there;
-        upto = o.upto;
+        up_to = o.up_to;
         broken = λ q. subst (λ z. IsSomeAnd z (λ (from : PortType). IsSomeAnd input.kind (λ (to : PortType). types.Joins from to WrongRange))) (sym o.has) wide;
       }
 
   pub wide_marked : (c : ℕ) (input : Variable) → IsReachedBy IsTooWide t shapes c input → (kind : PortType) × IsSomeAnd input.kind (λ (to : PortType). types.Joins kind to WrongRange) × IsLedTo t shapes (IsOfType t shapes kind) c
   wide_marked c input r =
       let from = some_and (λ (from : PortType). IsSomeAnd input.kind (λ (to : PortType). types.Joins from to WrongRange)) r.output.kind (r.broken r.s) in
-      (from.0, from.2, led_by (λ x. x.kind ≡ Some from.0) c (record { output = r.output; p = r.p; s = r.s; from = r.from; has = from.1; there = r.begins; upto = r.upto }))
+      (from.0, from.2, led_by (λ x. x.kind ≡ Some from.0) c (record { output = r.output; p = r.p; s = r.s; from = r.from; has = from.1; there = r.begins; up_to = r.up_to }))
 
   pub wide_tells : (marks : List TypeMarks) (c i : ℕ) (m : TypeMarks) (input : Variable) → c < length t.connectors → AllZip (AreTypeMarks t shapes) INTEGER_TYPES marks → i < length marks → m ≡ get_or marks i m → TellsTooWide c input.kind m
       → IsReachedBy IsTooWide t shapes c input
@@ -337,14 +337,14 @@ module _ (t : SystemTree) (shapes : List Shape) (points : List paths.Point) (sou
         from = o.from;
         begins = o.there;
         ends = there;
-        upto = o.upto;
+        up_to = o.up_to;
         broken = subst (λ z. IsSomeAnd z (λ (x : Shape). IsTimed x input.reference)) (sym at) timed;
       }
 
   pub clock_marked : (start end i : ℕ) (shape : Shape) (input : Variable) → slice_get shapes i ≡ Some shape → point_of t shapes end ≡ Some (OfComponent i input.reference) → IsReachedAt (IsTimeBased shapes) t shapes start end input
       → IsLedTo t shapes (IsOutputAt t shapes) start × IsTimed shape input.reference
   clock_marked start end i shape input at there r = (
-    led_by (λ x. Unit {0}) start (record { output = r.output; p = r.p; s = r.s; from = r.from; has = tt; there = r.begins; upto = r.upto }),
+    led_by (λ x. Unit {0}) start (record { output = r.output; p = r.p; s = r.s; from = r.from; has = tt; there = r.begins; up_to = r.up_to }),
     subst (λ z. IsSomeAnd z (λ (x : Shape). IsTimed x input.reference)) at (subst (λ z. IsTimeBased shapes r.p r.s z r.output input) (same_Some r.q (OfComponent i input.reference) (sym r.ends ∙ there)) r.broken),
   )
 

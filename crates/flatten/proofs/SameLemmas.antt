@@ -27,7 +27,7 @@ use Rattle.system_model.specs.declared.system.Timing.{Timing}
 use Rattle.system_model.specs.declared.system.Timing.TheVariants.{Periodic, Answered, Countdown, Changing}
 use Rattle.system_model.specs.declared.system.System.{System}
 use Rattle.system_model.specs.Needs.{DependsOn, Needs, NeedsInitially, ByFeed, ByClock, ByDependency, InitiallyByFeed, InitiallyByDependency, is_unclocked_at}
-use Rattle.system_model.specs.Ports.{Label, label_of, labels_from, numbers, feed_of}
+use Rattle.system_model.specs.Ports.{Label, label_of, labels_from, port_numbers, feed_of}
 use Rattle.system_model.specs.Shapes.{is_described}
 use Rattle.system_model.specs.Sound.{IsRole, IsTiming, IsUnder}
 use Rattle.system_model.proofs.CallerLemmas.{true_false, labels_apart, Placed}
@@ -310,17 +310,17 @@ module _ (a b : System) (components_are : a.components ≡ b.components) (ports_
   pub no_loop : HasOrders b → (nodes : List ℕ) → HasLoop a nodes → ⊥
   no_loop orders nodes (OfInstants loop) =
       let o = orders.instant_order in
-      loop.no_order (numbers b.instant_order) (record {
+      loop.no_order (port_numbers b.instant_order) (record {
         each = λ p among. o.each p (subst (λ ps. p < length ps) ports_are among);
         only = λ p held. subst (λ ps. p < length ps) (sym ports_are) (o.only p held);
         once = o.once;
-        after = λ before behind p q e need. o.after before behind p q e (needs_moved p q need);
+        after = λ before later p q e need. o.after before later p q e (needs_moved p q need);
       })
   no_loop orders nodes (OfInitialization order is loop) =
       let o = orders.initial_order in
-      loop.no_order (numbers b.initial_order) (record {
+      loop.no_order (port_numbers b.initial_order) (record {
         each = λ p among. o.each p (unclocked_moved p among);
         only = λ p held. ap (λ ps. is_unclocked_at ps p) ports_are ∙ o.only p held;
         once = o.once;
-        after = λ before behind p q e need. o.after before behind p q e (initially_moved p q need);
+        after = λ before later p q e need. o.after before later p q e (initially_moved p q need);
       })

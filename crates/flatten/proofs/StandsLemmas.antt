@@ -95,7 +95,7 @@ pub record IsItself (t : SystemTree) (shapes : List Shape) (points : List paths.
   pub number : paths.Point
   pub point : point_of t shapes c ≡ Some (Itself c)
   pub numbered : slice_get points c ≡ Some number
-  pub behind : number_of (length (all_variables shapes)) number ≡ length (all_variables shapes) + c
+  pub after : number_of (length (all_variables shapes)) number ≡ length (all_variables shapes) + c
   pub system : numbers.IsOfSystem number ↔ IsOfSystem t (Itself c)
   pub names : variable_of t shapes c ≡ None
 
@@ -126,7 +126,7 @@ module _ (t : SystemTree) (shapes : List Shape) (points : List paths.Point) (are
         number = Numbered (length (all_variables shapes) + c);
         point = point ∙ ap (λ z. Some (point_for c (Component i) z)) named;
         numbered = number ∙ ap (λ z. Some (number_for shapes c (Component i) z)) here;
-        behind = refl;
+        after = refl;
         system = (λ h. absurd h, λ h. absurd (other h));
         names = variable ∙ named;
       })
@@ -162,7 +162,7 @@ module _ (t : SystemTree) (shapes : List Shape) (points : List paths.Point) (are
         number = Numbered (length (all_variables shapes) + c);
         point = point ∙ ap (λ z. Some (point_for c (Component i) z)) named;
         numbered = number ∙ ap (λ z. Some (number_for shapes c (Component i) z)) here;
-        behind = refl;
+        after = refl;
         system = (λ h. absurd h, λ h. absurd (other h));
         names = variable ∙ named;
       })
@@ -174,7 +174,7 @@ module _ (t : SystemTree) (shapes : List Shape) (points : List paths.Point) (are
     number = OfSystem c;
     point = point;
     numbered = number;
-    behind = refl;
+    after = refl;
     system = (λ h. subst (λ z. IsSomeAnd z (λ (z : Connector). is_of_system z.owner ≡ true)) (sym at) (ap is_of_system owner), λ h. tt);
     names = variable;
   })
@@ -206,20 +206,20 @@ module _ (t : SystemTree) (shapes : List Shape) (points : List paths.Point) (sou
   point_by_number c d p q (inl i) (inl j) ep eq same =
       let pi = ap (number_of N) (same_Some p i.number (sym ep ∙ i.numbered)) in
       let qj = ap (number_of N) (same_Some q j.number (sym eq ∙ j.numbered)) in
-      let b = i.behind in
-      let e = j.behind in
+      let b = i.after in
+      let e = j.after in
       let is : c ≡ d = omega (arith, pi, qj, same, b, e) in
       ap (point_of t shapes) is
   point_by_number c d p q (inl i) (inr m) ep eq same =
       let pi = ap (number_of N) (same_Some p i.number (sym ep ∙ i.numbered)) in
       let qm = ap (number_of N) (same_Some q (Numbered (begin_of shapes m.component + m.place)) (sym eq ∙ m.numbered)) in
-      let b = i.behind in
+      let b = i.after in
       let l = named_number d m in
       absurd (omega (arith, pi, qm, same, b, l))
   point_by_number c d p q (inr n) (inl j) ep eq same =
       let pn = ap (number_of N) (same_Some p (Numbered (begin_of shapes n.component + n.place)) (sym ep ∙ n.numbered)) in
       let qj = ap (number_of N) (same_Some q j.number (sym eq ∙ j.numbered)) in
-      let e = j.behind in
+      let e = j.after in
       let l = named_number c n in
       absurd (omega (arith, pn, qj, same, e, l))
   point_by_number c d p q (inr n) (inr m) ep eq same =

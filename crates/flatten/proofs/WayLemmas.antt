@@ -1,9 +1,9 @@
 -- The way back from where a path ends: where no two connections have one end, it is the path, and no connection stands on it twice.
-use Rattle.std.proofs.Common.{◌≡◌, ◌⊎◌, ◌↔◌, ℕ, zero, suc, ◌+◌, ◌-◌, ◌<◌, ◌≤◌, List, [], ◌∷◌, ◌++◌, length, drop, drop-cons, get_or, replicate, reverse, set, Option, Some, None, refl, sym, ap, ◌∙◌, subst, inl, inr, arith, append_assoc}
+use Rattle.std.proofs.Common.{◌≡◌, ◌⊎◌, ◌↔◌, ℕ, zero, suc, ◌+◌, ◌-◌, ◌<◌, ◌≤◌, List, [], ◌∷◌, ◌++◌, length, drop, drop-cons, get_or, reverse, Option, Some, None, refl, sym, ap, ◌∙◌, subst, inl, inr, arith, append_assoc}
 use Rattle.std.specs.List.{All, cons_option, filter_map, slice_get}
 use Rattle.std.specs.Option.{IsSomeAnd, option_and_then}
 use Rattle.std.proofs.lemmas.Bool.{cases_eq, cases_lt, cases_order}
-use Rattle.std.proofs.lemmas.List.{get_or-set_other, get_or-set_same, length-append, length-drop, length-map, length-set, reverse-append}
+use Rattle.std.proofs.lemmas.List.{length-append, length-drop, length-map, reverse-append}
 use Rattle.std.proofs.lemmas.List.Elements.{All-contains, filter_map-append}
 use Rattle.std.proofs.lemmas.Option.{slice_get-get_or, slice_get_within, same_Some}
 use Rattle.sim_base.specs.declared.numbers.PortId.{PortId}
@@ -38,21 +38,21 @@ use Rattle.flatten.proofs.PathLemmas.{itself_there, kind_of, names_variable, no_
 
 -- ---- numbers below one
 
-upto : ℕ → List ℕ
-upto zero = []
-upto (suc n) = n ∷ upto n
+up_to : ℕ → List ℕ
+up_to zero = []
+up_to (suc n) = n ∷ up_to n
 
-upto_len : (n : ℕ) → length (upto n) ≡ n
-unfolding upto
-upto_len zero = refl
-upto_len (suc n) = ap suc (upto_len n)
+up_to_len : (n : ℕ) → length (up_to n) ≡ n
+unfolding up_to
+up_to_len zero = refl
+up_to_len (suc n) = ap suc (up_to_len n)
 
-upto_has : (n x : ℕ) → x < n → (k : ℕ) × (slice_get (upto n) k ≡ Some x)
-unfolding upto
-upto_has zero x l = absurd (omega (arith, l))
-upto_has (suc n) x l = by (λ less. upto_has n x less) (cases_order x n)
+up_to_has : (n x : ℕ) → x < n → (k : ℕ) × (slice_get (up_to n) k ≡ Some x)
+unfolding up_to
+up_to_has zero x l = absurd (omega (arith, l))
+up_to_has (suc n) x l = by (λ less. up_to_has n x less) (cases_order x n)
   where
-    by : (x < n → (k : ℕ) × (slice_get (upto n) k ≡ Some x)) → (x ≡ n) ⊎ ((x < n) ⊎ (n < x)) → (k : ℕ) × (slice_get (n ∷ upto n) k ≡ Some x)
+    by : (x < n → (k : ℕ) × (slice_get (up_to n) k ≡ Some x)) → (x ≡ n) ⊎ ((x < n) ⊎ (n < x)) → (k : ℕ) × (slice_get (n ∷ up_to n) k ≡ Some x)
     by rest (inl e) = (zero, ap Some (sym e))
     by rest (inr (inl less)) = let w = rest less in (suc w.0, w.1)
     by rest (inr (inr more)) = absurd (omega (arith, l, more))
@@ -60,8 +60,8 @@ upto_has (suc n) x l = by (λ less. upto_has n x less) (cases_order x n)
 -- a list of numbers below another that has none twice is at most so long
 few_below : (n : ℕ) (is : List ℕ) → IsOnce is → ((j x : ℕ) → slice_get is j ≡ Some x → x < n) → length is ≤ n
 few_below n is once below =
-    let len = upto_len n in
-    let few : length is ≤ length (upto n) = no_longer is (upto n) once (λ x j at. upto_has n x (below j x at)) in
+    let len = up_to_len n in
+    let few : length is ≤ length (up_to n) = no_longer is (up_to n) once (λ x j at. up_to_has n x (below j x at)) in
     omega (arith, len, few)
 
 -- ---- a way back, and the path
@@ -74,10 +74,10 @@ module _ (t : SystemTree) (shapes : List Shape) where
   before_all p s q k (i ∷ (j ∷ js)) joins through h = (h.0, h.1, h.2, before_all p s h.0 k (j ∷ js) joins through h.3)
 
   -- one more after all others
-  behind_all : (p s q : Point) (ks : List Connection) (k : Connection) → LeadsBy t shapes p ks s → IsOfSystem t s → JoinsBy t shapes k s q → LeadsBy t shapes p (ks ++ k ∷ []) q
-  behind_all p s q [] k h through joins = absurd h
-  behind_all p s q (l ∷ []) k h through joins = (s, h, through, joins)
-  behind_all p s q (l ∷ (m ∷ ms)) k h through joins = (h.0, h.1, h.2, behind_all h.0 s q (m ∷ ms) k h.3 through joins)
+  after_all : (p s q : Point) (ks : List Connection) (k : Connection) → LeadsBy t shapes p ks s → IsOfSystem t s → JoinsBy t shapes k s q → LeadsBy t shapes p (ks ++ k ∷ []) q
+  after_all p s q [] k h through joins = absurd h
+  after_all p s q (l ∷ []) k h through joins = (s, h, through, joins)
+  after_all p s q (l ∷ (m ∷ ms)) k h through joins = (h.0, h.1, h.2, after_all h.0 s q (m ∷ ms) k h.3 through joins)
 
   joins_by : (i : ℕ) (p q : Point) (h : JoinsAt t shapes i p q) → JoinsBy t shapes h.connection p q
   joins_by i p q h = record { is = slice_contains t.connections i h.connection h.is; start = h.start; end = h.end }
@@ -114,7 +114,7 @@ module _ (t : SystemTree) (shapes : List Shape) where
       let k = h.1.connection in
       record {
         path = more.path ++ k ∷ [];
-        leads = behind_all p h.0 q more.path k more.leads h.2 (joins_by i h.0 q h.1);
+        leads = after_all p h.0 q more.path k more.leads h.2 (joins_by i h.0 q h.1);
         makes = ap (filter_map (change_at t)) (reverse-append (i ∷ []) (j ∷ js)) ∙ filter_map-append (change_at t) (reverse (j ∷ js)) (i ∷ [])
             ∙ ap (λ zs. zs ++ filter_map (change_at t) (i ∷ [])) more.makes ∙ ap (λ zs. changes_along more.path ++ zs) (one_change i k h.1.is)
             ∙ sym (filter_map-append (λ (z : Connection). z.change) more.path (k ∷ []));
@@ -322,15 +322,15 @@ module _ (t : SystemTree) (shapes : List Shape) (points : List paths.Point) (sou
 
 -- ---- the table of last connections
 
-module _ (f : FlatTree) (indexed : IsIndexed f) (last : List (Option ℕ)) (are : AreLast f last) where
+module _ (f : FlatTree) (indexed : IsIndexed f) (last : ℕ → Option ℕ) (are : AreLast f last) where
   count_is : length f.variables.all.items ≡ length (all_variables f.shapes.now)
   count_is = variables_len f.shapes.now f.variables indexed.variables
 
-  module _ (at n : ℕ) (here : Point) (stands : point_of f.tree.now f.shapes.now at ≡ Some here) (within : n < length last) (number : (p : paths.Point) → slice_get f.points.items at ≡ Some p → n ≡ number_of (length f.variables.all.items) p) where
+  module _ (at n : ℕ) (here : Point) (stands : point_of f.tree.now f.shapes.now at ≡ Some here) (number : (p : paths.Point) → slice_get f.points.items at ≡ Some p → n ≡ number_of (length f.variables.all.items) p) where
     -- the one that is found ends here
-    pub last_joins_here : (i : ℕ) → get_or last n None ≡ Some i → (s : Point) × JoinsAt f.tree.now f.shapes.now i s here
+    pub last_joins_here : (i : ℕ) → last n ≡ Some i → (s : Point) × JoinsAt f.tree.now f.shapes.now i s here
     last_joins_here i e =
-        let ends = (are.each n i within).0 e in
+        let ends = (are n i).0 e in
         let k = ends.0 in
         let both = ends_there_at k ends.1 in
         let there = point_at f.tree.now f.shapes.now k.end both.1 in
@@ -346,53 +346,44 @@ module _ (f : FlatTree) (indexed : IsIndexed f) (last : List (Option ℕ)) (are 
         ends_there_at k e = All-contains (λ (z : Connection). (z.start < length f.tree.now.connectors) × (z.end < length f.tree.now.connectors)) f.tree.now.connections k indexed.whole.ends (slice_contains f.tree.now.connections i k e)
 
     -- where none is found, none does
-    pub no_last_here : get_or last n None ≡ None → (i : ℕ) (s : Point) → JoinsAt f.tree.now f.shapes.now i s here → ⊥
+    pub no_last_here : last n ≡ None → (i : ℕ) (s : Point) → JoinsAt f.tree.now f.shapes.now i s here → ⊥
     no_last_here e i s joins =
         let p = number_at f.tree.now f.shapes.now f.points.items f.connections.items indexed.shapes indexed.points indexed.connections at here stands in
         let q : slice_get f.points.items joins.connection.end ≡ Some p.0 =
         same_number f.tree.now f.shapes.now f.points.items f.connections.items indexed.shapes indexed.points indexed.connections joins.connection.end at here joins.end stands ∙ p.1 in
-        let some : get_or last n None ≡ Some i = (are.each n i within).1 (joins.connection, joins.is, (p.0, q, sym (number p.0 p.1))) in
+        let some : last n ≡ Some i = (are n i).1 (joins.connection, joins.is, (p.0, q, sym (number p.0 p.1))) in
         let un : None ≡ Some i = sym e ∙ some in
         cc
 
 -- ---- the table of the first connections
 
-abbrev pub AreLastBelow : SystemTree → List paths.Point → ℕ → ℕ → List (Option ℕ) → Type 0
-AreLastBelow t points count i last =
-    (n j : ℕ) → n < length last → (get_or last n None ≡ Some j) ↔ ((j < i) × EndsWith t points count j n)
+abbrev pub AreLastBelow : SystemTree → List paths.Point → ℕ → ℕ → (ℕ → Option ℕ) → Type 0
+AreLastBelow t points count i last = (n j : ℕ) → (last n ≡ Some j) ↔ ((j < i) × EndsWith t points count j n)
 
-pub all_none : (n k : ℕ) → get_or {A = Option ℕ} (replicate n None) k None ≡ None
-all_none zero k = refl
-all_none (suc n) zero = refl
-all_none (suc n) (suc k) = all_none n k
-
-pub last_none : (t : SystemTree) (points : List paths.Point) (count : ℕ) (last : List (Option ℕ)) → ((n : ℕ) → get_or last n None ≡ None) → AreLastBelow t points count 0 last
-last_none t points count last none = λ n j l. (λ e. absurd (let un : None ≡ Some j = sym (none n) ∙ e in cc), λ h. let b = h.0 in absurd (omega (arith, b)))
+pub last_none : (t : SystemTree) (points : List paths.Point) (count : ℕ) (last : ℕ → Option ℕ) → ((n : ℕ) → last n ≡ None) → AreLastBelow t points count 0 last
+last_none t points count last none = λ n j. (λ e. absurd (let un : None ≡ Some j = sym (none n) ∙ e in cc), λ h. let b = h.0 in absurd (omega (arith, b)))
 
 -- one more, that ends where none before it does
-pub last_more : (t : SystemTree) (points : List paths.Point) (count i m : ℕ) (last : List (Option ℕ)) → m < length last → EndsWith t points count i m → ((j : ℕ) → j < i → EndsWith t points count j m → ⊥)
-    → AreLastBelow t points count i last → AreLastBelow t points count (i + 1) (set last m (Some i))
-last_more t points count i m last within ends alone was = λ n j l. (λ e. from n j l e (cases_eq n m), λ h. onto n j l h (cases_eq n m))
+pub last_more : (t : SystemTree) (points : List paths.Point) (count i m : ℕ) (last new : ℕ → Option ℕ) → EndsWith t points count i m → ((j : ℕ) → j < i → EndsWith t points count j m → ⊥)
+    → new m ≡ Some i → ((n : ℕ) → (n ≡ m → ⊥) → new n ≡ last n) → AreLastBelow t points count i last → AreLastBelow t points count (i + 1) new
+last_more t points count i m last new ends alone read only was = λ n j. (λ e. from n j e (cases_eq n m), λ h. onto n j h (cases_eq n m))
   where
-    room : (n : ℕ) → n < length (set last m (Some i)) → n < length last
-    room n l = let len = length-set last m (Some i) in omega (arith, l, len)
-
-    from : (n j : ℕ) → n < length (set last m (Some i)) → get_or (set last m (Some i)) n None ≡ Some j → (n ≡ m) ⊎ (n ≡ m → ⊥) → (j < i + 1) × EndsWith t points count j n
-    from n j l e (inl same) =
-        let here : i ≡ j = same_Some i j (sym (get_or-set_same last m (Some i) None within) ∙ ap (λ z. get_or (set last m (Some i)) z None) (sym same) ∙ e) in
+    from : (n j : ℕ) → new n ≡ Some j → (n ≡ m) ⊎ (n ≡ m → ⊥) → (j < i + 1) × EndsWith t points count j n
+    from n j e (inl same) =
+        let here : i ≡ j = same_Some i j (sym read ∙ ap new (sym same) ∙ e) in
         (omega (arith, here), subst (λ z. EndsWith t points count z n) here (subst (EndsWith t points count i) (sym same) ends))
-    from n j l e (inr other) = let w = (was n j (room n l)).0 (sym (get_or-set_other last m n (Some i) None other) ∙ e) in let b = w.0 in (omega (arith, b), w.1)
+    from n j e (inr other) = let w = (was n j).0 (sym (only n other) ∙ e) in let b = w.0 in (omega (arith, b), w.1)
 
-    onto : (n j : ℕ) → n < length (set last m (Some i)) → (j < i + 1) × EndsWith t points count j n → (n ≡ m) ⊎ (n ≡ m → ⊥) → get_or (set last m (Some i)) n None ≡ Some j
-    onto n j l h (inl same) = by (cases_lt j i)
+    onto : (n j : ℕ) → (j < i + 1) × EndsWith t points count j n → (n ≡ m) ⊎ (n ≡ m → ⊥) → new n ≡ Some j
+    onto n j h (inl same) = by (cases_lt j i)
       where
-        by : (j < i) ⊎ (i ≤ j) → get_or (set last m (Some i)) n None ≡ Some j
+        by : (j < i) ⊎ (i ≤ j) → new n ≡ Some j
         by (inl b) = absurd (alone j b (subst (EndsWith t points count j) same h.1))
         by (inr g) =
             let b = h.0 in
             let e : i ≡ j = omega (arith, b, g) in
-            ap (λ z. get_or (set last m (Some i)) z None) same ∙ get_or-set_same last m (Some i) None within ∙ ap Some e
-    onto n j l h (inr other) = get_or-set_other last m n (Some i) None other ∙ (was n j (room n l)).1 (before j (cases_lt j i) h)
+            ap new same ∙ read ∙ ap Some e
+    onto n j h (inr other) = only n other ∙ (was n j).1 (before j (cases_lt j i) h)
       where
         before : (j : ℕ) → (j < i) ⊎ (i ≤ j) → (j < i + 1) × EndsWith t points count j n → (j < i) × EndsWith t points count j n
         before j (inl b) h = (b, h.1)
@@ -418,15 +409,12 @@ last_alone f indexed fitting i n ends j less more =
     let repeats = ends_repeated t shapes f.points.items indexed.shapes indexed.points indexed.whole i n here (j, less, before) in
     fitting (Flattening EndTwice) ends.0.node (i, (ends.0, ends.1, refl, repeats))
 
-pub last_whole : (f : FlatTree) (last : List (Option ℕ)) (i : ℕ) → length f.tree.now.connections ≤ i → length last ≡ length f.variables.all.items + length f.points.items
+pub last_whole : (f : FlatTree) (last : ℕ → Option ℕ) (i : ℕ) → length f.tree.now.connections ≤ i
     → AreLastBelow f.tree.now f.points.items (length f.variables.all.items) i last → AreLast f last
-last_whole f last i whole len below = record {
-  len = len;
-  each = λ n j l. (
-    λ e. ((below n j l).0 e).1,
-    λ h. (below n j l).1 ((let w = slice_get_within f.tree.now.connections j h.0 h.1 in omega (arith, w, whole)), h),
-  );
-}
+last_whole f last i whole below = λ n j. (
+  λ e. ((below n j).0 e).1,
+  λ h. (below n j).1 ((let w = slice_get_within f.tree.now.connections j h.0 h.1 in omega (arith, w, whole)), h),
+)
 
 -- ---- what a way feeds
 
@@ -497,18 +485,18 @@ change_here t k c o at is = ap (λ (z : Option Change). cons_option z []) (ap (o
 
 -- ---- one step back
 
-module _ (f : FlatTree) (indexed : IsIndexed f) (last : List (Option ℕ)) (are : AreLast f last) (fitting : IsFitting f.tree.now f.shapes.now) (connector : ℕ) (back : List ℕ) (at : ℕ) (way : IsOnWay f.tree.now f.shapes.now connector back at)
-    (n : ℕ) (within : n < length last) (number : (p : paths.Point) → slice_get f.points.items at ≡ Some p → n ≡ number_of (length f.variables.all.items) p) where
+module _ (f : FlatTree) (indexed : IsIndexed f) (last : ℕ → Option ℕ) (are : AreLast f last) (fitting : IsFitting f.tree.now f.shapes.now) (connector : ℕ) (back : List ℕ) (at : ℕ) (way : IsOnWay f.tree.now f.shapes.now connector back at)
+    (n : ℕ) (number : (p : paths.Point) → slice_get f.points.items at ≡ Some p → n ≡ number_of (length f.variables.all.items) p) where
   -- no connection ends there
-  pub way_ended : get_or last n None ≡ None → HasNoWay f.tree.now f.shapes.now connector
+  pub way_ended : last n ≡ None → HasNoWay f.tree.now f.shapes.now connector
   way_ended none =
       way_ends f.tree.now f.shapes.now f.points.items indexed.shapes indexed.points fitting connector back at way
-      (no_last_here f indexed last are at n way.here way.stands within number none)
+      (no_last_here f indexed last are at n way.here way.stands number none)
 
   -- the one that does, and where it begins
-  module _ (i : ℕ) (found : get_or last n None ≡ Some i) where
+  module _ (i : ℕ) (found : last n ≡ Some i) where
     joined_here : (s : Point) × JoinsAt f.tree.now f.shapes.now i s way.here
-    joined_here = last_joins_here f indexed last are at n way.here way.stands within number i found
+    joined_here = last_joins_here f indexed last are at n way.here way.stands number i found
 
     pub step_within : i < length f.connections.items
     step_within =

@@ -8,7 +8,7 @@ use Rattle.doc_tree.specs.declared.refusal.Refusal.TheVariants.{At, Memory}
 use Rattle.doc_tree.specs.declared.rule.Rule.{Rule}
 use Rattle.doc_tree.specs.declared.rule.Rule.TheVariants.{Loop}
 use Rattle.system_model.specs.declared.system.System.{System}
-use Rattle.system_model.specs.Ports.{numbers}
+use Rattle.system_model.specs.Ports.{port_numbers}
 use Rattle.port_orders.specs.Outcome.{HasLoop}
 use Rattle.ssd_tree.specs.declared.tree.SystemPart.{SystemPart}
 use Rattle.ssd_tree.specs.declared.tree.SystemTree.{SystemTree}
@@ -27,7 +27,7 @@ pub record TellsLoop (t : SystemTree) (shapes : List Shape) (node : ℕ)
   pub fitting : IsFitting t shapes
   pub system : System
   pub flat : IsFlat t shapes system
-  pub loop : HasLoop system (numbers ports)
+  pub loop : HasLoop system (port_numbers ports)
   pub at : node ≡ root_node t
 
 -- the refusal is the first violation or tells a loop, unless memory ran out

@@ -79,7 +79,7 @@ pub record IsReachedAt (Fault : PathFault) (t : SystemTree) (shapes : List Shape
   pub from : IsVariable shapes Output p output
   pub begins : point_of t shapes start ≡ Some s
   pub ends : point_of t shapes end ≡ Some q
-  pub upto : LeadsUpTo t shapes p s
+  pub up_to : LeadsUpTo t shapes p s
   pub broken : Fault p s q output input
 
 -- the same of a fault for which it doesn't matter where the path ends
@@ -90,7 +90,7 @@ pub record IsReachedBy (Fault : PathFault) (t : SystemTree) (shapes : List Shape
   pub s : Point
   pub from : IsVariable shapes Output p output
   pub begins : point_of t shapes start ≡ Some s
-  pub upto : LeadsUpTo t shapes p s
+  pub up_to : LeadsUpTo t shapes p s
   pub broken : (q : Point) → Fault p s q output input
 
 -- ---- marks

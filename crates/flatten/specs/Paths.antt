@@ -57,7 +57,7 @@ pub record EndsBy (t : SystemTree) (shapes : List Shape) (k : Connection) (p s q
     (output input : Variable) : Type 0 where
   pub from : IsVariable shapes Output p output
   pub to : IsVariable shapes Input q input
-  pub upto : LeadsUpTo t shapes p s
+  pub up_to : LeadsUpTo t shapes p s
   pub last : JoinsBy t shapes k s q
 
 -- from where a connection ends a path leads on to an input: it is there, or it passes through
@@ -73,7 +73,7 @@ pub record IsBefore (t : SystemTree) (shapes : List Shape) (k : Connection)
   pub e : Point
   pub q : Point
   pub from : IsVariable shapes Output p output
-  pub upto : LeadsUpTo t shapes p s
+  pub up_to : LeadsUpTo t shapes p s
   pub is : JoinsBy t shapes k s e
   pub on : LeadsOnTo t shapes e q
   pub to : IsVariable shapes Input q input

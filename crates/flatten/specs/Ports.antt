@@ -2,6 +2,8 @@
 use Rattle.std.specs.Prelude.{◌≡◌, ◌↔◌, ℕ, suc, ◌+◌, true, List, [], ◌∷◌, ◌++◌, length, take, count_by, Option, Some, None, slice_get, if◌then◌else◌}
 use Rattle.std.specs.List.{AllZip, filter_map}
 use Rattle.std.specs.Option.{option_map_or}
+use Rattle.std.specs.Ordering.{nat_cmp}
+use Rattle.std.specs.BTreeMap.{BTreeMap, get}
 use Rattle.sim_base.specs.declared.numbers.PortId.{PortId}
 use Rattle.value_types.specs.declared.shape.Variable.{Variable}
 use Rattle.value_types.specs.declared.shape.Shape.{Shape}
@@ -39,19 +41,22 @@ pub record IsNumberOf (shapes : List Shape) (n : ℕ) (p : Point) : Type 0 where
   pub number : n ≡ begin_of shapes component + place
   pub point : p ≡ OfComponent component variable.reference
 
+-- what a table has under a number
+abbrev pub at_number : {X : Type 0} → BTreeMap ℕ X → ℕ → Option X
+at_number table n = get nat_cmp table n
+
 -- for each input just the port of the output that feeds it, with the changes of the path
 pub record AreFeeds (t : SystemTree) (shapes : List Shape) (numbers : List (Option PortId))
-    (feeds : List (Option Feed)) : Type 0 where
-  pub len : length feeds ≡ length (all_variables shapes)
+    (feeds : ℕ → Option Feed) : Type 0 where
   pub each : (m n : ℕ) (p q : Point) (f : Feed) → IsNumberOf shapes m p →
       IsNumberOf shapes n q → slice_get numbers m ≡ Some (Some f.from) →
-      (slice_get feeds n ≡ Some (Some f)) ↔ Feeds t shapes p f.changes q
-  pub none : (n : ℕ) (f : Feed) → slice_get feeds n ≡ Some (Some f) → (m : ℕ) ×
+      (feeds n ≡ Some f) ↔ Feeds t shapes p f.changes q
+  pub none : (n : ℕ) (f : Feed) → feeds n ≡ Some f → (m : ℕ) ×
       (slice_get numbers m ≡ Some (Some f.from))
 
 pub record IsPortTable (t : SystemTree) (shapes : List Shape) (table : PortTable) : Type 0 where
   pub numbers : ArePortNumbers shapes table.numbers.items
-  pub feeds : AreFeeds t shapes table.numbers.items table.feeds.items
+  pub feeds : AreFeeds t shapes table.numbers.items (at_number table.feeds)
 
 -- ---- ports
 
@@ -79,7 +84,7 @@ pub record IsPortOf (shapes : List Shape) (table : PortTable) (component place :
   pub kind : variable.kind ≡ Some port.kind
   pub reference : port.reference ≡ variable.reference
   pub role : IsRole shape variable port.role
-  pub fed : slice_get table.feeds.items (begin_of shapes component + place) ≡ Some feed
+  pub fed : at_number table.feeds (begin_of shapes component + place) ≡ feed
   pub source : IsSourceWith shape variable feed port.role
   pub clocks : AllZip (IsPortUnder shapes component) variable.clocks port.clocks
 

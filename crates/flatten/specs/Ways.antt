@@ -1,5 +1,5 @@
 -- The way of a path back from where it ends, connection by connection.
-use Rattle.std.specs.Prelude.{◌≡◌, ◌↔◌, ℕ, ◌+◌, ◌<◌, List, [], ◌∷◌, length, Option, Some, None, slice_get, slice_index_or, option_and_then}
+use Rattle.std.specs.Prelude.{◌≡◌, ◌↔◌, ℕ, List, [], ◌∷◌, length, Option, Some, None, slice_get, option_and_then}
 use Rattle.value_types.specs.declared.shape.Shape.{Shape}
 use Rattle.parameter_values.specs.declared.change.Change.{Change}
 use Rattle.connection_paths.specs.declared.point.Point as paths
@@ -23,10 +23,8 @@ EndsAtNumber f i n =
     (number_of (length f.variables.all.items) p ≡ n))
 
 -- by its number each point finds the connection that ends there
-pub record AreLast (f : FlatTree) (last : List (Option ℕ)) : Type 0 where
-  pub len : length last ≡ length f.variables.all.items + length f.points.items
-  pub each : (n i : ℕ) → n < length last →
-      (slice_index_or last n None ≡ Some i) ↔ EndsAtNumber f i n
+abbrev pub AreLast : FlatTree → (ℕ → Option ℕ) → Type 0
+AreLast f last = (n i : ℕ) → (last n ≡ Some i) ↔ EndsAtNumber f i n
 
 -- the i-th connection leads from the one point to the other
 pub record JoinsAt (t : SystemTree) (shapes : List Shape) (i : ℕ) (p q : Point) : Type 0 where

@@ -7,7 +7,7 @@ ghost use Rattle.value_types.specs.Shape.{is_port};
 ghost use Rattle.flatten.specs.Fed.{FindsFeed, HasPort, IsInputWith, number_in};
 ghost use Rattle.flatten.specs.Ways.{AreLast, FindsWay, change_at};
 ghost use Rattle.flatten.specs.Indexed.{IsIndexed, all_variables};
-ghost use Rattle.flatten.specs.Ports.{AreFeeds, ArePortNumbers};
+ghost use Rattle.flatten.specs.Ports.{AreFeeds, ArePortNumbers, at_number};
 ghost use Rattle.flatten.specs.Rules.{IsFitting};
 
 use crate::connectors::FlatTree;
@@ -15,6 +15,7 @@ use connection_paths::Point;
 use parameter_values::Change;
 use sim_base::{Items, PortId};
 use std::alloc::{AllocError, Global};
+use std::collections::BTreeMap;
 use system_model::Feed;
 use value_types::Causality;
 
@@ -83,16 +84,16 @@ impl<'a> FlatTree<'a> {
         }
     }
 
-    // For each point the connection that ends there; no two connections end at one point.
-    fn last_connections(&self, alloc: Global) -> Result<Vec<Option<usize>>, AllocError>
+    // For each point, by its number, the connection that ends there; no two connections end at one point.
+    fn last_connections(&self, alloc: Global) -> Result<BTreeMap<usize, usize>, AllocError>
         requires indexed { IsIndexed self.now }
         requires fitting { IsFitting self.now.tree.now self.now.shapes.now }
-        ensures { IfOk result (λ last. AreLast self.now last.items) }
+        ensures { IfOk result (λ last. AreLast self.now (at_number last)) }
     {
-        let mut last = vec![in alloc; None; self.variables.all.len() + self.points.len()]?;
+        let mut last = BTreeMap::new(alloc);
         for connection in 0..self.connections.len() {
             let point = self.point_number(self.connections[connection].end);
-            last[point] = Some(connection);
+            last.insert(point, connection)?;
         }
         Ok(last)
     }
@@ -102,19 +103,19 @@ impl<'a> FlatTree<'a> {
     fn way_to(
         &self,
         alloc: Global,
-        last: &[Option<usize>],
+        last: &BTreeMap<usize, usize>,
         connector: usize,
     ) -> Result<Option<Way>, AllocError>
         requires indexed { IsIndexed self.now }
         requires fitting { IsFitting self.now.tree.now self.now.shapes.now }
         requires connector { connector < length self.now.tree.now.connectors }
-        requires last { AreLast self.now last.now }
+        requires last { AreLast self.now (at_number last.now) }
         ensures { IfOk result (FindsWay self.now connector) }
     {
         let mut back = Vec::new(alloc);
         let mut at = connector;
         while back.len() < self.connections.len() {
-            let Some(connection) = last[self.point_number(at)] else {
+            let Some(connection) = last.get(&self.point_number(at)).copied() else {
                 return Ok(None);
             };
             back.push(connection)?;
@@ -151,13 +152,13 @@ impl<'a> FlatTree<'a> {
         &self,
         alloc: Global,
         numbers: &[Option<PortId>],
-        last: &[Option<usize>],
+        last: &BTreeMap<usize, usize>,
         connector: usize,
     ) -> Result<Option<Feed>, AllocError>
         requires indexed { IsIndexed self.now }
         requires fitting { IsFitting self.now.tree.now self.now.shapes.now }
         requires connector { connector < length self.now.tree.now.connectors }
-        requires last { AreLast self.now last.now }
+        requires last { AreLast self.now (at_number last.now) }
         ensures { IfOk result (FindsFeed self.now numbers.now connector) }
     {
         let Some(way) = self.way_to(alloc, last, connector)? else {
@@ -172,27 +173,24 @@ impl<'a> FlatTree<'a> {
         }))
     }
 
-    /// For each variable the port that feeds it.
+    /// For each variable that is fed, by its number, the port that feeds it.
     pub(crate) fn feeds(
         &self,
         alloc: Global,
         numbers: &[Option<PortId>],
-    ) -> Result<Vec<Option<Feed>>, AllocError>
+    ) -> Result<BTreeMap<usize, Feed>, AllocError>
         requires indexed { IsIndexed self.now }
         requires fitting { IsFitting self.now.tree.now self.now.shapes.now }
         requires numbers { ArePortNumbers self.now.shapes.now numbers.now }
         ensures { IfOk result (λ feeds. AreFeeds self.now.tree.now self.now.shapes.now numbers.now
-            feeds.items) }
+            (at_number feeds)) }
     {
         let last = self.last_connections(alloc)?;
-        let mut feeds = Vec::with_capacity(alloc, self.variables.all.len())?;
-        while feeds.len() < self.variables.all.len() {
-            feeds.push(None)?;
-        }
+        let mut feeds = BTreeMap::new(alloc);
         for connector in 0..self.points.len() {
             if let Some(input) = self.input_number(connector) {
-                if let Some(feed) = self.feed_to(alloc, numbers, last.as_slice(), connector)? {
-                    feeds[input] = Some(feed);
+                if let Some(feed) = self.feed_to(alloc, numbers, &last, connector)? {
+                    feeds.insert(input, feed)?;
                 }
             }
         }

@@ -17,14 +17,15 @@ use crate::connectors::FlatTree;
 use crate::roles::role;
 use sim_base::{CompId, Items, PortId};
 use std::alloc::{AllocError, Global};
+use std::collections::BTreeMap;
 use system_model::{Feed, Port};
 use value_types::{PortType, Shape, Variable};
 
-/// For each variable the number of its port and the port that feeds it.
+/// For each variable the number of its port, and for each that is fed, by its number, the port that feeds it.
 #[derive(Drop)]
 struct PortTable {
     numbers: Vec<Option<PortId>>,
-    feeds: Vec<Option<Feed>>,
+    feeds: BTreeMap<usize, Feed>,
 }
 
 // The type of an input or output that isn't ignored.
@@ -113,7 +114,7 @@ impl<'a> FlatTree<'a> {
     {
         let shape: &Shape = &self.shapes[component];
         let variable: &Variable = &shape.variables.as_slice()[place];
-        let feed = match &table.feeds[self.number_at(component, place)] {
+        let feed = match table.feeds.get(&self.number_at(component, place)) {
             Some(feed) => Some(feed.copy(alloc)?),
             None => None,
         };

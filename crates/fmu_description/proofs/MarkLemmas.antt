@@ -13,8 +13,8 @@ use Rattle.std.specs.declared.vec.Vec.{Vec}
 use Rattle.std.proofs.lemmas.Bool.{cases_eq, eqb-true}
 use Rattle.doc_grammar.specs.Nodes.{Node}
 use Rattle.fmu_description.specs.Elements.{clock_key}
-use Rattle.fmu_description.specs.Clocks.{IsForeign}
-use Rattle.fmu_description.specs.Clocks.IsForeign.{OfItself, ByClock}
+use Rattle.fmu_description.specs.Clocks.{IsIgnored}
+use Rattle.fmu_description.specs.Clocks.IsIgnored.{OfItself, ByClock}
 use Rattle.fmu_description.specs.Marks.{IsSource, Follows, Marks, ListsFollowers, is_marked, listed_at}
 use Rattle.fmu_description.proofs.TableLemmas.{is_variable_within}
 
@@ -184,8 +184,8 @@ marks_next t nodes i a b c u v w within p q = subst (λ z. Marks t z a c u w) (s
 -- what is kept from turn to turn: what is marked is ignored; what follows a marked Clock is marked or is told of; what isn't marked still stands in the table
 pub record IsSpreading (t : List Node) (marks : List Bool) (left : List ℕ) (listed : ℕ → List ℕ) : Type 0 where
   pub whole : length marks ≡ length t
-  pub sound : (k : ℕ) → IsTrue (is_marked marks k) → IsForeign t k
-  pub told_of : (r : ℕ) → Contains left r → (clock : ℕ) × (clock_key t clock ≡ Some r) × IsForeign t clock
+  pub sound : (k : ℕ) → IsTrue (is_marked marks k) → IsIgnored t k
+  pub told_of : (r : ℕ) → Contains left r → (clock : ℕ) × (clock_key t clock ≡ Some r) × IsIgnored t clock
   pub starts : (k : ℕ) → IsSource t k → IsTrue (is_marked marks k)
   pub spreads : (k clock r : ℕ) → Follows t k r → clock_key t clock ≡ Some r → IsTrue (is_marked marks clock) → IsTrue (is_marked marks k) ⊎ Contains left r
   pub waits : (k r : ℕ) → Follows t k r → IsTrue (is_marked marks k) ⊎ Contains (listed r) k
@@ -210,14 +210,14 @@ spread_first t marks left all listed are lists m = record {
   lists = λ k r h. (lists k r).0 h;
 }
   where
-    at_sound : (k : ℕ) → IsTrue (is_marked (replicate (length t) false) k) ⊎ Contains all k → IsForeign t k
+    at_sound : (k : ℕ) → IsTrue (is_marked (replicate (length t) false) k) ⊎ Contains all k → IsIgnored t k
     at_sound k (inl n) = absurd (not_marked (length t) k n)
     at_sound k (inr h) = let s : IsSource t k = (are k).0 h in OfItself k s.0 s.1
 
-    sound : (k : ℕ) → IsTrue (is_marked marks k) → IsForeign t k
+    sound : (k : ℕ) → IsTrue (is_marked marks k) → IsIgnored t k
     sound k h = at_sound k (m.no_other k h)
 
-    at_told : (r : ℕ) → Contains [] r ⊎ ((k : ℕ) × Contains all k × (clock_key t k ≡ Some r)) → (clock : ℕ) × (clock_key t clock ≡ Some r) × IsForeign t clock
+    at_told : (r : ℕ) → Contains [] r ⊎ ((k : ℕ) × Contains all k × (clock_key t k ≡ Some r)) → (clock : ℕ) × (clock_key t clock ≡ Some r) × IsIgnored t clock
     at_told r (inl h) = absurd (contains_none r h)
     at_told r (inr h) = (h.0, h.2, at_sound h.0 (inr h.1))
 
@@ -242,17 +242,17 @@ spread_more t old new left rest more r had has s split takes m = record {
   lists = λ k q h. at_lists k q h (takes q);
 }
   where
-    source : (clock : ℕ) × (clock_key t clock ≡ Some r) × IsForeign t clock
+    source : (clock : ℕ) × (clock_key t clock ≡ Some r) × IsIgnored t clock
     source = s.told_of r (subst (λ z. Contains z r) (sym split) (Contains-push rest r))
 
-    at_sound : (k : ℕ) → IsTrue (is_marked old k) ⊎ Contains (had r) k → IsForeign t k
+    at_sound : (k : ℕ) → IsTrue (is_marked old k) ⊎ Contains (had r) k → IsIgnored t k
     at_sound k (inl h) = s.sound k h
     at_sound k (inr h) = let f : Follows t k r = s.lists k r h in ByClock k source.0 r f.0 f.1 source.1 source.2
 
-    sound : (k : ℕ) → IsTrue (is_marked new k) → IsForeign t k
+    sound : (k : ℕ) → IsTrue (is_marked new k) → IsIgnored t k
     sound k h = at_sound k (m.no_other k h)
 
-    at_told : (q : ℕ) → Contains rest q ⊎ ((k : ℕ) × Contains (had r) k × (clock_key t k ≡ Some q)) → (clock : ℕ) × (clock_key t clock ≡ Some q) × IsForeign t clock
+    at_told : (q : ℕ) → Contains rest q ⊎ ((k : ℕ) × Contains (had r) k × (clock_key t k ≡ Some q)) → (clock : ℕ) × (clock_key t clock ≡ Some q) × IsIgnored t clock
     at_told q (inl h) = s.told_of q (subst (λ z. Contains z q) (sym split) (Contains-append_left rest (r ∷ []) q h))
     at_told q (inr h) = (h.0, h.2, at_sound h.0 (inr h.1))
 
@@ -282,14 +282,14 @@ spread_more t old new left rest more r had has s split takes m = record {
     at_lists k q h (inr e) = s.lists k q (subst (λ z. Contains z k) e.1 h)
 
 -- nothing is left
-pub spread_all : (t : List Node) (marks : List Bool) (listed : ℕ → List ℕ) → IsSpreading t marks [] listed → (k : ℕ) → IsTrue (is_marked marks k) ↔ IsForeign t k
+pub spread_all : (t : List Node) (marks : List Bool) (listed : ℕ → List ℕ) → IsSpreading t marks [] listed → (k : ℕ) → IsTrue (is_marked marks k) ↔ IsIgnored t k
 spread_all t marks listed s k = (s.sound k, complete k)
   where
     at : (k r : ℕ) → IsTrue (is_marked marks k) ⊎ Contains [] r → IsTrue (is_marked marks k)
     at k r (inl h) = h
     at k r (inr h) = absurd (contains_none r h)
 
-    complete : (k : ℕ) → IsForeign t k → IsTrue (is_marked marks k)
+    complete : (k : ℕ) → IsIgnored t k → IsTrue (is_marked marks k)
     complete _ (OfItself k v i) = s.starts k (v, i)
     complete _ (ByClock k clock r v c e f) = at k r (s.spreads k clock r (v, c) e (complete clock f))
 

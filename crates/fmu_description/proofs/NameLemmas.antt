@@ -18,7 +18,7 @@ use Rattle.std.proofs.lemmas.Slice.Eq.{bytes_eq-Decides}
 use Rattle.std.proofs.lemmas.Grind.{common_steps}
 use Rattle.doc_tables.specs.Tables.{IsRepeated}
 use Rattle.doc_tables.proofs.CallerLemmas.{IsWithin}
-use Rattle.fmu_description.specs.Names.{AreNamed, AreNamedBelow, IsBehind, IsBehindAt, Named, StandsBehind, named_cmp}
+use Rattle.fmu_description.specs.Names.{AreNamed, AreNamedBelow, IsAfter, IsAfterAt, Named, StandsAfter, named_cmp}
 
 -- ---- the list
 
@@ -82,17 +82,17 @@ module _ (key : ℕ → Option (List ℕ)) (named : List Named) (is : AreNamed k
       rw (← get_or_from_slice_get named i e e at_i, ← get_or_from_slice_get named j f e at_j)
       (sorted_far _ (ranks_by named_total (λ (x : Named). x)) named sorted i j e le (slice_get_within named j f at_j))
 
-  repeated_from : (k : ℕ) → StandsBehind named k → IsRepeated key k
+  repeated_from : (k : ℕ) → StandsAfter named k → IsRepeated key k
   repeated_from k stands =
       let b = stands.1 in
-      let one : key b.one.1 ≡ Some b.other.0.now = told_at stands.0 b.one b.before ∙ ap Some b.behind.0 in
+      let one : key b.one.1 ≡ Some b.other.0.now = told_at stands.0 b.one b.before ∙ ap Some b.after.0 in
       let other : key k ≡ Some b.other.0.now = ap key (sym b.is) ∙ told_at (stands.0 + 1) b.other b.here in
-      (b.other.0.now, other, (b.one.1, subst (λ (m : ℕ). b.one.1 < m) b.is b.behind.1, one))
+      (b.other.0.now, other, (b.one.1, subst (λ (m : ℕ). b.one.1 < m) b.is b.after.1, one))
 
   -- one place back from an element of the name: it comes after the one there, or that is the same element
   module _ (k p : ℕ) (e : Named) (at_p : slice_get named p ≡ Some e) (low : e.1 < k) where
     step : (r : ℕ) (f : Named) → slice_get named (suc r) ≡ Some f → e.0.now ≡ f.0.now → f.1 ≡ k → p < suc r
-        → ((g : Named) → slice_get named r ≡ Some g → e.0.now ≡ g.0.now → g.1 ≡ k → p < r → StandsBehind named k) → StandsBehind named k
+        → ((g : Named) → slice_get named r ≡ Some g → e.0.now ≡ g.0.now → g.1 ≡ k → p < r → StandsAfter named k) → StandsAfter named k
     step r f at same is_k less further = by (cases_lt g.1 k) (cases_eq p r)
       where
         within : r < length named
@@ -110,7 +110,7 @@ module _ (key : ℕ → Option (List ℕ)) (named : List Named) (is : AreNamed k
         no_more : g.1 ≤ f.1
         no_more = no_lower g f alike (not_before r (suc r) g f at_r at (omega arith))
 
-        by : (g.1 < k) ⊎ (k ≤ g.1) → (p ≡ r) ⊎ (p ≡ r → ⊥) → StandsBehind named k
+        by : (g.1 < k) ⊎ (k ≤ g.1) → (p ≡ r) ⊎ (p ≡ r → ⊥) → StandsAfter named k
         by (inl lower) c = (
           r,
           record {
@@ -118,7 +118,7 @@ module _ (key : ℕ → Option (List ℕ)) (named : List Named) (is : AreNamed k
             other = f;
             before = at_r;
             here = ap (slice_get named) (omega arith) ∙ at;
-            behind = (alike, omega arith);
+            after = (alike, omega arith);
             is = is_k;
           },
         )
@@ -128,11 +128,11 @@ module _ (key : ℕ → Option (List ℕ)) (named : List Named) (is : AreNamed k
             absurd (omega arith)
         by (inr higher) (inr apart) = further g at_r (same ∙ sym alike) (let le : g.1 ≤ f.1 = no_more in omega arith) (let other : p ≡ r → ⊥ = apart in omega arith)
 
-    back : (q : ℕ) (f : Named) → slice_get named q ≡ Some f → e.0.now ≡ f.0.now → f.1 ≡ k → p < q → StandsBehind named k
+    back : (q : ℕ) (f : Named) → slice_get named q ≡ Some f → e.0.now ≡ f.0.now → f.1 ≡ k → p < q → StandsAfter named k
     back zero f at same is_k less = absurd (omega (arith, less))
     back (suc r) f at same is_k less = step r f at same is_k less (λ g at_r alike is lower. back r g at_r alike is lower)
 
-  stands_from : (k : ℕ) → IsRepeated key k → StandsBehind named k
+  stands_from : (k : ℕ) → IsRepeated key k → StandsAfter named k
   stands_from k repeated =
       let lower = repeated.2 in
       let one = is.whole lower.0 repeated.0 lower.2 in
@@ -143,28 +143,28 @@ module _ (key : ℕ → Option (List ℕ)) (named : List Named) (is : AreNamed k
       let less : one.0.1 < other.0.1 = let h = lower.1 in let e = one.3 in let f = other.3 in omega arith in
       elim (cases_lt one.1.0 other.1.0) [
         | inl before ↦ back k one.1.0 one.0 at_one (let f = other.3 in omega arith) other.1.0 other.0 at_other same other.3 before
-        | inr behind ↦ absurd (let le = no_lower other.0 one.0 (sym same) (not_before other.1.0 one.1.0 other.0 one.0 at_other at_one behind) in omega arith)
+        | inr later ↦ absurd (let le = no_lower other.0 one.0 (sym same) (not_before other.1.0 one.1.0 other.0 one.0 at_other at_one later) in omega arith)
       ]
 
   -- the elements after one of their name are those that repeat a name
-  pub stands_repeated : (k : ℕ) → StandsBehind named k ↔ IsRepeated key k
+  pub stands_repeated : (k : ℕ) → StandsAfter named k ↔ IsRepeated key k
   stands_repeated k = (repeated_from k, stands_from k)
 
 -- ---- marks, one place after another
 
 -- what is marked repeats a name, and what repeats one at the places below n is marked
 pub record HasMarked (named : List Named) (n : ℕ) (marks : List Bool) : Type 0 where
-  pub sound : (k : ℕ) → get_or marks k false ≡ true → StandsBehind named k
-  pub whole : (i k : ℕ) → i + 1 < n → IsBehindAt named i k → get_or marks k false ≡ true
+  pub sound : (k : ℕ) → get_or marks k false ≡ true → StandsAfter named k
+  pub whole : (i k : ℕ) → i + 1 < n → IsAfterAt named i k → get_or marks k false ≡ true
 
 module _ (named : List Named) (place : ℕ) (marks : List Bool) (one other : Named) (above : 1 ≤ place) (at_one : slice_get named (place - 1) ≡ Some one) (at_other : slice_get named place ≡ Some other)
     (has : HasMarked named place marks)
   where
     -- it comes after the one before it
-    pub marked_more : IsBehind one other → other.1 < length marks → HasMarked named (place + 1) (set marks other.1 true)
-    marked_more behind within = record { sound = sound; whole = whole }
+    pub marked_more : IsAfter one other → other.1 < length marks → HasMarked named (place + 1) (set marks other.1 true)
+    marked_more later within = record { sound = sound; whole = whole }
       where
-        here : StandsBehind named other.1
+        here : StandsAfter named other.1
         here = (
           place - 1,
           record {
@@ -172,14 +172,14 @@ module _ (named : List Named) (place : ℕ) (marks : List Bool) (one other : Nam
             other = other;
             before = at_one;
             here = ap (slice_get named) (omega arith) ∙ at_other;
-            behind = behind;
+            after = later;
             is = refl;
           },
         )
 
-        sound : (k : ℕ) → get_or (set marks other.1 true) k false ≡ true → StandsBehind named k
+        sound : (k : ℕ) → get_or (set marks other.1 true) k false ≡ true → StandsAfter named k
         sound k h = elim (cases_eq k other.1) [
-          | inl same ↦ subst (StandsBehind named) (sym same) here
+          | inl same ↦ subst (StandsAfter named) (sym same) here
           | inr apart ↦ has.sound k (sym (get_or-set_other marks other.1 k true false apart) ∙ h)
         ]
 
@@ -189,10 +189,10 @@ module _ (named : List Named) (place : ℕ) (marks : List Bool) (one other : Nam
           | inr apart ↦ get_or-set_other marks other.1 k true false apart ∙ h
         ]
 
-        whole : (i k : ℕ) → i + 1 < place + 1 → IsBehindAt named i k → get_or (set marks other.1 true) k false ≡ true
+        whole : (i k : ℕ) → i + 1 < place + 1 → IsAfterAt named i k → get_or (set marks other.1 true) k false ≡ true
         whole i k less is = elim (cases_lt (i + 1) place) [
           | inl lower ↦ kept k (has.whole i k lower is)
-          | inr behind ↦
+          | inr later ↦
               let at : i + 1 ≡ place = omega arith in
               let same : is.other ≡ other = same_Some is.other other (sym is.here ∙ ap (slice_get named) at ∙ at_other) in
               let element : k ≡ other.1 = sym is.is ∙ ap (λ (x : Named). x.1) same in
@@ -200,19 +200,19 @@ module _ (named : List Named) (place : ℕ) (marks : List Bool) (one other : Nam
         ]
 
     -- it doesn't
-    pub marked_still : (IsBehind one other → ⊥) → HasMarked named (place + 1) marks
-    marked_still not_behind = record {
+    pub marked_still : (IsAfter one other → ⊥) → HasMarked named (place + 1) marks
+    marked_still never_after = record {
       sound = has.sound;
       whole = λ i k less is. elim (cases_lt (i + 1) place) [
         | inl lower ↦ has.whole i k lower is
-        | inr behind ↦
+        | inr later ↦
             let at : i + 1 ≡ place = omega arith in
             let before : i ≡ place - 1 = omega arith in
             let same : is.other ≡ other = same_Some is.other other (sym is.here ∙ ap (slice_get named) at ∙ at_other) in
             let same_one : is.one ≡ one = same_Some is.one one (sym is.before ∙ ap (slice_get named) before ∙ at_one) in
-            absurd (not_behind (subst (λ (x : Named). IsBehind one x) same (subst (λ (x : Named). IsBehind x is.other) same_one is.behind)))
+            absurd (never_after (subst (λ (x : Named). IsAfter one x) same (subst (λ (x : Named). IsAfter x is.other) same_one is.after)))
       ];
     }
 
-pub marked_all : (named : List Named) (n : ℕ) (marks : List Bool) → length named ≤ n → HasMarked named n marks → (k : ℕ) → IsTrue (get_or marks k false) ↔ StandsBehind named k
+pub marked_all : (named : List Named) (n : ℕ) (marks : List Bool) → length named ≤ n → HasMarked named n marks → (k : ℕ) → IsTrue (get_or marks k false) ↔ StandsAfter named k
 marked_all named n marks past has k = (has.sound k, λ stands. has.whole stands.0 k (let w = slice_get_within named (stands.0 + 1) stands.1.other stands.1.here in omega arith) stands.1)

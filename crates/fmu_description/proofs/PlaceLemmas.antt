@@ -51,8 +51,8 @@ module _ (entries : List (ℕ × ℕ)) (r : ℕ) where
               let fails : has (get_or entries listed.0 (r, held.0)) ≡ false = fails_before_first has entries listed.0 (r, held.0) lower in
               let passes : has (get_or entries listed.0 (r, held.0)) ≡ true = ap has listed.2 ∙ same_test r in
               cc
-          | inr behind ↦
-              let within : position_or_len has entries < length entries = let l = listed.1 in omega (arith, l, behind) in
+          | inr after ↦
+              let within : position_or_len has entries < length entries = let l = listed.1 in omega (arith, l, after) in
               let there : slice_get entries (position_or_len has entries) ≡ Some (get_or entries (position_or_len has entries) (r, held.0)) = slice_get-get_or entries (position_or_len has entries) (r, held.0) within in
               cc
         ]
@@ -79,8 +79,8 @@ module _ (entries : List (ℕ × ℕ)) (r : ℕ) where
                   let fails : has (get_or entries listed.0 (r, j)) ≡ false = fails_before_first has entries listed.0 (r, j) lower in
                   let passes : has (get_or entries listed.0 (r, j)) ≡ true = ap has listed.2 ∙ same_test r in
                   cc
-              | inr behind ↦
-                  let high : is_lt (pair_cmp (r, j) e) ≡ false = not_before entries (position_or_len has entries) listed.0 e (r, j) sorted at at_j behind in
+              | inr after ↦
+                  let high : is_lt (pair_cmp (r, j) e) ≡ false = not_before entries (position_or_len has entries) listed.0 e (r, j) sorted at at_j after in
                   let low : is_lt (pair_cmp (r, j) e) ≡ true = subst (λ z. is_lt (pair_cmp (r, j) (z, e.1)) ≡ true) (sym is) (lower_second r j e.1 less) in
                   cc
             ]
@@ -108,9 +108,9 @@ module _ (entries : List (ℕ × ℕ)) (r : ℕ) where
     pub found_other : (e : ℕ × ℕ) → slice_get entries at ≡ Some e → (e.0 ≡ r → ⊥) → None ≡ found entries r
     found_other e there other = missing e (λ k within. elim (cases_lt k at) [
       | inl lower ↦ other_below k e lower
-      | inr behind ↦
+      | inr after ↦
           let here : get_or entries at e ≡ e = get_or_from_slice_get entries at e e there in
-          let first : e.0 ≤ (get_or entries k e).0 = subst (λ (f : ℕ × ℕ). f.0 ≤ (get_or entries k e).0) here (rising entries sorted at k e behind within) in
+          let first : e.0 ≤ (get_or entries k e).0 = subst (λ (f : ℕ × ℕ). f.0 ≤ (get_or entries k e).0) here (rising entries sorted at k e after within) in
           let least : nat_lt e.0 r ≡ false = subst (λ (f : ℕ × ℕ). nat_lt f.0 r ≡ false) here (above at e (omega arith) (slice_get_within entries at e there)) in
           has_other r (get_or entries k e).0 (λ same. other (grind (arith, nat_tests)))
     ])
@@ -118,7 +118,7 @@ module _ (entries : List (ℕ × ℕ)) (r : ℕ) where
     pub found_past : slice_get entries at ≡ None → None ≡ found entries r
     found_past past = missing (0, 0) (λ k within. elim (cases_lt k at) [
       | inl lower ↦ other_below k (0, 0) lower
-      | inr behind ↦ let there : slice_get entries at ≡ Some (get_or entries at (0, 0)) = slice_get-get_or entries at (0, 0) (omega arith) in cc
+      | inr after ↦ let there : slice_get entries at ≡ Some (get_or entries at (0, 0)) = slice_get-get_or entries at (0, 0) (omega arith) in cc
     ])
 
 -- the elements that are listed are found once they are in order

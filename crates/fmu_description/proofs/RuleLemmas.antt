@@ -111,4 +111,4 @@ pub all_sound : (t : List Node) (n end : ℕ) → length t ≤ end → 0 < end �
 all_sound t n end within some below = tables.all_sound description_number (ViolatesDescription t n) end past below
   where
     past : (k : ℕ) → end ≤ k → BreaksNoRule t n k
-    past k behind rule h = breaks_none t k (slice_get_past t k (omega arith)) n (λ e. omega arith) rule h
+    past k after rule h = breaks_none t k (slice_get_past t k (omega arith)) n (λ e. omega arith) rule h

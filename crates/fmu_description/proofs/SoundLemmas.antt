@@ -13,7 +13,7 @@ use Rattle.fmu_description.specs.Texts.{reference, counter, variability, port_ty
 use Rattle.doc_tables.specs.Elements.{name_of, is_named, attribute, key_if}
 use Rattle.doc_tables.specs.Tables.{IsFirstWith}
 use Rattle.fmu_description.specs.Elements.{is_variable, is_clock, is_co_simulation, reference_of, variable_key, IsCoSimulation}
-use Rattle.fmu_description.specs.Clocks.{IsForeign, OfItself, IsTimed, variability_of, IsInterval, ByCounters, ByDecimal, IsShift, Counters, NoCounter, Decimal, NoDecimal}
+use Rattle.fmu_description.specs.Clocks.{IsIgnored, OfItself, IsTimed, variability_of, IsInterval, ByCounters, ByDecimal, IsShift, Counters, NoCounter, Decimal, NoDecimal}
 use Rattle.fmu_description.specs.Places.{FindsCoSimulation}
 use Rattle.fmu_description.specs.Rules.{IsSoundDescription}
 use Rattle.value_types.specs.Shape.{is_clock_type}
@@ -63,9 +63,9 @@ has_reference t k sound is =
     (λ e. sound.1 r.Absent k (inr (inr (inl (is, inr (inl e))))))
     (λ bytes e f. sound.1 r.Misread k (inr (inl (is, inl (bytes, e, f)))))
 
-pub reads_start : (t : List Node) (k : ℕ) → IsSoundTree t → is_variable t k ≡ true → (kind : Option PortType) → (IsForeign t k → kind ≡ None) → ((IsForeign t k → ⊥) → kind ≡ port_type (name_of t k)) → ReadsStart kind (attribute t k (codes "start"))
-reads_start t k sound is kind foreign own one bytes e f unread =
-    let apart : IsForeign t k → ⊥ = λ x. let g = foreign x in cc in
+pub reads_start : (t : List Node) (k : ℕ) → IsSoundTree t → is_variable t k ≡ true → (kind : Option PortType) → (IsIgnored t k → kind ≡ None) → ((IsIgnored t k → ⊥) → kind ≡ port_type (name_of t k)) → ReadsStart kind (attribute t k (codes "start"))
+reads_start t k sound is kind ignored own one bytes e f unread =
+    let apart : IsIgnored t k → ⊥ = λ x. let g = ignored x in cc in
     let named : port_type (name_of t k) ≡ Some one = let g = own apart in cc in
     sound.1 r.Misread k (inr (inl (is, inr (inr (inr (apart, (bytes, one, f, named, unread)))))))
 
@@ -143,7 +143,7 @@ pub key_of : (t : List Node) (k x : ℕ) → is_variable t k ≡ true → refere
 key_of t k x is e = ap (λ (b : Bool). key_if b (reference_of t k)) is ∙ e
 
 timed_kind : (t : List Node) (k : ℕ) (kind : Option PortType) (start : Option ℤ) → is_variable t k ≡ true → IsKind t k kind start → kind ≡ Some Clock → IsTimed t k
-timed_kind t k kind start is (inl foreign) e = let f = foreign.1 in cc
+timed_kind t k kind start is (inl ignored) e = let f = ignored.1 in cc
 timed_kind t k kind start is (inr own) e =
     let clock : is_clock t k ≡ true = both (is_named t k (codes "Clock")) (is_variable t k) (named_clock (name_of t k) (sym own.1 ∙ e)) is in
     (clock, λ local. own.0 (OfItself k is (inr (inl (clock, local)))))

@@ -69,32 +69,32 @@ abbrev pub among : List (Bor (List ℕ)) → Option (List ℕ)
 among parts = all_of (map (λ (part : Bor (List ℕ)). reference part.now) parts)
 
 -- what is read, with what comes
-abbrev pub behind : List ℕ → Option (List ℕ) → Option (List ℕ)
-behind all o = option_map (λ xs. all ++ xs) o
+abbrev pub after : List ℕ → Option (List ℕ) → Option (List ℕ)
+after all o = option_map (λ xs. all ++ xs) o
 
-pub behind_none : (o : Option (List ℕ)) → behind [] o ≡ o
-behind_none None = refl
-behind_none (Some xs) = refl
+pub after_none : (o : Option (List ℕ)) → after [] o ≡ o
+after_none None = refl
+after_none (Some xs) = refl
 
-behind_cons : (all : List ℕ) (x : ℕ) (o : Option (List ℕ)) → behind all (option_map (λ xs. x ∷ xs) o) ≡ behind (all ++ x ∷ []) o
-behind_cons all x None = refl
-behind_cons all x (Some xs) = ap Some (sym (append_assoc all (x ∷ []) xs))
+after_cons : (all : List ℕ) (x : ℕ) (o : Option (List ℕ)) → after all (option_map (λ xs. x ∷ xs) o) ≡ after (all ++ x ∷ []) o
+after_cons all x None = refl
+after_cons all x (Some xs) = ap Some (sym (append_assoc all (x ∷ []) xs))
 
 among_cons : (part : Bor (List ℕ)) (parts : List (Bor (List ℕ))) (o : Option ℕ) → reference part.now ≡ o → among (part ∷ parts) ≡ elim o [ None ↦ None | Some x ↦ option_map (λ xs. x ∷ xs) (among parts) ]
 among_cons part parts o e = ap (λ z. elim z as (λ _. Option (List ℕ)) [ None ↦ None | Some x ↦ option_map (λ xs. x ∷ xs) (among parts) ]) e
 
 pub among_more : (parts : List (Bor (List ℕ))) (i : ℕ) (part : Bor (List ℕ)) (all : List ℕ) (x : ℕ) → i < length parts → part ≡ get_or parts i part → reference part.now ≡ Some x
-    → behind all (among (drop i parts)) ≡ behind (all ++ x ∷ []) (among (drop (i + 1) parts))
+    → after all (among (drop i parts)) ≡ after (all ++ x ∷ []) (among (drop (i + 1) parts))
 among_more parts i part all x within is reads =
-    ap (behind all) (at_drop_more among parts i part within ∙ ap (λ p. among (p ∷ drop (i + 1) parts)) (sym is) ∙ among_cons part (drop (i + 1) parts) (Some x) reads)
-    ∙ behind_cons all x (among (drop (i + 1) parts))
+    ap (after all) (at_drop_more among parts i part within ∙ ap (λ p. among (p ∷ drop (i + 1) parts)) (sym is) ∙ among_cons part (drop (i + 1) parts) (Some x) reads)
+    ∙ after_cons all x (among (drop (i + 1) parts))
 
-pub among_stop : (parts : List (Bor (List ℕ))) (i : ℕ) (part : Bor (List ℕ)) (all : List ℕ) → i < length parts → part ≡ get_or parts i part → reference part.now ≡ None → behind all (among (drop i parts)) ≡ None
+pub among_stop : (parts : List (Bor (List ℕ))) (i : ℕ) (part : Bor (List ℕ)) (all : List ℕ) → i < length parts → part ≡ get_or parts i part → reference part.now ≡ None → after all (among (drop i parts)) ≡ None
 among_stop parts i part all within is reads =
-    ap (behind all) (at_drop_more among parts i part within ∙ ap (λ p. among (p ∷ drop (i + 1) parts)) (sym is) ∙ among_cons part (drop (i + 1) parts) None reads)
+    ap (after all) (at_drop_more among parts i part within ∙ ap (λ p. among (p ∷ drop (i + 1) parts)) (sym is) ∙ among_cons part (drop (i + 1) parts) None reads)
 
-pub among_end : (parts : List (Bor (List ℕ))) (i : ℕ) (all : List ℕ) → length parts ≤ i → behind all (among (drop i parts)) ≡ Some all
-among_end parts i all past = ap (behind all) (at_drop_all among parts i past) ∙ ap Some (append-nil all)
+pub among_end : (parts : List (Bor (List ℕ))) (i : ℕ) (all : List ℕ) → length parts ≤ i → after all (among (drop i parts)) ≡ Some all
+among_end parts i all past = ap (after all) (at_drop_all among parts i past) ∙ ap Some (append-nil all)
 
 -- ---- spaces
 

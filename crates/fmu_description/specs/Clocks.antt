@@ -5,16 +5,16 @@ use Rattle.value_types.specs.declared.shape.IntervalVariability.{IntervalVariabi
 use Rattle.clock_fraction.specs.declared.fraction.Fraction.{Fraction}
 use Rattle.clock_fraction.specs.Decimal.{Denotes}
 use Rattle.doc_grammar.specs.Nodes.{Node}
-use Rattle.fmu_description.specs.Texts.{counter, variability, is_foreign_type}
+use Rattle.fmu_description.specs.Texts.{counter, variability, is_unsupported_type}
 use Rattle.doc_tables.specs.Elements.{attribute, parent, name_of}
 use Rattle.fmu_description.specs.Elements.{is_variable, is_clock, is_dimension, references_of, causality_of, has_flag, clock_key}
 
 -- ---- ignored variables, which are never set, read, bound or traced (a narrowing of this profile)
 
 -- a variable is ignored by itself: by its type, as a Clock that is local, by a Dimension, or by a causality that the profile doesn't support
-abbrev pub IsForeignItself : List Node → ℕ → Type 0
-IsForeignItself t k =
-    (is_foreign_type (name_of t k) ≡ true)
+abbrev pub IsIgnoredItself : List Node → ℕ → Type 0
+IsIgnoredItself t k =
+    (is_unsupported_type (name_of t k) ≡ true)
     ⊎ (((is_clock t k ≡ true) × (causality_of t k ≡ c.Local))
     ⊎ (((j : ℕ) × (is_dimension t j ≡ true) × (parent t j ≡ Some k))
     ⊎ (causality_of t k ≡ c.Other)))
@@ -24,10 +24,10 @@ abbrev pub clocks_of : List Node → ℕ → List ℕ
 clocks_of t k = references_of t k (codes "clocks")
 
 -- a variable is ignored by itself, or by an ignored Clock at whose ticks it has a value
-pub data IsForeign (t : List Node) : ℕ → Type 0 where
-  OfItself : (k : ℕ) → is_variable t k ≡ true → IsForeignItself t k → IsForeign t k
+pub data IsIgnored (t : List Node) : ℕ → Type 0 where
+  OfItself : (k : ℕ) → is_variable t k ≡ true → IsIgnoredItself t k → IsIgnored t k
   ByClock : (k clock reference : ℕ) → is_variable t k ≡ true → Contains (clocks_of t k) reference →
-      clock_key t clock ≡ Some reference → IsForeign t clock → IsForeign t k
+      clock_key t clock ≡ Some reference → IsIgnored t clock → IsIgnored t k
 
 -- ---- Clocks
 

@@ -17,7 +17,7 @@ use Rattle.fmu_description.specs.Texts.{flag_or, references, port_type}
 use Rattle.doc_tables.specs.Elements.{name_of, attribute, text_of}
 use Rattle.doc_tables.specs.Tables.{IsFirstWith, IsHeld}
 use Rattle.fmu_description.specs.Elements.{is_variable, is_alias, reference_of, causality_of, has_flag, variable_key, output_key, initial_key, IsCoSimulation}
-use Rattle.fmu_description.specs.Clocks.{IsForeign, IsTimed, variability_of, clocks_of, IsInterval, IsShift}
+use Rattle.fmu_description.specs.Clocks.{IsIgnored, IsTimed, variability_of, clocks_of, IsInterval, IsShift}
 use Rattle.fmu_description.specs.Rules.{IsSoundDescription}
 
 -- the tree is sound at some resolution, of which only the rule on whole counts speaks
@@ -48,8 +48,8 @@ ReadsStart kind text =
 -- an ignored variable has neither type nor start value
 abbrev pub IsKind : List Node → ℕ → Option PortType → Option ℤ → Type 0
 IsKind t k kind start =
-    (IsForeign t k × (kind ≡ None) × (start ≡ None))
-    ⊎ ((IsForeign t k → ⊥) × (kind ≡ port_type (name_of t k)) ×
+    (IsIgnored t k × (kind ≡ None) × (start ≡ None))
+    ⊎ ((IsIgnored t k → ⊥) × (kind ≡ port_type (name_of t k)) ×
     IsStart kind (attribute t k (codes "start")) start)
 
 -- a flag that is set unless the element says otherwise

@@ -4,7 +4,7 @@ use Rattle.value_types.specs.declared.shape.Causality.{Causality}
 use Rattle.doc_grammar.specs.Nodes.{Node}
 use Rattle.doc_tables.specs.Elements.{name_of, is_named, attribute, is_root, is_in, key_if, unless_empty}
 use Rattle.doc_tables.specs.Tables.{IsFirst, IsRepeated}
-use Rattle.fmu_description.specs.Texts.{flag_or, reference, references, port_type, is_foreign_type, causality}
+use Rattle.fmu_description.specs.Texts.{flag_or, reference, references, port_type, is_unsupported_type, causality}
 
 -- ---- sorts of elements
 
@@ -19,7 +19,7 @@ is_structure t k = is_named t k (codes "ModelStructure") && is_in is_root t k
 
 -- a variable's element has the name of its type
 abbrev pub is_type : List ℕ → Bool
-is_type name = is_some (port_type name) || is_foreign_type name
+is_type name = is_some (port_type name) || is_unsupported_type name
 
 abbrev pub is_variable : List Node → ℕ → Bool
 is_variable t k = is_type (name_of t k) && is_in is_variable_list t k

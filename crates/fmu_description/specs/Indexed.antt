@@ -3,7 +3,7 @@ use Rattle.fmu_description.specs.declared.indexed.IndexedTree.{IndexedTree}
 use Rattle.fmu_description.specs.Elements.{variable_key, clock_key, output_key, initial_key}
 use Rattle.doc_tables.specs.Tables.{IsTable}
 use Rattle.fmu_description.specs.Names.{MarksRepeated, is_repeated}
-use Rattle.fmu_description.specs.Places.{FindsCoSimulation, MarksForeign, found, is_foreign}
+use Rattle.fmu_description.specs.Places.{FindsCoSimulation, MarksIgnored, found, is_ignored}
 
 -- the tables are those of the tree
 pub record IsIndexed (d : IndexedTree) : Type 0 where
@@ -13,4 +13,4 @@ pub record IsIndexed (d : IndexedTree) : Type 0 where
   pub initial_unknowns : IsTable (initial_key d.tree.now) (found d.initial_unknowns)
   pub names : MarksRepeated d.tree.now (is_repeated d.names)
   pub co_simulation : FindsCoSimulation d.tree.now d.co_simulation
-  pub foreign : MarksForeign d.tree.now (is_foreign d.foreign)
+  pub ignored : MarksIgnored d.tree.now (is_ignored d.ignored)

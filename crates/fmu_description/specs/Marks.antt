@@ -7,11 +7,11 @@ use Rattle.std.specs.declared.vec.Vec.{Vec}
 use Rattle.std.specs.declared.alloc.Global.{Global}
 use Rattle.doc_grammar.specs.Nodes.{Node}
 use Rattle.fmu_description.specs.Elements.{is_variable, clock_key}
-use Rattle.fmu_description.specs.Clocks.{IsForeignItself, clocks_of}
+use Rattle.fmu_description.specs.Clocks.{IsIgnoredItself, clocks_of}
 
 -- a variable that is ignored by itself
 abbrev pub IsSource : List Node → ℕ → Type 0
-IsSource t k = (is_variable t k ≡ true) × IsForeignItself t k
+IsSource t k = (is_variable t k ≡ true) × IsIgnoredItself t k
 
 -- a variable that names the reference in `clocks`
 abbrev pub Follows : List Node → ℕ → ℕ → Type 0

@@ -32,21 +32,21 @@ pub record AreNamed (key : ℕ → Option (List ℕ)) (named : List Named) : Typ
   pub whole : (k : ℕ) (name : List ℕ) → key k ≡ Some name → IsListed named name k
 
 -- they have one name, and the one element is before the other
-abbrev pub IsBehind : Named → Named → Type 0
-IsBehind one other = (one.0.now ≡ other.0.now) × (one.1 < other.1)
+abbrev pub IsAfter : Named → Named → Type 0
+IsAfter one other = (one.0.now ≡ other.0.now) × (one.1 < other.1)
 
 -- the element at the next place is after that at this one
-pub record IsBehindAt (named : List Named) (i k : ℕ) : Type 0 where
+pub record IsAfterAt (named : List Named) (i k : ℕ) : Type 0 where
   pub one : Named
   pub other : Named
   pub before : slice_get named i ≡ Some one
   pub here : slice_get named (i + 1) ≡ Some other
-  pub behind : IsBehind one other
+  pub after : IsAfter one other
   pub is : other.1 ≡ k
 
 -- it is so at some place
-abbrev pub StandsBehind : List Named → ℕ → Type 0
-StandsBehind named k = (i : ℕ) × IsBehindAt named i k
+abbrev pub StandsAfter : List Named → ℕ → Type 0
+StandsAfter named k = (i : ℕ) × IsAfterAt named i k
 
 -- the mark of an element
 abbrev pub is_repeated : RepeatedNames → ℕ → Bool

@@ -18,7 +18,7 @@ use Rattle.doc_tables.specs.Elements.{name_of, is_named, attribute, Lacks, Lacks
 use Rattle.doc_tables.specs.Tables.{IsRepeated, IsHeld}
 use Rattle.doc_tables.specs.Violations as first
 use Rattle.fmu_description.specs.Elements.{is_co_simulation, is_variable, is_clock, is_alias, reference_of, references_of, causality_of, flag_of, has_flag, variable_key, clock_key, name_key, IsCoSimulation, IsUnknown}
-use Rattle.fmu_description.specs.Clocks.{IsForeign, IsTimed, variability_of, counter_of, clocks_of, is_by_counters, IsInterval, IsShift}
+use Rattle.fmu_description.specs.Clocks.{IsIgnored, IsTimed, variability_of, counter_of, clocks_of, is_by_counters, IsInterval, IsShift}
 
 -- ---- what is absent
 
@@ -63,7 +63,7 @@ MisreadsValue t k =
 
 -- nor is the variable ignored
 abbrev pub MisreadsStart : List Node → ℕ → Type 0
-MisreadsStart t k = (IsForeign t k → ⊥) × MisreadsValue t k
+MisreadsStart t k = (IsIgnored t k → ⊥) × MisreadsValue t k
 
 abbrev pub MisreadsOfCoSimulation : List Node → ℕ → Type 0
 MisreadsOfCoSimulation t k =

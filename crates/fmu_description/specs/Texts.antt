@@ -82,8 +82,8 @@ port_type name =
     else None))))))))))
 
 -- the types whose values are no whole numbers
-abbrev pub is_foreign_type : List ℕ → Bool
-is_foreign_type name =
+abbrev pub is_unsupported_type : List ℕ → Bool
+is_unsupported_type name =
     bytes_eq name (codes "Float32") || bytes_eq name (codes "Float64") ||
     bytes_eq name (codes "String") || bytes_eq name (codes "Binary")
 

@@ -59,7 +59,7 @@ fn is_structure(tree: &Tree, node: usize) -> bool
 fn is_type(name: &str) -> bool
     ensures { result ≡ is_type name.now }
 {
-    texts::is_foreign_type(name) || texts::port_type(name).is_some()
+    texts::is_unsupported_type(name) || texts::port_type(name).is_some()
 }
 
 /// Whether the element describes a variable.

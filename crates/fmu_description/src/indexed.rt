@@ -1,6 +1,6 @@
 //! A tree with the tables of what its elements name.
 ghost use Rattle.std.specs.Prelude.{◌≡◌, ◌↔◌, IsTrue, IfOk, ℕ, Option};
-ghost use Rattle.fmu_description.specs.Clocks.{IsForeign};
+ghost use Rattle.fmu_description.specs.Clocks.{IsIgnored};
 ghost use Rattle.doc_tables.specs.Tables.{IsRepeated, IsTable};
 ghost use Rattle.fmu_description.specs.Elements.{IsCoSimulation, IsFirstInitial, IsFirstOutput, IsUnknown, name_key, variable_key};
 ghost use Rattle.fmu_description.specs.Places.{found};
@@ -11,11 +11,9 @@ use crate::elements::{
     flag_of, initial_key, is_initial_unknown, is_output, output_key, reference_of, references_of,
     variable_key,
 };
-use crate::foreign::{Foreign, foreign_variables};
+use crate::ignored::{Ignored, ignored_variables};
 use crate::names::RepeatedNames;
-use crate::places::{
-    Places, clock_places, co_simulation, initial_places, output_places, variable_places,
-};
+use crate::places::{KindPlaces, Places, co_simulation, kind_places};
 use doc_tree::Tree;
 use std::alloc::{AllocError, Global};
 
@@ -31,7 +29,7 @@ pub(crate) struct IndexedTree<'a> {
     pub(crate) initial_unknowns: Places,
     pub(crate) names: RepeatedNames,
     pub(crate) co_simulation: Option<usize>,
-    pub(crate) foreign: Foreign,
+    pub(crate) ignored: Ignored,
 }
 
 impl<'a> IndexedTree<'a> {
@@ -45,16 +43,22 @@ impl<'a> IndexedTree<'a> {
         ensures tree { IfOk result (λ d. d.tree.now ≡ tree.now) }
         ensures resolution { IfOk result (λ d. d.resolution ≡ resolution) }
     {
+        let KindPlaces {
+            variables,
+            clocks,
+            outputs,
+            initial_unknowns,
+        } = kind_places(alloc, tree)?;
         Ok(IndexedTree {
             tree,
             resolution,
-            variables: variable_places(alloc, tree)?,
-            clocks: clock_places(alloc, tree)?,
-            outputs: output_places(alloc, tree)?,
-            initial_unknowns: initial_places(alloc, tree)?,
+            variables,
+            clocks,
+            outputs,
+            initial_unknowns,
             names: RepeatedNames::new(alloc, tree)?,
             co_simulation: co_simulation(tree),
-            foreign: foreign_variables(alloc, tree)?,
+            ignored: ignored_variables(alloc, tree)?,
         })
     }
 
@@ -86,11 +90,11 @@ impl<'a> IndexedTree<'a> {
     }
 
     /// An ignored variable.
-    pub(crate) fn is_foreign(&self, node: usize) -> bool
+    pub(crate) fn is_ignored(&self, node: usize) -> bool
         requires { IsIndexed self.now }
-        ensures { IsTrue result ↔ IsForeign self.now.tree.now node }
+        ensures { IsTrue result ↔ IsIgnored self.now.tree.now node }
     {
-        self.foreign.is_foreign(node)
+        self.ignored.is_ignored(node)
     }
 
     fn is_first_output(&self, node: usize) -> bool

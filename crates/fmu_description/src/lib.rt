@@ -6,7 +6,7 @@ mod clock_rules;
 mod dependencies;
 mod distinct;
 mod elements;
-mod foreign;
+mod ignored;
 mod indexed;
 mod intervals;
 mod law;

@@ -1,6 +1,6 @@
 //! Whether the attributes of an element read as their types (rule 14).
 ghost use Rattle.std.specs.Prelude.{◌↔◌, IsTrue, IfOk, codes};
-ghost use Rattle.fmu_description.specs.Clocks.{IsForeign};
+ghost use Rattle.fmu_description.specs.Clocks.{IsIgnored};
 ghost use Rattle.fmu_description.specs.Texts.{counter, reference, references, variability};
 ghost use Rattle.doc_tables.specs.Elements.{Misreads};
 ghost use Rattle.fmu_description.specs.Rules.{HasNoResolution, MisreadsCounters, MisreadsDecimal, MisreadsDecimals, MisreadsFlag, MisreadsOfClock, MisreadsStart, MisreadsTicks, MisreadsTime, MisreadsValue};
@@ -115,11 +115,11 @@ pub(crate) fn misreads_of_clock(tree: &Tree, node: usize) -> bool
 }
 
 /// A start value that isn't one of its type.
-pub(crate) fn misreads_start(tree: &Tree, node: usize, is_foreign: bool) -> bool
-    requires { IsTrue is_foreign ↔ IsForeign tree.now node }
+pub(crate) fn misreads_start(tree: &Tree, node: usize, is_ignored: bool) -> bool
+    requires { IsTrue is_ignored ↔ IsIgnored tree.now node }
     ensures { IsTrue result ↔ MisreadsStart tree.now node }
 {
-    !is_foreign && misreads_value(tree, node)
+    !is_ignored && misreads_value(tree, node)
 }
 
 fn misreads_value(tree: &Tree, node: usize) -> bool

@@ -2,7 +2,7 @@
 ghost use Rattle.std.specs.Prelude.{◌≡◌, ◌↔◌, ℕ, ◌+◌, ◌<◌, List, Option, All, IfOk, IsTrue, OnOk, option_copied, slice_index_or, false};
 ghost use Rattle.std.specs.List.Sorted.{IsSorted};
 ghost use Rattle.fmu_description.specs.Elements.{name_key};
-ghost use Rattle.fmu_description.specs.Names.{AreNamed, AreNamedBelow, IsBehind, MarksRepeated, Named, StandsBehind, is_repeated, named_cmp};
+ghost use Rattle.fmu_description.specs.Names.{AreNamed, AreNamedBelow, IsAfter, MarksRepeated, Named, StandsAfter, is_repeated, named_cmp};
 
 use crate::elements::name_key;
 use doc_tree::Tree;
@@ -62,8 +62,8 @@ fn named_in_order(alloc: Global, tree: &Tree) -> Result<Vec<(&str, usize)>, Allo
 }
 
 // Whether an element comes after one of its name.
-fn is_behind(one: (&str, usize), other: (&str, usize)) -> bool
-    ensures { IsTrue result ↔ IsBehind one.entry other.entry }
+fn is_after(one: (&str, usize), other: (&str, usize)) -> bool
+    ensures { IsTrue result ↔ IsAfter one.entry other.entry }
 {
     one.0 == other.0 && one.1 < other.1
 }
@@ -72,11 +72,11 @@ fn is_behind(one: (&str, usize), other: (&str, usize)) -> bool
 fn marks(alloc: Global, len: usize, named: &[(&str, usize)]) -> Result<Vec<bool>, AllocError>
     requires { All (λ (e : Named). e.1 < len) named.now }
     ensures { IfOk result (λ marks. (k : ℕ) →
-        IsTrue (slice_index_or marks.items k false) ↔ StandsBehind named.now k) }
+        IsTrue (slice_index_or marks.items k false) ↔ StandsAfter named.now k) }
 {
     let mut marks = vec![in alloc; false; len]?;
     for place in 1..named.len() {
-        if is_behind(named[place - 1], named[place]) {
+        if is_after(named[place - 1], named[place]) {
             marks[named[place].1] = true;
         }
     }

@@ -102,48 +102,38 @@ impl Places {
     }
 }
 
-/// The first variable of each value reference.
-pub(crate) fn variable_places(alloc: Global, tree: &Tree) -> Result<Places, AllocError>
-    ensures { IfOk result (λ places. IsTable (variable_key tree.now) (found places)) }
-{
-    let mut entries = Vec::new(alloc);
-    for node in 0..tree.len() {
-        add(&mut entries, elements::variable_key(tree, node), node)?;
-    }
-    Ok(Places::new(entries))
+/// The first elements of each value reference.
+#[derive(Drop)]
+pub(crate) struct KindPlaces {
+    pub(crate) variables: Places,
+    pub(crate) clocks: Places,
+    pub(crate) outputs: Places,
+    pub(crate) initial_unknowns: Places,
 }
 
-/// The first Clock of each value reference.
-pub(crate) fn clock_places(alloc: Global, tree: &Tree) -> Result<Places, AllocError>
-    ensures { IfOk result (λ places. IsTable (clock_key tree.now) (found places)) }
+/// The first variable, Clock, Output and InitialUnknown of each value reference.
+pub(crate) fn kind_places(alloc: Global, tree: &Tree) -> Result<KindPlaces, AllocError>
+    ensures variables { IfOk result (λ all. IsTable (variable_key tree.now) (found all.variables)) }
+    ensures clocks { IfOk result (λ all. IsTable (clock_key tree.now) (found all.clocks)) }
+    ensures outputs { IfOk result (λ all. IsTable (output_key tree.now) (found all.outputs)) }
+    ensures initial_unknowns { IfOk result (λ all. IsTable (initial_key tree.now) (found all.initial_unknowns)) }
 {
-    let mut entries = Vec::new(alloc);
+    let mut variables = Vec::new(alloc);
+    let mut clocks = Vec::new(alloc);
+    let mut outputs = Vec::new(alloc);
+    let mut unknowns = Vec::new(alloc);
     for node in 0..tree.len() {
-        add(&mut entries, elements::clock_key(tree, node), node)?;
+        add(&mut variables, elements::variable_key(tree, node), node)?;
+        add(&mut clocks, elements::clock_key(tree, node), node)?;
+        add(&mut outputs, elements::output_key(tree, node), node)?;
+        add(&mut unknowns, elements::initial_key(tree, node), node)?;
     }
-    Ok(Places::new(entries))
-}
-
-/// The first Output of each value reference.
-pub(crate) fn output_places(alloc: Global, tree: &Tree) -> Result<Places, AllocError>
-    ensures { IfOk result (λ places. IsTable (output_key tree.now) (found places)) }
-{
-    let mut entries = Vec::new(alloc);
-    for node in 0..tree.len() {
-        add(&mut entries, elements::output_key(tree, node), node)?;
-    }
-    Ok(Places::new(entries))
-}
-
-/// The first InitialUnknown of each value reference.
-pub(crate) fn initial_places(alloc: Global, tree: &Tree) -> Result<Places, AllocError>
-    ensures { IfOk result (λ places. IsTable (initial_key tree.now) (found places)) }
-{
-    let mut entries = Vec::new(alloc);
-    for node in 0..tree.len() {
-        add(&mut entries, elements::initial_key(tree, node), node)?;
-    }
-    Ok(Places::new(entries))
+    Ok(KindPlaces {
+        variables: Places::new(variables),
+        clocks: Places::new(clocks),
+        outputs: Places::new(outputs),
+        initial_unknowns: Places::new(unknowns),
+    })
 }
 
 /// The element CoSimulation that counts.

@@ -24,7 +24,7 @@ fn describe_indexed(alloc: Global, indexed: &IndexedTree) -> Result<Shape, Alloc
     describe(
         alloc,
         indexed.tree,
-        &indexed.foreign,
+        &indexed.ignored,
         &indexed.variables,
         &indexed.initial_unknowns,
         &indexed.outputs,

@@ -96,7 +96,7 @@ impl IndexedTree<'_> {
         ensures { IsTrue result ↔ MisreadsSetting self.now.tree.now node }
     {
         misreads_flag(self.tree, node, "canHandleMultipleSetPerTimeInstant")
-            || misreads_start(self.tree, node, self.is_foreign(node))
+            || misreads_start(self.tree, node, self.is_ignored(node))
     }
 
     fn misreads_of_variable(&self, alloc: Global, node: usize) -> Result<bool, AllocError>

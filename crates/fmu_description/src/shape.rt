@@ -3,12 +3,12 @@ ghost use Rattle.std.specs.Prelude.{IfOk};
 ghost use Rattle.fmu_description.specs.Description.{Describes};
 ghost use Rattle.fmu_description.specs.Elements.{initial_key, output_key, variable_key};
 ghost use Rattle.doc_tables.specs.Tables.{IsTable};
-ghost use Rattle.fmu_description.specs.Places.{MarksForeign, found, is_foreign};
+ghost use Rattle.fmu_description.specs.Places.{MarksIgnored, found, is_ignored};
 ghost use Rattle.fmu_description.specs.Rules.{IsSoundDescription};
 
 use crate::dependencies::{dependencies, initial_dependencies};
 use crate::elements::has_flag;
-use crate::foreign::Foreign;
+use crate::ignored::Ignored;
 use crate::places::{Places, co_simulation};
 use crate::timings::timings;
 use crate::variables::variables;
@@ -22,21 +22,21 @@ use value_types::Shape;
 pub(crate) fn describe(
     alloc: Global,
     tree: &Tree,
-    foreign: &Foreign,
+    ignored: &Ignored,
     places: &Places,
     unknowns: &Places,
     outputs: &Places,
     resolution: u64,
 ) -> Result<Shape, AllocError>
     requires sound { IsSoundDescription tree.now resolution }
-    requires foreign { MarksForeign tree.now (is_foreign foreign.now) }
+    requires ignored { MarksIgnored tree.now (is_ignored ignored.now) }
     requires places { IsTable (variable_key tree.now) (found places.now) }
     requires unknowns { IsTable (initial_key tree.now) (found unknowns.now) }
     requires outputs { IsTable (output_key tree.now) (found outputs.now) }
     ensures { IfOk result (Describes tree.now resolution) }
 {
     let element = co_simulation(tree).unwrap();
-    let variables = variables(alloc, tree, foreign)?;
+    let variables = variables(alloc, tree, ignored)?;
     let clocks = timings(alloc, tree, places, variables.as_slice())?;
     let dependencies = dependencies(alloc, tree, outputs, &variables)?;
     let initial_dependencies = initial_dependencies(

@@ -1,6 +1,6 @@
 //! The texts of attributes.
 ghost use Rattle.std.specs.Prelude.{◌≡◌, IfOk, map, option_copied, option_map};
-ghost use Rattle.fmu_description.specs.Texts.{all_of, causality, counter, flag, flag_or, has_outer_space, is_foreign_type, is_number, parts_of, port_type, reference, references, variability};
+ghost use Rattle.fmu_description.specs.Texts.{all_of, causality, counter, flag, flag_or, has_outer_space, is_number, is_unsupported_type, parts_of, port_type, reference, references, variability};
 
 use std::alloc::{AllocError, Global};
 use value_types::{Causality, IntervalVariability, PortType};
@@ -116,8 +116,8 @@ pub(crate) fn port_type(name: &str) -> Option<PortType>
 }
 
 /// Whether values of the type of this name are no whole numbers.
-pub(crate) fn is_foreign_type(name: &str) -> bool
-    ensures { result ≡ is_foreign_type name.now }
+pub(crate) fn is_unsupported_type(name: &str) -> bool
+    ensures { result ≡ is_unsupported_type name.now }
 {
     matches!(name, "Float32" | "Float64" | "String" | "Binary")
 }

@@ -1,15 +1,15 @@
 //! The variables of a description.
 ghost use Rattle.std.specs.Prelude.{◌≡◌, ◌↔◌, true, codes, IfOk, IsTrue};
 ghost use Rattle.std.specs.List.{AllZip};
-ghost use Rattle.fmu_description.specs.Clocks.{IsForeign};
+ghost use Rattle.fmu_description.specs.Clocks.{IsIgnored};
 ghost use Rattle.doc_tables.specs.Elements.{attribute, name_of};
 ghost use Rattle.fmu_description.specs.Description.{IsSoundTree, IsStart, IsVariable, ReadsStart, aliases_of, is_kept_on, variables_in};
 ghost use Rattle.fmu_description.specs.Elements.{is_variable};
-ghost use Rattle.fmu_description.specs.Places.{MarksForeign, is_foreign};
+ghost use Rattle.fmu_description.specs.Places.{MarksIgnored, is_ignored};
 ghost use Rattle.fmu_description.specs.Texts.{port_type};
 
 use crate::elements::{causality_of, is_alias, is_variable, reference_of, references_of};
-use crate::foreign::Foreign;
+use crate::ignored::Ignored;
 use crate::texts::{flag_or, port_type};
 use doc_tables::{attribute, name, text_of};
 use doc_tree::Tree;
@@ -21,16 +21,16 @@ use value_types::{ByReference, PortType, Variable, read_value};
 pub(crate) fn variables(
     alloc: Global,
     tree: &Tree,
-    foreign: &Foreign,
+    ignored: &Ignored,
 ) -> Result<ByReference<Variable>, AllocError>
     requires sound { IsSoundTree tree.now }
-    requires foreign { MarksForeign tree.now (is_foreign foreign.now) }
+    requires ignored { MarksIgnored tree.now (is_ignored ignored.now) }
     ensures { IfOk result (AllZip (IsVariable tree.now) (variables_in tree.now)) }
 {
     let mut variables = Vec::new(alloc);
     for node in 0..tree.len() {
         if is_variable(tree, node) {
-            variables.push(variable(alloc, tree, node, foreign.is_foreign(node))?)?;
+            variables.push(variable(alloc, tree, node, ignored.is_ignored(node))?)?;
         }
     }
     ByReference::new(alloc, variables)
@@ -41,14 +41,14 @@ fn variable(
     alloc: Global,
     tree: &Tree,
     node: usize,
-    is_foreign: bool,
+    is_ignored: bool,
 ) -> Result<Variable, AllocError>
     requires sound { IsSoundTree tree.now }
     requires is { is_variable tree.now node ≡ true }
-    requires foreign { IsTrue is_foreign ↔ IsForeign tree.now node }
+    requires ignored { IsTrue is_ignored ↔ IsIgnored tree.now node }
     ensures { IfOk result (IsVariable tree.now node) }
 {
-    let kind = kind_of(tree, node, is_foreign);
+    let kind = kind_of(tree, node, is_ignored);
     let start = start_of(tree, node, kind);
     let reference = reference_of(tree, node).unwrap();
     Ok(Variable {
@@ -85,11 +85,11 @@ fn aliases_of(alloc: Global, tree: &Tree, node: usize) -> Result<Items<Text>, Al
 }
 
 /// The type; an ignored variable has none.
-fn kind_of(tree: &Tree, node: usize, is_foreign: bool) -> Option<PortType>
-    ensures foreign { IsTrue is_foreign → result ≡ None }
-    ensures own { (IsTrue is_foreign → ⊥) → result ≡ port_type (name_of tree.now node) }
+fn kind_of(tree: &Tree, node: usize, is_ignored: bool) -> Option<PortType>
+    ensures ignored { IsTrue is_ignored → result ≡ None }
+    ensures own { (IsTrue is_ignored → ⊥) → result ≡ port_type (name_of tree.now node) }
 {
-    if is_foreign {
+    if is_ignored {
         None
     } else {
         port_type(name(tree, node))

@@ -47,7 +47,7 @@ same_line words a b one other =
 
 -- what is done with it
 data Finds (e : HostEnd) (h : Happened) (line : Line) (answer : Result (List ℕ) ReadFault) : Type 0 where
-  Wanting : e ≡ H.Memory → Finds e h line answer
+  OutOfMemory : e ≡ H.Memory → Finds e h line answer
   Unread : e ≡ H.Unread → answer ≡ Err r.Failed → Finds e h line answer
   Absent : e ≡ H.Missing → answer ≡ Err r.Missing → Finds e h line answer
   Long : (n : ℕ) → e ≡ H.TooBig → answer ≡ Err (r.TooBig n) → Finds e h line answer
@@ -77,10 +77,10 @@ without_shape H.TooBig h line answer t f = Long f.0 refl (stands h line answer (
 without_shape H.Broken h line answer t f = Faulty f.bytes f.rule f.place refl (stands h line answer (Ok f.bytes) t f.got.reads) f.breaks
 without_shape H.Unknown h line answer t f = absurd f
 without_shape (H.Served end) h line answer t f = absurd f
-without_shape H.Memory h line answer t f = Wanting refl
+without_shape H.Memory h line answer t f = OutOfMemory refl
 
 finds : (e : HostEnd) (h : Happened) (line : Line) (answer : Result (List ℕ) ReadFault) → HasFacts e h → Tells h line answer → Finds e h line answer
-finds e h line answer (Unbegun is same) t = Wanting is
+finds e h line answer (Unbegun is same) t = OutOfMemory is
 finds e h line answer (WithoutLine is none same) t = absurd (none line t.is)
 finds e h line answer (WithoutShape other is f same) t =
     without_shape e h line answer t (subst (λ l. LacksShape e l h.old.folder h.new.folder) (same_line h.words other line is t.is) f)
@@ -113,7 +113,7 @@ module _ (e : HostEnd) (h : Happened) (f : HasFacts e h) (status : h.status ≡ 
   failed_exact line t = by_finds (finds e h line (Err r.Failed) f t)
     where
       by_finds : Finds e h line (Err r.Failed) → OrMemory h 3
-      by_finds (Wanting is) = inr (has H.Memory is)
+      by_finds (OutOfMemory is) = inr (has H.Memory is)
       by_finds (Unread is got) = inl (has H.Unread is)
       by_finds (Absent is got) = inl (has H.Missing is)
       by_finds (Long n is got) = inl (has H.TooBig is)
@@ -124,7 +124,7 @@ module _ (e : HostEnd) (h : Happened) (f : HasFacts e h) (status : h.status ≡ 
   missing_exact line t = by_finds (finds e h line (Err r.Missing) f t)
     where
       by_finds : Finds e h line (Err r.Missing) → OrMemory h 3
-      by_finds (Wanting is) = inr (has H.Memory is)
+      by_finds (OutOfMemory is) = inr (has H.Memory is)
       by_finds (Unread is got) = inl (has H.Unread is)
       by_finds (Absent is got) = inl (has H.Missing is)
       by_finds (Long n is got) = inl (has H.TooBig is)
@@ -135,7 +135,7 @@ module _ (e : HostEnd) (h : Happened) (f : HasFacts e h) (status : h.status ≡ 
   big_exact line n t = by_finds (finds e h line (Err (r.TooBig n)) f t)
     where
       by_finds : Finds e h line (Err (r.TooBig n)) → OrMemory h 3
-      by_finds (Wanting is) = inr (has H.Memory is)
+      by_finds (OutOfMemory is) = inr (has H.Memory is)
       by_finds (Unread is got) = inl (has H.Unread is)
       by_finds (Absent is got) = inl (has H.Missing is)
       by_finds (Long m is got) = inl (has H.TooBig is)
@@ -147,7 +147,7 @@ module _ (e : HostEnd) (h : Happened) (f : HasFacts e h) (status : h.status ≡ 
   rule_exact line bytes rule place t broken = by_finds (finds e h line (Ok bytes) f t)
     where
       by_finds : Finds e h line (Ok bytes) → OrMemory h 4
-      by_finds (Wanting is) = inr (has H.Memory is)
+      by_finds (OutOfMemory is) = inr (has H.Memory is)
       by_finds (Unread is got) = absurd (cc)
       by_finds (Absent is got) = absurd (cc)
       by_finds (Long n is got) = absurd (cc)
@@ -160,7 +160,7 @@ module _ (e : HostEnd) (h : Happened) (f : HasFacts e h) (status : h.status ≡ 
   shaped line shape t = by_finds (finds e h line (Ok t.bytes) f t.tells)
     where
       by_finds : Finds e h line (Ok t.bytes) → (e ≡ H.Memory) ⊎ ShapeFacts e shape h.old.link h.new.link
-      by_finds (Wanting is) = inl is
+      by_finds (OutOfMemory is) = inl is
       by_finds (Unread is got) = absurd (cc)
       by_finds (Absent is got) = absurd (cc)
       by_finds (Long n is got) = absurd (cc)

@@ -24,22 +24,22 @@ module _ (h : Happened) (shape : Shape) (pieces : List (List ℕ)) (count : ℕ)
   abbrev before : Scene
   before = scene h.old.link.input h.old.link.output (first_view calls.model shape)
 
-  abbrev behind : Scene
-  behind = scene h.new.link.input h.new.link.output serves.machine
+  abbrev after : Scene
+  after = scene h.new.link.input h.new.link.output serves.machine
 
-  served : HasServed before behind result
-  served = subst (λ (m : Model). HasServed (scene h.old.link.input h.old.link.output (first_view m shape)) behind result)
+  served : HasServed before after result
+  served = subst (λ (m : Model). HasServed (scene h.old.link.input h.old.link.output (first_view m shape)) after result)
       (same_Some _ _ (sym serves.named ∙ calls.named)) serves.serves
 
   tells : Tells before pieces count end
   tells = record { machine = _; state = _; bytes = calls.bytes; is_machine = refl; in_state = refl; has = calls.told; comes = calls.come }
 
   decided : h.status ≡ serve_status result → AnswersOrNot h pieces end
-  decided status = by_end (served_as_told before behind result served pieces count end tells calls.few)
+  decided status = by_end (served_as_told before after result served pieces count end tells calls.few)
     where
-      by_end : MayKeepTo before behind result pieces end → AnswersOrNot h pieces end
+      by_end : MayKeepTo before after result pieces end → AnswersOrNot h pieces end
       by_end (inl keeps) = inl (record { output = keeps.output; status = status ∙ ap serve_status keeps.ends })
-      by_end (inr (inl failed)) = absurd (calls.calm (lost calls.model shape before behind (first_told calls.model shape) serves.calm (subst (HasServed before behind) failed served)))
+      by_end (inr (inl failed)) = absurd (calls.calm (lost calls.model shape before after (first_told calls.model shape) serves.calm (subst (HasServed before after) failed served)))
       by_end (inr (inr wanting)) = inr (status ∙ ap serve_status wanting)
 
 pub told_exact : (e : HostEnd) (h : Happened) → HasFacts e h → h.status ≡ status_of e → (line : Line) (shape : Shape) (pieces : List (List ℕ)) (count : ℕ) (end : ServeEnd) →

@@ -15,7 +15,7 @@ use Rattle.fmu_host.specs.Description.{IsRead, LacksShape, Reads, ReadsBroken}
 use Rattle.fmu_host.specs.Facts.{Facts, ServesShape, ShapeFacts, Unbegun, WithoutLine, WithoutShape, WithShape, first_view}
 use Rattle.fmu_host.specs.Happened.{Happened}
 use Rattle.fmu_host.specs.Line.{IsLine, IsNoLine, Line}
-use Rattle.fmu_host.specs.Rows.{BeforeCalls, BehindCalls, ByAbsence, ByFault, ByLength, Ends, IsBadFrame, IsDone, IsUnpermitted, IsUnserved, LacksFile, OnLine, WantsMemory}
+use Rattle.fmu_host.specs.Rows.{AfterCalls, BeforeCalls, ByAbsence, ByFault, ByLength, Ends, IsBadFrame, IsDone, IsUnpermitted, IsUnserved, LacksFile, LacksMemory, OnLine}
 use Rattle.fmu_host.specs.Status.{status_of}
 use Rattle.fmu_host.proofs.LinkLemmas.{first_told, lost}
 use Rattle.fmu_host.proofs.Statuses.{Status, Done, WrongFrame, WrongWords, NoFile, BrokenRule, NoMachine, WrongCall, ManyCalls, LostLink, NoMemory, number, numbered, of_end, of_serve, same_number}
@@ -39,7 +39,7 @@ WhenIs NoMachine h = OnLine h (IsUnknown h) × IsUnserved h
 WhenIs WrongCall h = OnLine h (Ends h IsUnpermitted)
 WhenIs ManyCalls h = OnLine h (Ends h (λ end. end ≡ E.TooMany))
 WhenIs LostLink h = OnLine h (Ends h (λ end. end ≡ E.Failed)) × LosesCount h
-WhenIs NoMemory h = (h.new ≡ h.old) ⊎ OnLine h (WantsMemory h)
+WhenIs NoMemory h = (h.new ≡ h.old) ⊎ OnLine h (LacksMemory h)
 
 -- a read that failed raised the count
 pub read_rose : (line : Line) (old new : FolderView) → Reads line (Err r.Failed) old new → Rose old.faults new.faults
@@ -69,7 +69,7 @@ served E.Failed h line shape is read s = (
   lost s.model shape (scene h.old.link.input h.old.link.output (first_view s.model shape)) (scene h.new.link.input h.new.link.output s.machine) (first_told s.model shape) s.calm s.serves,
 )
 served E.TooMany h line shape is read s = (line, is, record { shape = shape; read = read; end = E.TooMany; so = refl; serves = s })
-served E.Memory h line shape is read s = inr (line, is, BehindCalls (record { shape = shape; read = read; end = E.Memory; so = refl; serves = s }))
+served E.Memory h line shape is read s = inr (line, is, AfterCalls (record { shape = shape; read = read; end = E.Memory; so = refl; serves = s }))
 
 with_shape : (e : HostEnd) (h : Happened) (line : Line) (shape : Shape) → IsLine h.words line → IsRead line shape h.old.folder h.new.folder →
     ShapeFacts e shape h.old.link h.new.link → WhenIs (of_end e) h

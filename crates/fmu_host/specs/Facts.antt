@@ -9,7 +9,7 @@ use Rattle.bench_fmus.specs.Models.{behaviour_of, model_named}
 use Rattle.host_serving.specs.declared.serving.ServeEnd.{ServeEnd}
 use Rattle.host_serving.specs.Serving.{HasServed, scene}
 use Rattle.fmu_host.specs.Description.{IsRead, LacksShape}
-use Rattle.fmu_host.specs.Happened.{Link, Stage}
+use Rattle.fmu_host.specs.Happened.{Link, Outside}
 use Rattle.fmu_host.specs.Line.{IsLine, IsNoLine, Line}
 use Rattle.fmu_host.specs.declared.hosting.HostEnd.{HostEnd}
 use Rattle.fmu_host.specs.declared.hosting.HostEnd.TheVariants.{NoWords, Unread, Missing, TooBig, Broken, Unknown, Served, Memory}
@@ -49,7 +49,7 @@ ShapeFacts (Served end) shape old new = ServesShape end shape old new
 ShapeFacts Memory shape old new = new ≡ old
 
 -- memory runs out at once, or the arguments are no command line, and nothing is done; or no shape is read, and nothing else is done; or a shape is read
-pub data Facts (end : HostEnd) (words : List (List ℕ)) (old new : Stage) : Type 0 where
+pub data Facts (end : HostEnd) (words : List (List ℕ)) (old new : Outside) : Type 0 where
   Unbegun : end ≡ Memory → new ≡ old → Facts end words old new
   WithoutLine : end ≡ NoWords → IsNoLine words → new ≡ old → Facts end words old new
   WithoutShape : (line : Line) → IsLine words line → LacksShape end line old.folder new.folder →

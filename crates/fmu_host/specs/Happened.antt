@@ -13,19 +13,19 @@ abbrev pub link : SourceView → SinkView → Link
 link input output = record { input = input; output = output }
 
 -- and what files tell
-pub record Stage : Type 0 where
+pub record Outside : Type 0 where
   pub folder : FolderView
   pub link : Link
 
-abbrev pub stage : FolderView → SourceView → SinkView → Stage
-stage folder input output = record { folder = folder; link = link input output }
+abbrev pub outside : FolderView → SourceView → SinkView → Outside
+outside folder input output = record { folder = folder; link = link input output }
 
 -- the arguments, what is told before and after, and the status
 pub record Happened : Type 0 where
   pub words : List (List ℕ)
-  pub old : Stage
-  pub new : Stage
+  pub old : Outside
+  pub new : Outside
   pub status : ℕ
 
-abbrev pub happened : List (List ℕ) → Stage → Stage → ℕ → Happened
+abbrev pub happened : List (List ℕ) → Outside → Outside → ℕ → Happened
 happened words old new status = record { words = words; old = old; new = new; status = status }

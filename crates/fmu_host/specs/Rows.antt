@@ -152,13 +152,13 @@ pub record ServedRow (h : Happened) : Type 0 where
       Answers h pieces end ⊎ (h.status ≡ 11)
 
 -- memory ran out: before a call was taken, when the description was read or not yet; or after the calls that were served
-pub data WantsMemory (h : Happened) (line : Line) : Type 0 where
-  BeforeCalls : MayRead line h.old.folder h.new.folder → IsUnserved h → WantsMemory h line
-  BehindCalls : Ends h (λ end. end ≡ E.Memory) line → WantsMemory h line
+pub data LacksMemory (h : Happened) (line : Line) : Type 0 where
+  BeforeCalls : MayRead line h.old.folder h.new.folder → IsUnserved h → LacksMemory h line
+  AfterCalls : Ends h (λ end. end ≡ E.Memory) line → LacksMemory h line
 
 -- 11: nothing was done, or this
 pub record MemoryRow (h : Happened) : Type 0 where
-  pub when : h.status ≡ 11 → (h.new ≡ h.old) ⊎ OnLine h (WantsMemory h)
+  pub when : h.status ≡ 11 → (h.new ≡ h.old) ⊎ OnLine h (LacksMemory h)
 
 -- no other status comes
 abbrev pub IsStatus : ℕ → Type 0

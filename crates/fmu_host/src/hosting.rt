@@ -5,7 +5,7 @@ ghost use Rattle.std.specs.Vec.Iter.{into_iter_items};
 ghost use Rattle.command_line.specs.Line.{texts};
 ghost use Rattle.fmu_host.specs.Description.{IsRead, LacksShape, ReadsBytes, refused_end, unread_end};
 ghost use Rattle.fmu_host.specs.Facts.{Facts, ShapeFacts};
-ghost use Rattle.fmu_host.specs.Happened.{happened, link, stage};
+ghost use Rattle.fmu_host.specs.Happened.{happened, link, outside};
 ghost use Rattle.fmu_host.specs.Line.{Line, line_of};
 ghost use Rattle.fmu_host.specs.Rows.{KeepsRows};
 ghost use Rattle.fmu_host.specs.Status.{status_of, ungiven_end};
@@ -14,7 +14,7 @@ use crate::quiet::QuietMachine;
 use crate::words::{HostLine, read_words};
 use bench_fmus::Model;
 use host_serving::{ServeEnd, serve};
-use sim_base::{Folder, MOST_FILE_BYTES, ReadFault, Sink, Source};
+use sim_base::{Folder, MOST_FILE_BYTES, ReadFault, SharedBytes, Sink, Source};
 use std::alloc::{AllocError, Global};
 use std::env::Args;
 use std::io::{self, ErrorKind};
@@ -72,14 +72,14 @@ pub(crate) fn host_args<F: Folder, I: Source, O: Sink>(
     output: &mut O,
 ) -> u8
     ensures given { IfOk args (λ given. KeepsRows (happened (texts (drop 1 (into_iter_items given)))
-        (stage (F.view folder.old) (I.view input.old) (O.view output.old))
-        (stage (F.view folder.new) (I.view input.new) (O.view output.new)) result)) }
-    ensures same { IfErr args (λ error. stage (F.view folder.new) (I.view input.new) (O.view output.new)
-        ≡ stage (F.view folder.old) (I.view input.old) (O.view output.old)) }
+        (outside (F.view folder.old) (I.view input.old) (O.view output.old))
+        (outside (F.view folder.new) (I.view input.new) (O.view output.new)) result)) }
+    ensures same { IfErr args (λ error. outside (F.view folder.new) (I.view input.new) (O.view output.new)
+        ≡ outside (F.view folder.old) (I.view input.old) (O.view output.old)) }
     ensures ungiven { IfErr args (λ error. result ≡ status_of (ungiven_end (error_kind error))) }
 {
     match args {
-        Ok(given) => match words_behind(alloc, given) {
+        Ok(given) => match words_after(alloc, given) {
             Ok(words) => host_words(alloc, &words, folder, input, output),
             Err(_) => HostEnd::Memory.status(),
         },
@@ -88,7 +88,7 @@ pub(crate) fn host_args<F: Folder, I: Source, O: Sink>(
 }
 
 // The arguments after the program's name.
-fn words_behind(alloc: Global, given: Args) -> Result<Vec<String>, AllocError>
+fn words_after(alloc: Global, given: Args) -> Result<Vec<String>, AllocError>
     ensures { IfOk result (λ words. words.items ≡ drop 1 (into_iter_items given)) }
 {
     given.skip(1).collect(alloc)
@@ -113,8 +113,8 @@ pub fn host_words<F: Folder, I: Source, O: Sink>(
     output: &mut O,
 ) -> u8
     ensures { KeepsRows (happened (texts words.now)
-        (stage (F.view folder.old) (I.view input.old) (O.view output.old))
-        (stage (F.view folder.new) (I.view input.new) (O.view output.new)) result) }
+        (outside (F.view folder.old) (I.view input.old) (O.view output.old))
+        (outside (F.view folder.new) (I.view input.new) (O.view output.new)) result) }
 {
     host(alloc, words, folder, input, output).status()
 }
@@ -127,8 +127,8 @@ fn host<F: Folder, I: Source, O: Sink>(
     output: &mut O,
 ) -> HostEnd
     ensures { Facts result (texts words.now)
-        (stage (F.view folder.old) (I.view input.old) (O.view output.old))
-        (stage (F.view folder.new) (I.view input.new) (O.view output.new)) }
+        (outside (F.view folder.old) (I.view input.old) (O.view output.old))
+        (outside (F.view folder.new) (I.view input.new) (O.view output.new)) }
 {
     let Some(line) = read_words(words) else {
         return HostEnd::NoWords;
@@ -151,7 +151,7 @@ fn read_model<F: Folder>(
         (F.view folder.new)) }
 {
     match read_description(alloc, line.directory, folder) {
-        Ok(bytes) => match read_shape(alloc, &bytes, line.resolution) {
+        Ok(bytes) => match read_shape(alloc, bytes.as_slice(), line.resolution) {
             Ok(shape) => Ok(shape),
             Err(fault) => Err(refused_end(fault)),
         },
@@ -164,9 +164,9 @@ fn read_description<F: Folder>(
     alloc: Global,
     directory: &str,
     folder: &mut F,
-) -> Result<Vec<u8>, HostEnd>
+) -> Result<SharedBytes, HostEnd>
     ensures ok { IfOk result (λ bytes. (line : Line) → line.directory ≡ directory.now →
-        ReadsBytes line bytes.items (F.view folder.old) (F.view folder.new)) }
+        ReadsBytes line bytes (F.view folder.old) (F.view folder.new)) }
     ensures err { IfErr result (λ end. (line : Line) → line.directory ≡ directory.now →
         LacksShape end line (F.view folder.old) (F.view folder.new)) }
 {

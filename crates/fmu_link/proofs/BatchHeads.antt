@@ -5,11 +5,11 @@ use Rattle.std.proofs.lemmas.List.{length-take, take_at}
 use Rattle.std.proofs.lemmas.Slice.{take-put_mid}
 use Rattle.link_frames.specs.Batch.{IsHeadOf}
 use Rattle.fmu_link.specs.Batches.{ArrivesAll, IsAskedFor}
-use Rattle.fmu_link.specs.Wire.{WireView, with_front, with_sent}
+use Rattle.fmu_link.specs.Wire.{WireView, with_prefix, with_sent}
 use borrow.Rule.Slice.PartMut.{put_mid}
 
-fronts_joined : (a b : List ℕ) (view : WireView) → with_front a (with_front b view) ≡ with_front (a ++ b) view
-fronts_joined a b view = ap (λ (o : Option (List ℕ)). record view { coming = o }) (by view.coming)
+prefixes_joined : (a b : List ℕ) (view : WireView) → with_prefix a (with_prefix b view) ≡ with_prefix (a ++ b) view
+prefixes_joined a b view = ap (λ (o : Option (List ℕ)). record view { coming = o }) (by view.coming)
   where
     by : (o : Option (List ℕ)) → option_map (λ (rest : List ℕ). a ++ rest) (option_map (λ (rest : List ℕ). b ++ rest) o) ≡ option_map (λ (rest : List ℕ). (a ++ b) ++ rest) o
     by None = refl
@@ -30,18 +30,18 @@ module _ (room part head : List ℕ) (size : length room ≡ 1560) (long : lengt
   both_in rest end all = take-put_mid 24 (end - 24) (part ++ drop 24 room) rest end all room_left ∙ ap (λ (xs : List ℕ). xs ++ rest) head_in
 
   -- what came where the head was all
-  pub alone_arrives : (old sent mid : WireView) (batch : List ℕ) → sent ≡ with_sent old batch → sent ≡ with_front head mid → ArrivesAll old batch (take 24 (part ++ drop 24 room)) mid
+  pub alone_arrives : (old sent mid : WireView) (batch : List ℕ) → sent ≡ with_sent old batch → sent ≡ with_prefix head mid → ArrivesAll old batch (take 24 (part ++ drop 24 room)) mid
   alone_arrives old sent mid batch is came = subst (λ (bytes : List ℕ). ArrivesAll old batch bytes mid) (sym head_in) (sym is ∙ came)
 
   pub alone_asked : ((count : ℕ) → IsHeadOf count head → ⊥) → IsAskedFor (take 24 (part ++ drop 24 room))
   alone_asked none = subst IsAskedFor (sym head_in) (inl (long, none))
 
   -- and where more came after it
-  pub both_arrive : (old sent mid new : WireView) (batch rest : List ℕ) (end : ℕ) → end ≡ 24 + length rest → sent ≡ with_sent old batch → sent ≡ with_front head mid → mid ≡ with_front rest new →
+  pub both_arrive : (old sent mid new : WireView) (batch rest : List ℕ) (end : ℕ) → end ≡ 24 + length rest → sent ≡ with_sent old batch → sent ≡ with_prefix head mid → mid ≡ with_prefix rest new →
       ArrivesAll old batch (take end (put_mid 24 (end - 24) (part ++ drop 24 room) rest)) new
   both_arrive old sent mid new batch rest end all is came second =
       subst (λ (bytes : List ℕ). ArrivesAll old batch bytes new) (sym (both_in rest end all))
-      (sym is ∙ came ∙ ap (λ (w : WireView). with_front head w) second ∙ fronts_joined head rest new)
+      (sym is ∙ came ∙ ap (λ (w : WireView). with_prefix head w) second ∙ prefixes_joined head rest new)
 
   pub both_asked : (rest : List ℕ) (end count : ℕ) → end ≡ 24 + length rest → end ≡ 24 * (count + 1) → IsHeadOf count head → IsAskedFor (take end (put_mid 24 (end - 24) (part ++ drop 24 room) rest))
   both_asked rest end count all end_is is =
@@ -53,7 +53,7 @@ module _ (room part head : List ℕ) (size : length room ≡ 1560) (long : lengt
   rest_long rest end ge le is =
       let whole = whole_head in
       let all = length-append part (drop 24 room) in
-      let behind = length-drop 24 room in
+      let after = length-drop 24 room in
       let from = length-drop 24 (part ++ drop 24 room) in
-      let front = length-take (end - 24) (drop 24 (part ++ drop 24 room)) in
-      omega (arith, whole, all, behind, from, front, size, ge, le, is)
+      let prefix = length-take (end - 24) (drop 24 (part ++ drop 24 room)) in
+      omega (arith, whole, all, after, from, prefix, size, ge, le, is)

@@ -4,12 +4,12 @@ use Rattle.sim_base.specs.Causes.{HasCause, one_more}
 use Rattle.fmi_calls.specs.Next.{next_of}
 use Rattle.fmi_calls.specs.declared.call.Call.{Call}
 use Rattle.fmi_calls.specs.declared.call.Reply.{Reply}
-use Rattle.fmu_peer.specs.Many.{AskedMany, FaultsBehind, MayAskAll}
+use Rattle.fmu_peer.specs.Many.{AskedMany, FaultsAfter, MayAskAll}
 use Rattle.fmu_peer.specs.View.{Asked, View}
 use Rattle.fmu_peer.specs.declared.peer.PeerFault.{PeerFault}
 use Rattle.fmu_peer.specs.declared.peer.PeerFault.TheVariants.{Garbled}
 use Rattle.fmu_peer.specs.declared.peer.PeerFault.TheVariants as PF
-use Rattle.fmu_peer.proofs.ManyLemmas.{faults_behind, permitted_now}
+use Rattle.fmu_peer.proofs.ManyLemmas.{faults_after, permitted_now}
 use Rattle.fmu_link.specs.declared.instance.Instance.{Instance}
 use Rattle.fmu_link.specs.declared.wire.WireFault.{WireFault}
 use Rattle.fmu_link.specs.declared.wire.WireFault.TheVariants.{Ended, Failed}
@@ -85,17 +85,17 @@ broken_asked before after old new batch fault call breaks same bad phase = recor
 
 pub broken_many : (before after : WireView) (old new : Instance) (batch : List ℕ) (fault : WireFault) (calls : List Call) (d : Call) (replies : List Reply) → 0 < length calls → length replies ≡ length calls → MayAskAll old.shape old.phase calls →
     BreaksOff before batch fault after → IsSameInstance old new → new.bad_replies ≡ bad_after old.bad_replies fault → new.phase ≡ next_of old.shape old.phase (get_or calls 0 d) None →
-    FaultsBehind (view_of before old) calls replies replies PF.Failed (view_of after new)
+    FaultsAfter (view_of before old) calls replies replies PF.Failed (view_of after new)
 broken_many before after old new batch fault calls d replies some len may breaks same bad phase =
-    faults_behind (view_of before old) (view_of before old) (view_of after new) calls replies replies 0 d PF.Failed len some refl refl (λ k e lt. absurd (omega (arith, lt)))
+    faults_after (view_of before old) (view_of before old) (view_of after new) calls replies replies 0 d PF.Failed len some refl refl (λ k e lt. absurd (omega (arith, lt)))
     (permitted_now (view_of before old) (view_of before old) calls 0 d some refl may)
     (broken_asked before after old new batch fault (get_or calls 0 d) breaks same bad phase)
 
 pub garbled_many : (wire : WireView) (old new : Instance) (head : List ℕ) (calls : List Call) (d : Call) (replies : List Reply) → 0 < length calls → length replies ≡ length calls → MayAskAll old.shape old.phase calls →
     IsSameInstance old new → new.bad_replies ≡ one_more old.bad_replies → new.phase ≡ next_of old.shape old.phase (get_or calls 0 d) None →
-    FaultsBehind (view_of wire old) calls replies replies (Garbled head) (view_of wire new)
+    FaultsAfter (view_of wire old) calls replies replies (Garbled head) (view_of wire new)
 garbled_many wire old new head calls d replies some len may same bad phase =
-    faults_behind (view_of wire old) (view_of wire old) (view_of wire new) calls replies replies 0 d (Garbled head) len some refl refl (λ k e lt. absurd (omega (arith, lt)))
+    faults_after (view_of wire old) (view_of wire old) (view_of wire new) calls replies replies 0 d (Garbled head) len some refl refl (λ k e lt. absurd (omega (arith, lt)))
     (permitted_now (view_of wire old) (view_of wire old) calls 0 d some refl may)
     (item_garbled wire old new (get_or calls 0 d) head same bad phase)
 

@@ -27,7 +27,7 @@ module _ (old mid new : LineView) (cs : List Call) (rs : List Reply) (i : ℕ) (
   -- the next gets a fault
   pub singly_breaks : (fault : PeerFault) → Exchanged (get_or cs i d) name token mid new (Err fault) → BreaksSingly cs old fault new
   singly_breaks fault one = record {
-    front = take i cs;
+    prefix = take i cs;
     call = get_or cs i d;
     left = drop (suc i) cs;
     calls_are = sym (take-append-drop i cs) ∙ ap (λ (xs : List Call). take i cs ++ xs) (drop-cons cs i d lt);

@@ -9,16 +9,16 @@ use Rattle.fmi_calls.specs.declared.call.Content.TheVariants.{Serialize}
 use Rattle.fmi_calls.specs.declared.call.Reply.{Reply}
 use Rattle.fmi_calls.specs.declared.call.Reply.TheVariants.{Done}
 use Rattle.link_frames.specs.Reply.{IsReplyFrame}
-use Rattle.fmu_peer.specs.Machine.{bytes_behind}
+use Rattle.fmu_peer.specs.Machine.{bytes_after_reply}
 use Rattle.fmu_peer.specs.View.{Serializes}
 use Rattle.fmu_peer.specs.declared.peer.PeerFault.{PeerFault}
 use Rattle.fmu_peer.specs.declared.peer.PeerFault.TheVariants as P
 use Rattle.fmu_link.specs.declared.instance.Instance.{Instance}
 use Rattle.fmu_link.specs.declared.wire.WireFault.{WireFault}
 use Rattle.fmu_link.specs.declared.wire.WireFault.TheVariants.{Failed, Ended}
-use Rattle.fmu_link.specs.Exchange.{Arrives, Breaks, HearsState, LineView, LosesState, NotesCall, NotesSerialize, bad_after, count_behind}
+use Rattle.fmu_link.specs.Exchange.{Arrives, Breaks, HearsState, LineView, LosesState, NotesCall, NotesSerialize, bad_after, count_after}
 use Rattle.fmu_link.specs.Piped.{view_of}
-use Rattle.fmu_link.specs.Wire.{WireView, NotesReceive, NotesSend, with_fault, with_front, with_sent}
+use Rattle.fmu_link.specs.Wire.{WireView, NotesReceive, NotesSend, with_fault, with_prefix, with_sent}
 
 -- ---- sent in two parts
 
@@ -68,48 +68,48 @@ lost_first old new a b Ended h same = absurd h
 
 -- ---- bytes after a reply
 
-few_bytes : (reply : Reply) (bytes : List ℕ) → IsReplyFrame reply bytes → bytes_behind reply ≤ 2 ^ 20
+few_bytes : (reply : Reply) (bytes : List ℕ) → IsReplyFrame reply bytes → bytes_after_reply reply ≤ 2 ^ 20
 few_bytes (Done is_warning (Serialize count)) bytes h = h.can_be_told
 few_bytes reply bytes h = omega arith
 
-pub few_behind : (old new : LineView) (frame : List ℕ) (answer : Result Reply PeerFault) → NotesCall old new frame answer → count_behind answer ≤ 2 ^ 20
-few_behind old new frame (Ok reply) (bytes, came, spelled, counted) = few_bytes reply bytes spelled
-few_behind old new frame (Err fault) h = omega arith
+pub few_after : (old new : LineView) (frame : List ℕ) (answer : Result Reply PeerFault) → NotesCall old new frame answer → count_after answer ≤ 2 ^ 20
+few_after old new frame (Ok reply) (bytes, came, spelled, counted) = few_bytes reply bytes spelled
+few_after old new frame (Err fault) h = omega arith
 
-no_front : (view : WireView) → view ≡ with_front [] view
-no_front view = ap (λ (o : Option (List ℕ)). record view { coming = o }) (by view.coming)
+no_prefix : (view : WireView) → view ≡ with_prefix [] view
+no_prefix view = ap (λ (o : Option (List ℕ)). record view { coming = o }) (by view.coming)
   where
     by : (o : Option (List ℕ)) → o ≡ option_map (λ (rest : List ℕ). [] ++ rest) o
     by None = refl
     by (Some rest) = refl
 
 -- no bytes are to come, and none were asked for
-pub none_behind : (line : LineView) (answer : Result Reply PeerFault) (state : List ℕ) → count_behind answer ≡ 0 → state ≡ [] → HearsState line line answer answer state
-none_behind line answer state none empty = record {
+pub none_after : (line : LineView) (answer : Result Reply PeerFault) (state : List ℕ) → count_after answer ≡ 0 → state ≡ [] → HearsState line line answer answer state
+none_after line answer state none empty = record {
   is = refl;
   whole = ap length empty ∙ sym none;
-  came = no_front line.wire ∙ ap (λ (l : List ℕ). with_front l line.wire) (sym empty);
+  came = no_prefix line.wire ∙ ap (λ (l : List ℕ). with_prefix l line.wire) (sym empty);
   counted = refl;
 }
 
 -- all of them came, and are the prefix of the room
-pub heard : (old new : LineView) (answer : Result Reply PeerFault) (count : ℕ) (part items : List ℕ) → count ≡ count_behind answer → length part ≡ count → old.wire ≡ with_front part new.wire → new.bad_replies ≡ old.bad_replies →
+pub heard : (old new : LineView) (answer : Result Reply PeerFault) (count : ℕ) (part items : List ℕ) → count ≡ count_after answer → length part ≡ count → old.wire ≡ with_prefix part new.wire → new.bad_replies ≡ old.bad_replies →
     HearsState old new answer answer (take count (part ++ drop (length part) items))
 heard old new answer count part items told size came counted =
     let all : take count (part ++ drop (length part) items) ≡ part = take_at part (drop (length part) items) count size in
-    record { is = refl; whole = ap length all ∙ size ∙ told; came = came ∙ ap (λ (l : List ℕ). with_front l new.wire) (sym all); counted = counted }
+    record { is = refl; whole = ap length all ∙ size ∙ told; came = came ∙ ap (λ (l : List ℕ). with_prefix l new.wire) (sym all); counted = counted }
 
 -- ---- what a Serialize is to a peer
 
 -- the bytes are those that follow the reply
 pub followed : (wire : WireView) (instance : Instance) (old new : LineView) (frame : List ℕ) (result : Result Reply PeerFault) (state : List ℕ) → NotesSerialize old new frame result state → Serializes (view_of wire instance) result state
 followed wire instance old new frame (Err fault) state h = tt
-followed wire instance old new frame (Ok reply) state h = by h.behind
+followed wire instance old new frame (Ok reply) state h = by h.after
   where
     by : HearsState h.mid new h.answer (Ok reply) state ⊎ LosesState h.mid new h.answer (Ok reply) → Serializes (view_of wire instance) (Ok reply) state
     by (inl heard) =
-        let few = few_behind old h.mid frame h.answer h.called in
-        record { count = heard.whole ∙ ap count_behind (sym heard.is); few = omega (arith, heard.whole, few); packed = tt }
+        let few = few_after old h.mid frame h.answer h.called in
+        record { count = heard.whole ∙ ap count_after (sym heard.is); few = omega (arith, heard.whole, few); packed = tt }
     by (inr lost) = absurd (let wrong = lost.is in cc)
 
 abbrev faults_of : LineView → ℕ
@@ -133,17 +133,17 @@ caused old new frame (Err P.Failed) (fault, broke, counted) = by fault broke cou
     by Ended (inr (room, long, (short, e))) counted = let wires : new.wire.faults ≡ old.wire.faults = ap (λ (w : WireView). w.faults) e in record { later = omega (arith, wires, counted); quiet = tt; rose = omega (arith, wires, counted) }
 
 -- where bytes follow the answer it is a reply
-answered : (old mid : LineView) (frame : List ℕ) (answer : Result Reply PeerFault) → NotesCall old mid frame answer → 0 < count_behind answer → faults_of mid ≡ faults_of old
+answered : (old mid : LineView) (frame : List ℕ) (answer : Result Reply PeerFault) → NotesCall old mid frame answer → 0 < count_after answer → faults_of mid ≡ faults_of old
 answered old mid frame (Ok reply) h some = (caused old mid frame (Ok reply) h).quiet
 answered old mid frame (Err fault) h some = absurd (omega (arith, some))
 
-lost_behind : (mid new : LineView) (room : List ℕ) (fault : WireFault) → NotesReceive {T = Unit {0}} mid.wire new.wire room (Err fault) → new.bad_replies ≡ bad_after mid.bad_replies fault →
+lost_after : (mid new : LineView) (room : List ℕ) (fault : WireFault) → NotesReceive {T = Unit {0}} mid.wire new.wire room (Err fault) → new.bad_replies ≡ bad_after mid.bad_replies fault →
     HasCause {T = Reply} {E = PeerFault} (faults_of mid) (faults_of new) (Err P.Failed)
-lost_behind mid new room Failed (n, e) counted = let wires : new.wire.faults ≡ one_more mid.wire.faults = ap (λ (w : WireView). w.faults) e in record { later = omega (arith, wires, counted); quiet = tt; rose = omega (arith, wires, counted) }
-lost_behind mid new room Ended (short, e) counted = let wires : new.wire.faults ≡ mid.wire.faults = ap (λ (w : WireView). w.faults) e in record { later = omega (arith, wires, counted); quiet = tt; rose = omega (arith, wires, counted) }
+lost_after mid new room Failed (n, e) counted = let wires : new.wire.faults ≡ one_more mid.wire.faults = ap (λ (w : WireView). w.faults) e in record { later = omega (arith, wires, counted); quiet = tt; rose = omega (arith, wires, counted) }
+lost_after mid new room Ended (short, e) counted = let wires : new.wire.faults ≡ mid.wire.faults = ap (λ (w : WireView). w.faults) e in record { later = omega (arith, wires, counted); quiet = tt; rose = omega (arith, wires, counted) }
 
 pub state_caused : (old new : LineView) (frame : List ℕ) (result : Result Reply PeerFault) (state : List ℕ) → NotesSerialize old new frame result state → HasCause (faults_of old) (faults_of new) result
-state_caused old new frame result state h = by h.behind
+state_caused old new frame result state h = by h.after
   where
     by : HearsState h.mid new h.answer result state ⊎ LosesState h.mid new h.answer result → HasCause (faults_of old) (faults_of new) result
     by (inl heard) =
@@ -154,4 +154,4 @@ state_caused old new frame result state h = by h.behind
     by (inr lost) =
         subst (λ (r : Result Reply PeerFault). HasCause (faults_of old) (faults_of new) r) (sym lost.is)
         (subst (λ (n : ℕ). HasCause {T = Reply} {E = PeerFault} n (faults_of new) (Err P.Failed)) (answered old h.mid frame h.answer h.called lost.some)
-        (lost_behind h.mid new lost.room lost.fault lost.broke lost.counted))
+        (lost_after h.mid new lost.room lost.fault lost.broke lost.counted))

@@ -16,11 +16,11 @@ use Rattle.link_frames.specs.Reply.{IsReplyFrame}
 use Rattle.fmu_link.specs.declared.instance.Instance.{Instance}
 use Rattle.fmu_link.specs.declared.wire.WireFault.{WireFault}
 use Rattle.fmu_link.specs.Exchange.{Breaks, Exchanged, LineView, bad_after}
-use Rattle.fmu_link.specs.Wire.{WireView, NotesReceive, with_front, with_sent}
+use Rattle.fmu_link.specs.Wire.{WireView, NotesReceive, with_prefix, with_sent}
 
 -- the wire took all of the batch, and these bytes came
 abbrev pub ArrivesAll : WireView → List ℕ → List ℕ → WireView → Type 0
-ArrivesAll old batch bytes new = with_sent old batch ≡ with_front bytes new
+ArrivesAll old batch bytes new = with_sent old batch ≡ with_prefix bytes new
 
 -- how many bytes are asked for after a batch: a head, and after it a frame for each reply that it counts, or no more where it is the head of no batch
 abbrev pub IsAskedFor : List ℕ → Type 0
@@ -29,7 +29,7 @@ IsAskedFor bytes =
     ((count : ℕ) × IsHeadOf count (take 24 bytes) × (length bytes ≡ 24 * (count + 1)))
 
 -- a head came after the batch, and the wire failed or ended before all was there that it counts
-pub record BreaksBehind (old : WireView) (batch : List ℕ) (fault : WireFault) (new : WireView) : Type 0 where
+pub record BreaksAfter (old : WireView) (batch : List ℕ) (fault : WireFault) (new : WireView) : Type 0 where
   pub head : List ℕ
   pub count : ℕ
   pub is_head : IsHeadOf count head
@@ -42,7 +42,7 @@ pub record BreaksBehind (old : WireView) (batch : List ℕ) (fault : WireFault) 
 -- the wire failed or ended before the head was there, or after it
 abbrev pub BreaksOff : WireView → List ℕ → WireFault → WireView → Type 0
 BreaksOff old batch fault new =
-    Breaks old batch fault new ⊎ BreaksBehind old batch fault new
+    Breaks old batch fault new ⊎ BreaksAfter old batch fault new
 
 -- but for its phase and its count of replies that were garbled or cut it is as it was
 pub record IsSameInstance (old new : Instance) : Type 0 where
@@ -146,13 +146,13 @@ GoSingly old (call ∷ calls) (reply ∷ replies) new =
 -- so the first of the calls did, and the one after them got this fault
 pub record BreaksSingly (calls : List Call) (old : LineView) (fault : PeerFault)
     (new : LineView) : Type 0 where
-  pub front : List Call
+  pub prefix : List Call
   pub call : Call
   pub left : List Call
-  pub calls_are : calls ≡ front ++ call ∷ left
+  pub calls_are : calls ≡ prefix ++ call ∷ left
   pub replies : List Reply
   pub mid : LineView
-  pub went : GoSingly old front replies mid
+  pub went : GoSingly old prefix replies mid
   pub name : List ℕ
   pub token : List ℕ
   pub broke : Exchanged call name token mid new (Err fault)

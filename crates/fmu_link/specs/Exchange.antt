@@ -4,14 +4,14 @@ use Rattle.sim_base.specs.Causes.{one_more}
 use Rattle.fmi_calls.specs.declared.call.Call.{Call}
 use Rattle.fmi_calls.specs.declared.call.Call.TheVariants as C
 use Rattle.fmi_calls.specs.declared.call.Reply.{Reply}
-use Rattle.fmu_peer.specs.Machine.{bytes_behind}
+use Rattle.fmu_peer.specs.Machine.{bytes_after_reply}
 use Rattle.fmu_peer.specs.declared.peer.PeerFault.{PeerFault}
 use Rattle.fmu_peer.specs.declared.peer.PeerFault.TheVariants as P
 use Rattle.link_frames.specs.Call.{IsFrameOf}
 use Rattle.link_frames.specs.Reply.{IsReplyFrame}
 use Rattle.fmu_link.specs.declared.wire.WireFault.{WireFault}
 use Rattle.fmu_link.specs.declared.wire.WireFault.TheVariants.{Failed, Ended}
-use Rattle.fmu_link.specs.Wire.{WireView, NotesSend, NotesReceive, with_front, with_sent}
+use Rattle.fmu_link.specs.Wire.{WireView, NotesSend, NotesReceive, with_prefix, with_sent}
 
 -- they are the frame of no reply
 abbrev pub IsNoReply : List ℕ → Type 0
@@ -26,7 +26,7 @@ Says bytes (Err P.Failed) = ⊥
 -- the wire took all of the frame, and these 24 bytes came
 pub record Arrives (old : WireView) (frame bytes : List ℕ) (new : WireView) : Type 0 where
   pub whole : length bytes ≡ 24
-  pub noted : with_sent old frame ≡ with_front bytes new
+  pub noted : with_sent old frame ≡ with_prefix bytes new
 
 -- the wire failed while it was sent the frame, or it took the frame, and failed or ended before 24 bytes came
 abbrev pub Breaks : WireView → List ℕ → WireFault → WireView → Type 0
@@ -67,25 +67,25 @@ pub record Exchanged (call : Call) (name token : List ℕ) (old new : LineView)
 -- ---- the bytes of a state
 
 -- how many follow an answer
-abbrev pub count_behind : Result Reply PeerFault → ℕ
-count_behind (Ok reply) = bytes_behind reply
-count_behind (Err fault) = 0
+abbrev pub count_after : Result Reply PeerFault → ℕ
+count_after (Ok reply) = bytes_after_reply reply
+count_after (Err fault) = 0
 
 -- as many bytes came as follow the answer: they are the state, and the answer is the result
 pub record HearsState (old new : LineView) (answer result : Result Reply PeerFault)
     (state : List ℕ) : Type 0 where
   pub is : result ≡ answer
-  pub whole : length state ≡ count_behind answer
-  pub came : old.wire ≡ with_front state new.wire
+  pub whole : length state ≡ count_after answer
+  pub came : old.wire ≡ with_prefix state new.wire
   pub counted : new.bad_replies ≡ old.bad_replies
 
 -- the wire failed or ended before so many came
 pub record LosesState (old new : LineView) (answer result : Result Reply PeerFault) : Type 0 where
-  pub some : 0 < count_behind answer
+  pub some : 0 < count_after answer
   pub fault : WireFault
   pub is : result ≡ Err P.Failed
   pub room : List ℕ
-  pub awaited : length room ≡ count_behind answer
+  pub awaited : length room ≡ count_after answer
   pub broke : NotesReceive {T = Unit {0}} old.wire new.wire room (Err fault)
   pub counted : new.bad_replies ≡ bad_after old.bad_replies fault
 
@@ -95,7 +95,7 @@ pub record NotesSerialize (old new : LineView) (frame : List ℕ) (result : Resu
   pub answer : Result Reply PeerFault
   pub mid : LineView
   pub called : NotesCall old mid frame answer
-  pub behind : HearsState mid new answer result state ⊎ LosesState mid new answer result
+  pub after : HearsState mid new answer result state ⊎ LosesState mid new answer result
 
 -- the frame of a Serialize was sent alone, and its reply awaited, and as many bytes as follow that
 pub record ExchangedState (name token : List ℕ) (old new : LineView)

@@ -18,12 +18,12 @@ abbrev pub with_sent : WireView → List ℕ → WireView
 with_sent view bytes = record view { sent = option_map (λ before. before ++ bytes) view.sent }
 
 -- these bytes are still to come, before the others
-abbrev pub with_front : List ℕ → WireView → WireView
-with_front bytes view = record view { coming = option_map (λ rest. bytes ++ rest) view.coming }
+abbrev pub with_prefix : List ℕ → WireView → WireView
+with_prefix bytes view = record view { coming = option_map (λ rest. bytes ++ rest) view.coming }
 
 -- so many of the first bytes are no longer to come
-abbrev pub without_front : ℕ → WireView → WireView
-without_front n view = record view { coming = option_map (λ bytes. drop n bytes) view.coming }
+abbrev pub without_prefix : ℕ → WireView → WireView
+without_prefix n view = record view { coming = option_map (λ bytes. drop n bytes) view.coming }
 
 -- nothing more is to come
 abbrev pub at_end : WireView → WireView
@@ -45,6 +45,6 @@ NotesSend old new bytes (Err Ended) = ⊥
 
 -- what receiving makes of it: the room is filled with the first bytes of what was to come, which are gone from it; or there were fewer, and all are gone; or after a failure some of the first bytes are gone
 abbrev pub NotesReceive : {T : Type 0} → WireView → WireView → List ℕ → Result T WireFault → Type 0
-NotesReceive old new into (Ok _) = old ≡ with_front into new
+NotesReceive old new into (Ok _) = old ≡ with_prefix into new
 NotesReceive old new into (Err Ended) = FallsShort old.coming into × (new ≡ at_end old)
-NotesReceive old new into (Err Failed) = (n : ℕ) × (new ≡ with_fault (without_front n old))
+NotesReceive old new into (Err Failed) = (n : ℕ) × (new ≡ with_fault (without_prefix n old))

@@ -4,7 +4,7 @@ ghost use Rattle.std.specs.Result.{result_ok};
 ghost use Rattle.fmi_calls.specs.Permission.{Permitted};
 ghost use Rattle.fmu_peer.specs.View.{carries_bytes};
 ghost use Rattle.fmu_link.specs.Batches.{agrees_to_batches, asks_for_batches};
-ghost use Rattle.fmu_link.specs.Exchange.{Arrives, Breaks, HearsState, LosesState, NotesCall, NotesSerialize, Says, bad_after, count_behind};
+ghost use Rattle.fmu_link.specs.Exchange.{Arrives, Breaks, HearsState, LosesState, NotesCall, NotesSerialize, Says, bad_after, count_after};
 
 use crate::batches::call_batch;
 use crate::{Instance, Wire, WireFault};
@@ -207,7 +207,7 @@ impl<W: Wire + Send> Peer for Piped<W> {
             instance.frame.as_mut_slice(),
         );
         let frame = &instance.frame.as_slice()[..length];
-        let answer = answer_behind(&mut self.wire, frame, bytes, &mut instance.bad_replies);
+        let answer = answer_after(&mut self.wire, frame, bytes, &mut instance.bad_replies);
         next_phase(
             &instance.shape,
             &mut instance.phase,
@@ -271,7 +271,7 @@ fn answer_over<W: Wire>(
 }
 
 // Sends a frame with bytes after it, and takes the reply to them.
-fn answer_behind<W: Wire>(
+fn answer_after<W: Wire>(
     wire: &mut W,
     frame: &[u8],
     bytes: &[u8],
@@ -302,18 +302,18 @@ fn state_over<W: Wire>(
         into.new.items }
 {
     let answer = answer_over(wire, frame, bad_replies);
-    state_behind(wire, answer, into, bad_replies)
+    state_after(wire, answer, into, bad_replies)
 }
 
 // Receives the bytes that follow an answer, if any do.
-fn state_behind<W: Wire>(
+fn state_after<W: Wire>(
     wire: &mut W,
     answer: Result<Reply, PeerFault>,
     into: &mut Vec<u8>,
     bad_replies: &mut u64,
 ) -> Result<Reply, PeerFault>
     requires empty { into.old.items ≡ [] }
-    requires room { count_behind answer ≤ vec_capacity into.old }
+    requires room { count_after answer ≤ vec_capacity into.old }
     ensures kept { vec_capacity into.old ≤ vec_capacity into.new }
     ensures noted { HearsState (record { wire = W.view wire.old; bad_replies = bad_replies.old })
         (record { wire = W.view wire.new; bad_replies = bad_replies.new }) answer result
@@ -321,7 +321,7 @@ fn state_behind<W: Wire>(
         ⊎ LosesState (record { wire = W.view wire.old; bad_replies = bad_replies.old })
         (record { wire = W.view wire.new; bad_replies = bad_replies.new }) answer result }
 {
-    let count = count_behind(&answer);
+    let count = count_after(&answer);
     if count == 0 {
         return answer;
     }
@@ -347,8 +347,8 @@ fn cut_by(fault: WireFault, bad_replies: &mut u64) -> PeerFault
 }
 
 // How many bytes follow an answer.
-fn count_behind(answer: &Result<Reply, PeerFault>) -> usize
-    ensures { result ≡ count_behind answer.now }
+fn count_after(answer: &Result<Reply, PeerFault>) -> usize
+    ensures { result ≡ count_after answer.now }
 {
     match answer {
         Ok(

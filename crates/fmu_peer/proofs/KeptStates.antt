@@ -21,11 +21,11 @@ use Rattle.fmi_calls.specs.declared.phase.InstanceState.TheVariants as P
 use Rattle.fmi_calls.specs.declared.phase.Phase.{Phase}
 use Rattle.fmu_peer.specs.declared.peer.Exchange.{Exchange}
 use Rattle.fmu_peer.specs.declared.peer.PeerFault.{PeerFault}
-use Rattle.fmu_peer.specs.Many.{AnsweredAll, AnsweredFirst, AreOfOneSort, FaultsBehind, Talks, exchanges}
+use Rattle.fmu_peer.specs.Many.{AnsweredAll, AnsweredFirst, AreOfOneSort, FaultsAfter, Talks, exchanges}
 use Rattle.fmu_peer.specs.Mode.{agrees, same_state}
 use Rattle.fmu_peer.specs.Talk.{AllGood, IsGood, calls_in}
 use Rattle.fmu_peer.specs.View.{Fixed, View, carries_bytes}
-use Rattle.fmu_peer.proofs.ManyLemmas.{all_front, even}
+use Rattle.fmu_peer.proofs.ManyLemmas.{all_prefix, even}
 use Rattle.fmu_peer.proofs.SeveralLemmas.{AreSorts, ReadsOrSets, Sort, Reads, Writes, calls_beside, sort_of}
 
 -- ---- the calls
@@ -47,8 +47,8 @@ pub plain_at : (calls : List Call) (i : ℕ) (d : Call) → AreOfOneSort calls �
 plain_at calls i d s lt = plain_sort (get_or calls i d) (sorts_of calls s i d lt)
 
 -- of so many of them
-sorts_front : (calls : List Call) (n : ℕ) → AreSorts calls → AreSorts (take n calls)
-sorts_front calls n sorts = all_front ReadsOrSets (take n calls) (drop n calls) (subst AreSorts (sym (take-append-drop n calls)) sorts)
+sorts_prefix : (calls : List Call) (n : ℕ) → AreSorts calls → AreSorts (take n calls)
+sorts_prefix calls n sorts = all_prefix ReadsOrSets (take n calls) (drop n calls) (subst AreSorts (sym (take-append-drop n calls)) sorts)
 
 -- ---- the state after any answer
 
@@ -95,17 +95,17 @@ pub agrees_first : (mode : InstanceState) (old new : View) (calls : List Call) (
     IsTrue (agrees mode old.phase.state) → IsTrue (agrees mode new.phase.state)
 agrees_first mode old new calls replies count a len sort h =
     agrees_along mode old new (exchanges (take count calls) (take count replies)) a.talks
-    (subst AreSorts (sym (calls_beside (take count calls) (take count replies) (sym (even calls replies count len)))) (sorts_front calls count (sorts_of calls sort))) h
+    (subst AreSorts (sym (calls_beside (take count calls) (take count replies) (sym (even calls replies count len)))) (sorts_prefix calls count (sorts_of calls sort))) h
 
-pub agrees_fault : (mode : InstanceState) (old new : View) (calls : List Call) (before after : List Reply) (fault : PeerFault) → FaultsBehind old calls before after fault new → AreOfOneSort calls →
+pub agrees_fault : (mode : InstanceState) (old new : View) (calls : List Call) (before after : List Reply) (fault : PeerFault) → FaultsAfter old calls before after fault new → AreOfOneSort calls →
     IsTrue (agrees mode old.phase.state) → IsTrue (agrees mode new.phase.state)
 agrees_fault mode old new calls before after fault f sort h =
     let last : Exchange = record { call = f.call; result = Err fault } in
-    let es : List Exchange = exchanges f.front f.replies ++ last ∷ [] in
-    let calls_are : calls_in es ≡ f.front ++ f.call ∷ [] = map-append (λ (e : Exchange). e.call) (exchanges f.front f.replies) (last ∷ []) ∙ ap (λ (cs : List Call). cs ++ f.call ∷ []) (calls_beside f.front f.replies f.len) in
-    let whole : calls ≡ (f.front ++ f.call ∷ []) ++ f.left = f.calls_are ∙ sym (append_assoc f.front (f.call ∷ []) f.left) in
-    let front : AreSorts (f.front ++ f.call ∷ []) = all_front ReadsOrSets (f.front ++ f.call ∷ []) f.left (subst AreSorts whole (sorts_of calls sort)) in
-    agrees_along mode old new es f.talks (subst AreSorts (sym calls_are) front) h
+    let es : List Exchange = exchanges f.prefix f.replies ++ last ∷ [] in
+    let calls_are : calls_in es ≡ f.prefix ++ f.call ∷ [] = map-append (λ (e : Exchange). e.call) (exchanges f.prefix f.replies) (last ∷ []) ∙ ap (λ (cs : List Call). cs ++ f.call ∷ []) (calls_beside f.prefix f.replies f.len) in
+    let whole : calls ≡ (f.prefix ++ f.call ∷ []) ++ f.left = f.calls_are ∙ sym (append_assoc f.prefix (f.call ∷ []) f.left) in
+    let prefix : AreSorts (f.prefix ++ f.call ∷ []) = all_prefix ReadsOrSets (f.prefix ++ f.call ∷ []) f.left (subst AreSorts whole (sorts_of calls sort)) in
+    agrees_along mode old new es f.talks (subst AreSorts (sym calls_are) prefix) h
 
 -- ---- the state after good answers
 

@@ -21,7 +21,7 @@ use Rattle.fmi_calls.specs.Permission.{Permitted}
 use Rattle.fmi_calls.specs.Worth.{grade_of}
 use Rattle.fmu_peer.specs.declared.peer.Exchange.{Exchange}
 use Rattle.fmu_peer.specs.declared.peer.PeerFault.{PeerFault}
-use Rattle.fmu_peer.specs.Many.{AnsweredFirst, FaultsBehind, MayAskAll, Talks, exchanges}
+use Rattle.fmu_peer.specs.Many.{AnsweredFirst, FaultsAfter, MayAskAll, Talks, exchanges}
 use Rattle.fmu_peer.specs.Talk.{AllGood, IsGood}
 use Rattle.fmu_peer.specs.View.{Asked, Fixed, View}
 
@@ -63,11 +63,11 @@ pub may_next : (shape : Shape) (phase : Phase) (cs : List Call) (i : ℕ) (d : C
 may_next shape phase cs i d lt may =
     let m : MayAskAll shape phase (get_or cs i d ∷ drop (suc i) cs) = subst (MayAskAll shape phase) (drop-cons cs i d lt) may in
     let one : suc i ≡ i + 1 = omega arith in
-    let behind : drop (suc i) cs ≡ drop (i + 1) cs = ap (λ (n : ℕ). drop n cs) one in
-    record { may = m.0; next = λ reply good. subst (MayAskAll shape _) behind (m.1 reply good) }
+    let after : drop (suc i) cs ≡ drop (i + 1) cs = ap (λ (n : ℕ). drop n cs) one in
+    record { may = m.0; next = λ reply good. subst (MayAskAll shape _) after (m.1 reply good) }
 
-pub all_front : {X : Type 0} (P : X → Type 0) (xs ys : List X) → All P (xs ++ ys) → All P xs
-all_front P xs ys h k d lt = subst P (get_or_append_left xs ys d k lt) (h k d (omega (arith, lt, length-append xs ys)))
+pub all_prefix : {X : Type 0} (P : X → Type 0) (xs ys : List X) → All P (xs ++ ys) → All P xs
+all_prefix P xs ys h k d lt = subst P (get_or_append_left xs ys d k lt) (h k d (omega (arith, lt, length-append xs ys)))
 
 -- the last is the reply's
 pub answered_first : (old new : View) (cs : List Call) (rs : List Reply) (i : ℕ) (d : Call) (r : Reply) → length rs ≡ length cs → i < length cs →
@@ -76,7 +76,7 @@ pub answered_first : (old new : View) (cs : List Call) (rs : List Reply) (i : �
 answered_first old new cs rs i d r e lt talks good ends = record {
   within = omega (arith, lt);
   talks = talks;
-  front = exchanges (take i cs) (take i rs);
+  prefix = exchanges (take i cs) (take i rs);
   last = of (get_or cs i d) r;
   is = exchanges_set cs rs i d r e lt;
   good = good;
@@ -97,30 +97,30 @@ answered_all old new cs rs d e lt talks good =
     record {
       within = omega arith;
       talks = talks;
-      front = exchanges (take i cs) (take i rs);
+      prefix = exchanges (take i cs) (take i rs);
       last = of (get_or cs i d) (get_or rs i r);
       is = split;
-      good = all_front (IsGood old.fixed.shape) (exchanges (take i cs) (take i rs)) (of (get_or cs i d) (get_or rs i r) ∷ []) (subst (AllGood old.fixed.shape) split good);
+      good = all_prefix (IsGood old.fixed.shape) (exchanges (take i cs) (take i rs)) (of (get_or cs i d) (get_or rs i r) ∷ []) (subst (AllGood old.fixed.shape) split good);
       ends = inl refl;
     }
 
-pub faults_behind : (old mid new : View) (cs : List Call) (before rs : List Reply) (i : ℕ) (d : Call) (fault : PeerFault) → length rs ≡ length cs → i < length cs → drop i rs ≡ drop i before →
-    Talks old (exchanges (take i cs) (take i rs)) mid → AllGood old.fixed.shape (exchanges (take i cs) (take i rs)) → Permitted mid.fixed.shape mid.phase (get_or cs i d) → Asked mid (get_or cs i d) (Err fault) new → FaultsBehind old cs before rs fault new
-faults_behind old mid new cs before rs i d fault e lt behind talks good may asked = record {
+pub faults_after : (old mid new : View) (cs : List Call) (before rs : List Reply) (i : ℕ) (d : Call) (fault : PeerFault) → length rs ≡ length cs → i < length cs → drop i rs ≡ drop i before →
+    Talks old (exchanges (take i cs) (take i rs)) mid → AllGood old.fixed.shape (exchanges (take i cs) (take i rs)) → Permitted mid.fixed.shape mid.phase (get_or cs i d) → Asked mid (get_or cs i d) (Err fault) new → FaultsAfter old cs before rs fault new
+faults_after old mid new cs before rs i d fault e lt after talks good may asked = record {
   replies = take i rs;
   call = get_or cs i d;
   left = drop (suc i) cs;
-  front = take i cs;
+  prefix = take i cs;
   calls_are = sym (take-append-drop i cs) ∙ ap (λ (xs : List Call). take i cs ++ xs) (drop-cons cs i d lt);
   len = sym (even cs rs i e);
-  after_is = sym (take-append-drop i rs) ∙ ap (λ (xs : List Reply). take i rs ++ xs) (behind ∙ ap (λ (n : ℕ). drop n before) (sym (length-take-le i cs (omega (arith, lt)))));
+  after_is = sym (take-append-drop i rs) ∙ ap (λ (xs : List Reply). take i rs ++ xs) (after ∙ ap (λ (n : ℕ). drop n before) (sym (length-take-le i cs (omega (arith, lt)))));
   good = good;
   talks = talks_push old mid new (exchanges (take i cs) (take i rs)) (without (get_or cs i d) fault) talks may asked;
 }
 
 -- the places after one that was written are as they were
 pub places_more : (before rs : List Reply) (i : ℕ) (r : Reply) → drop i rs ≡ drop i before → drop (i + 1) (set rs i r) ≡ drop (i + 1) before
-places_more before rs i r behind = drop-set-lt (i + 1) rs i r (omega arith) ∙ drop_more_same rs before i behind
+places_more before rs i r after = drop-set-lt (i + 1) rs i r (omega arith) ∙ drop_more_same rs before i after
 
 -- ---- one more
 

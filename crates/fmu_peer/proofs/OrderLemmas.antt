@@ -97,19 +97,19 @@ or_second false b h = h
 abbrev SparesAll : List Closing → Member → Type 0
 SparesAll cs m = any_fatal m.shape m.run ≡ true → All (IsSpared m.source) (map member_of cs)
 
-spares_behind : (all : List Closing) → InOrder [] all → (cs : List Closing) → ((source : ℕ) → is_source_lost source (befores cs) ≡ true → is_source_lost source (befores all) ≡ true) →
+spares_after : (all : List Closing) → InOrder [] all → (cs : List Closing) → ((source : ℕ) → is_source_lost source (befores cs) ≡ true → is_source_lost source (befores all) ≡ true) →
     All KnowsFatal (befores cs) → All (SparesAll all) (map member_of cs)
-spares_behind all order [] among knows = All-nil (SparesAll all)
-spares_behind all order (c ∷ cs) among knows =
+spares_after all order [] among knows = All-nil (SparesAll all)
+spares_after all order (c ∷ cs) among knows =
     All-cons (SparesAll all) (member_of c) (map member_of cs)
     (λ (h : any_fatal c.old.view.fixed.shape (unwrap_or c.old.view.talk []) ≡ true). spared_from c.old.source [] all
     (among c.old.source (or_first (is_lost_of c.old.source c.old) (is_source_lost c.old.source (befores cs))
     (subst (λ (b : Bool). (b && c.old.source == c.old.source) ≡ true) (sym (All-head KnowsFatal c.old (befores cs) knows h)) (same_number c.old.source)))) order)
-    (spares_behind all order cs (λ source h. among source (or_second (is_lost_of source c.old) (is_source_lost source (befores cs)) h)) (All-tail KnowsFatal c.old (befores cs) knows))
+    (spares_after all order cs (λ source h. among source (or_second (is_lost_of source c.old) (is_source_lost source (befores cs)) h)) (All-tail KnowsFatal c.old (befores cs) knows))
 
 pub siblings_of : (cs : List Closing) → InOrder [] cs → All KnowsFatal (befores cs) → Siblings (map member_of cs)
 siblings_of cs order knows = record {
-  behind_run = spares_behind cs order cs (λ source h. h) knows;
+  after_run = spares_after cs order cs (λ source h. h) knows;
   later = spares_later [] cs order;
 }
 

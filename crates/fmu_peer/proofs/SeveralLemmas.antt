@@ -23,10 +23,10 @@ use Rattle.fmu_peer.specs.declared.peer.PeerFault.{PeerFault}
 use Rattle.fmu_peer.specs.declared.ended.Why.{Why}
 use Rattle.fmu_peer.specs.declared.ended.Why.TheVariants.{Link, Misreply, Refused}
 use Rattle.fmu_peer.specs.Answer.{IsWhy}
-use Rattle.fmu_peer.specs.Many.{AnsweredAll, AnsweredFirst, FailedBehind, FaultsBehind, IsToCome, IsWorthOf, Talks, answer_at, count_came, exchanges, to_come}
+use Rattle.fmu_peer.specs.Many.{AnsweredAll, AnsweredFirst, FailedAfter, FaultsAfter, IsToCome, IsWorthOf, Talks, answer_at, count_came, exchanges, to_come}
 use Rattle.fmu_peer.specs.Talk.{AllGood, IsGood, calls_in}
 use Rattle.fmu_peer.specs.View.{Fixed, View}
-use Rattle.fmu_peer.proofs.ManyLemmas.{a_reply, all_front, exchanges_more, of}
+use Rattle.fmu_peer.proofs.ManyLemmas.{a_reply, all_prefix, exchanges_more, of}
 
 -- ---- a good reply to a call that reads or sets is of its kind
 
@@ -93,14 +93,14 @@ calls_beside (c ∷ calls) [] len = absurd (omega (arith, len))
 calls_beside (c ∷ calls) (r ∷ replies) len = ap (λ (cs : List Call). c ∷ cs) (calls_beside calls replies (omega (arith, len)))
 
 -- after a fault
-pub failed_by_fault : (old : View) (calls : List Call) (before after : List Reply) (fault : PeerFault) (new : View) → (f : FaultsBehind old calls before after fault new) → FailedBehind old calls (Link f.call fault) new
+pub failed_by_fault : (old : View) (calls : List Call) (before after : List Reply) (fault : PeerFault) (new : View) → (f : FaultsAfter old calls before after fault new) → FailedAfter old calls (Link f.call fault) new
 failed_by_fault old calls before after fault new f = record {
-  front = exchanges f.front f.replies;
+  prefix = exchanges f.prefix f.replies;
   last = record { call = f.call; result = Err fault };
   left = f.left;
-  calls_are = f.calls_are ∙ ap (λ (cs : List Call). cs ++ f.call ∷ f.left) (sym (calls_beside f.front f.replies f.len))
-      ∙ sym (append_assoc (calls_in (exchanges f.front f.replies)) (f.call ∷ []) f.left)
-      ∙ ap (λ (cs : List Call). cs ++ f.left) (sym (map-append (λ (e : Exchange). e.call) (exchanges f.front f.replies) (record { call = f.call; result = Err fault } ∷ [])));
+  calls_are = f.calls_are ∙ ap (λ (cs : List Call). cs ++ f.call ∷ f.left) (sym (calls_beside f.prefix f.replies f.len))
+      ∙ sym (append_assoc (calls_in (exchanges f.prefix f.replies)) (f.call ∷ []) f.left)
+      ∙ ap (λ (cs : List Call). cs ++ f.left) (sym (map-append (λ (e : Exchange). e.call) (exchanges f.prefix f.replies) (record { call = f.call; result = Err fault } ∷ [])));
   good = f.good;
   bad = (refl, refl);
   talks = f.talks;
@@ -108,9 +108,9 @@ failed_by_fault old calls before after fault new f = record {
 
 -- after a last answer that isn't good
 pub failed_by_last : (old : View) (calls : List Call) (replies : List Reply) (count : ℕ) (new : View) (why : Why) (a : AnsweredFirst old calls replies count new) → length replies ≡ length calls →
-    IsWhy old.fixed.shape why a.last → FailedBehind old calls why new
+    IsWhy old.fixed.shape why a.last → FailedAfter old calls why new
 failed_by_last old calls replies count new why a len bad = record {
-  front = a.front;
+  prefix = a.prefix;
   last = a.last;
   left = drop count calls;
   calls_are = sym (take_drop count calls) ∙ ap (λ (cs : List Call). cs ++ drop count calls) (sym (calls_beside (take count calls) (take count replies) (even count replies calls len)) ∙ ap calls_in a.is);
@@ -142,7 +142,7 @@ push_last (w ∷ xs) (z ∷ ys) x y e = push_last xs ys x y (ap (λ l. drop 1 l)
 
 -- at least one came
 pub counted_some : (old : View) (calls : List Call) (replies : List Reply) (count : ℕ) (new : View) → AnsweredFirst old calls replies count new → 1 ≤ count
-counted_some old calls replies zero new a = absurd (omega (arith, ap length a.is, length-append a.front (a.last ∷ [])))
+counted_some old calls replies zero new a = absurd (omega (arith, ap length a.is, length-append a.prefix (a.last ∷ [])))
 counted_some old calls replies (suc n) new a = omega arith
 
 last_is : (old : View) (calls : List Call) (replies : List Reply) (count : ℕ) (new : View) (a : AnsweredFirst old calls replies count new) → length replies ≡ length calls → (c : Call) (r : Reply) → answer_at calls replies (count - 1) c r ≡ a.last
@@ -152,7 +152,7 @@ last_is old calls replies count new a len c r =
     let within : count - 1 < length calls = omega (arith, some, a.within) in
     let split : exchanges (take count calls) (take count replies) ≡ exchanges (take (count - 1) calls) (take (count - 1) replies) ++ answer_at calls replies (count - 1) c r ∷ [] =
     subst (λ (n : ℕ). exchanges (take n calls) (take n replies) ≡ exchanges (take (count - 1) calls) (take (count - 1) replies) ++ answer_at calls replies (count - 1) c r ∷ []) next (more (count - 1) within) in
-    push_last (exchanges (take (count - 1) calls) (take (count - 1) replies)) a.front (answer_at calls replies (count - 1) c r) a.last (sym split ∙ a.is)
+    push_last (exchanges (take (count - 1) calls) (take (count - 1) replies)) a.prefix (answer_at calls replies (count - 1) c r) a.last (sym split ∙ a.is)
   where
     more : (i : ℕ) → i < length calls → exchanges (take (i + 1) calls) (take (i + 1) replies) ≡ exchanges (take i calls) (take i replies) ++ answer_at calls replies i c r ∷ []
     more i lt = exchanges_more calls replies i c r len lt
@@ -205,11 +205,11 @@ module _ (old : View) (calls : List Call) (replies : List Reply) (count : ℕ) (
       let last = subst (IsGood old.fixed.shape) (last_is old calls replies count new a len C.FreeInstance a_reply) (w.1 C.FreeInstance a_reply) in
       record {
         talks = subst (λ (es : List Exchange). Talks old es new) whole a.talks;
-        good = subst (AllGood old.fixed.shape) (sym a.is ∙ whole) (All-push (IsGood old.fixed.shape) a.front a.last a.good last);
+        good = subst (AllGood old.fixed.shape) (sym a.is ∙ whole) (All-push (IsGood old.fixed.shape) a.prefix a.last a.good last);
       }
   ok_by_worth (Err why) worth = tt
 
-  pub err_by_worth : (r : Result ℕ Why) → IsWorthOf new.fixed.shape calls replies count r → IfErr r (λ why. FailedBehind old calls why new)
+  pub err_by_worth : (r : Result ℕ Why) → IsWorthOf new.fixed.shape calls replies count r → IfErr r (λ why. FailedAfter old calls why new)
   err_by_worth (Ok told) worth = tt
   err_by_worth (Err why) worth =
       failed_by_last old calls replies count new why a len
@@ -222,28 +222,28 @@ all_dropped n zero = All-replicate IsToCome n to_come refl
 all_dropped zero (suc k) = All-nil IsToCome
 all_dropped (suc n) (suc k) = all_dropped n k
 
-at_front : (xs : List Call) (x : Call) (ys : List Call) (d : Call) → get_or (xs ++ x ∷ ys) (length xs) d ≡ x
-at_front [] x ys d = refl
-at_front (z ∷ xs) x ys d = at_front xs x ys d
+at_prefix : (xs : List Call) (x : Call) (ys : List Call) (d : Call) → get_or (xs ++ x ∷ ys) (length xs) d ≡ x
+at_prefix [] x ys d = refl
+at_prefix (z ∷ xs) x ys d = at_prefix xs x ys d
 
-module _ (old : View) (calls : List Call) (before after : List Reply) (fault : PeerFault) (new : View) (f : FaultsBehind old calls before after fault new) (sorts : AreSorts calls) (none : before ≡ replicate (length calls) to_come) where
-  size : length calls ≡ length f.front + suc (length f.left)
-  size = ap length f.calls_are ∙ length-append f.front (f.call ∷ f.left)
+module _ (old : View) (calls : List Call) (before after : List Reply) (fault : PeerFault) (new : View) (f : FaultsAfter old calls before after fault new) (sorts : AreSorts calls) (none : before ≡ replicate (length calls) to_come) where
+  size : length calls ≡ length f.prefix + suc (length f.left)
+  size = ap length f.calls_are ∙ length-append f.prefix (f.call ∷ f.left)
 
-  came_front : count_came after ≡ length f.front
-  came_front =
-      let k = length f.front in
+  came_prefix : count_came after ≡ length f.prefix
+  came_prefix =
+      let k = length f.prefix in
       let room : length (drop k before) ≡ length before - k = length-drop k before in
       let many : length before ≡ length calls = ap length none ∙ length-replicate (length calls) to_come in
       let left : 0 < length (drop k before) = omega (arith, room, many, size) in
       let empty : All IsToCome (drop k before) = subst (λ (rs : List Reply). All IsToCome (drop k rs)) (sym none) (all_dropped (length calls) k) in
-      ap count_came f.after_is ∙ came_is old.fixed.shape f.front f.replies (drop k before) a_reply f.len
-      (all_front ReadsOrSets f.front (f.call ∷ f.left) (subst AreSorts f.calls_are sorts)) f.good left empty ∙ f.len
+      ap count_came f.after_is ∙ came_is old.fixed.shape f.prefix f.replies (drop k before) a_reply f.len
+      (all_prefix ReadsOrSets f.prefix (f.call ∷ f.left) (subst AreSorts f.calls_are sorts)) f.good left empty ∙ f.len
 
   pub came_within : (n : ℕ) → n ≡ count_came after → n < length calls
-  came_within n is = omega (arith, is, came_front, size)
+  came_within n is = omega (arith, is, came_prefix, size)
 
-  pub failed_at : (n : ℕ) (why : Why) → n ≡ count_came after → ((d : Call) → why ≡ Link (get_or calls n d) fault) → FailedBehind old calls why new
+  pub failed_at : (n : ℕ) (why : Why) → n ≡ count_came after → ((d : Call) → why ≡ Link (get_or calls n d) fault) → FailedAfter old calls why new
   failed_at n why is link =
-      let call : get_or calls n C.FreeInstance ≡ f.call = ap (λ (k : ℕ). get_or calls k C.FreeInstance) (is ∙ came_front) ∙ ap (λ (cs : List Call). get_or cs (length f.front) C.FreeInstance) f.calls_are ∙ at_front f.front f.call f.left C.FreeInstance in
-      subst (λ (w : Why). FailedBehind old calls w new) (sym (link C.FreeInstance ∙ ap (λ (c : Call). Link c fault) call)) (failed_by_fault old calls before after fault new f)
+      let call : get_or calls n C.FreeInstance ≡ f.call = ap (λ (k : ℕ). get_or calls k C.FreeInstance) (is ∙ came_prefix) ∙ ap (λ (cs : List Call). get_or cs (length f.prefix) C.FreeInstance) f.calls_are ∙ at_prefix f.prefix f.call f.left C.FreeInstance in
+      subst (λ (w : Why). FailedAfter old calls w new) (sym (link C.FreeInstance ∙ ap (λ (c : Call). Link c fault) call)) (failed_by_fault old calls before after fault new f)

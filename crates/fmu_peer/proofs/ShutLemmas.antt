@@ -99,11 +99,11 @@ stuck_is_lost u mid (Err fault) a at empty stuck = ap (λ (p : Phase). p.state) 
 -- ---- talks that are shut
 
 freed_last : (shape : Shape) (p : Phase) (talk : List Exchange) (e : Exchange) → e.call ≡ C.FreeInstance → (is_running (phase_from shape p talk).state ≡ true → ⊥) → IsShut shape p (talk ++ e ∷ [])
-freed_last shape p talk e call never = inr (inl (record { front = talk; last = e; is = refl; frees = call; terminated = λ at. absurd (never at) }))
+freed_last shape p talk e call never = inr (inl (record { prefix = talk; last = e; is = refl; frees = call; terminated = λ at. absurd (never at) }))
 
 freed_terminated : (shape : Shape) (p : Phase) (talk : List Exchange) (t e : Exchange) → t.call ≡ C.Terminate → e.call ≡ C.FreeInstance → IsShut shape p (talk ++ t ∷ e ∷ [])
 freed_terminated shape p talk t e first second = inr (inl (record {
-  front = talk ++ t ∷ [];
+  prefix = talk ++ t ∷ [];
   last = e;
   is = sym (append_assoc talk (t ∷ []) (e ∷ []));
   frees = second;
@@ -118,13 +118,13 @@ leads_on u mid c r p talk leads a =
 
 -- ---- Terminate and FreeInstance
 
-behind_terminate : (u mid w : View) (r : Result Reply PeerFault) (rest : List Exchange) (p : Phase) (talk : List Exchange) → u.phase ≡ phase_from u.fixed.shape p talk →
+after_terminate : (u mid w : View) (r : Result Reply PeerFault) (rest : List Exchange) (p : Phase) (talk : List Exchange) → u.phase ≡ phase_from u.fixed.shape p talk →
     Permitted u.fixed.shape u.phase C.Terminate → Asked u C.Terminate r mid → SendsInTurn (C.FreeInstance ∷ []) mid rest w → IsShut u.fixed.shape p (talk ++ record { call = C.Terminate; result = r } ∷ rest)
-behind_terminate u mid w r rest p talk leads may asked (inl (free, (s, more, last, is, second, (none, same)))) =
+after_terminate u mid w r rest p talk leads may asked (inl (free, (s, more, last, is, second, (none, same)))) =
     subst (λ (es : List Exchange). IsShut u.fixed.shape p (talk ++ record { call = C.Terminate; result = r } ∷ es))
     (sym (is ∙ ap (λ (es : List Exchange). record { call = C.FreeInstance; result = s } ∷ es) none))
     (freed_terminated u.fixed.shape p talk (record { call = C.Terminate; result = r }) (record { call = C.FreeInstance; result = s }) refl refl)
-behind_terminate u mid w r rest p talk leads may asked (inr (never, (none, same))) =
+after_terminate u mid w r rest p talk leads may asked (inr (never, (none, same))) =
     subst (λ (es : List Exchange). IsShut u.fixed.shape p (talk ++ record { call = C.Terminate; result = r } ∷ es)) (sym none)
     (inl (ap (λ (q : Phase). q.state) (sym (leads_on u mid C.Terminate r p talk leads asked))
     ∙ stuck_is_lost u mid r asked may.0 may.1 (never_is (can_be_freed mid.phase.state mid.phase.slot.is_full) never)))
@@ -161,7 +161,7 @@ end_shut : (u w : View) (sent : List Exchange) (p : Phase) (talk : List Exchange
     (u.phase.state ≡ P.Lost) ⊎ (can_be_freed u.phase.state false ≡ true) → (u.phase.slot.is_full ≡ false) ⊎ (is_over u.phase.state ≡ true) →
     SendsInTurn (closing_calls false) u sent w → IsShut u.fixed.shape p (talk ++ sent)
 end_shut u w sent p talk leads alive free (inl (may, (r, rest, mid, is, asked, more))) =
-    subst (λ (es : List Exchange). IsShut u.fixed.shape p (talk ++ es)) (sym is) (behind_terminate u mid w r rest p talk leads may asked more)
+    subst (λ (es : List Exchange). IsShut u.fixed.shape p (talk ++ es)) (sym is) (after_terminate u mid w r rest p talk leads may asked more)
 end_shut u w sent p talk leads alive free (inr (never, more)) =
     let state : u.phase.state ≡ (phase_from u.fixed.shape p talk).state = ap (λ (q : Phase). q.state) leads in
     free_last u w sent p talk (λ at. not_at_step u free never (ap is_running state ∙ at))
@@ -231,20 +231,20 @@ after_free u mid (Ok reply) may a =
 after_free u mid (Err fault) may a =
     subst (λ (q : Phase). AfterFree q (Err fault)) (sym a.phase) (Freed (inr refl) (inl refl))
 
-behind_free : (u mid w : View) (r : Result Reply PeerFault) (rest : List Exchange) (p : Phase) (talk : List Exchange) → mid.fixed.shape ≡ u.fixed.shape →
+rest_after_free : (u mid w : View) (r : Result Reply PeerFault) (rest : List Exchange) (p : Phase) (talk : List Exchange) → mid.fixed.shape ≡ u.fixed.shape →
     mid.phase ≡ phase_from u.fixed.shape p (talk ++ record { call = C.Free; result = r } ∷ []) → AfterFree mid.phase r → SendsInTurn (closing_calls false) mid rest w →
     IsShut u.fixed.shape p (talk ++ record { call = C.Free; result = r } ∷ rest)
-behind_free u mid w r rest p talk same leads (Freed free alive) more =
+rest_after_free u mid w r rest p talk same leads (Freed free alive) more =
     subst (IsShut u.fixed.shape p) (append_assoc talk (record { call = C.Free; result = r } ∷ []) rest)
     (subst (λ (s : Shape). IsShut s p ((talk ++ record { call = C.Free; result = r } ∷ []) ++ rest)) same
     (end_shut mid w rest p (talk ++ record { call = C.Free; result = r } ∷ [])
     (leads ∙ ap (λ (s : Shape). phase_from s p (talk ++ record { call = C.Free; result = r } ∷ [])) (sym same)) alive free more))
-behind_free u mid w r rest p talk same leads (Kept full discarded) more =
+rest_after_free u mid w r rest p talk same leads (Kept full discarded) more =
     subst (IsShut u.fixed.shape p) (append_assoc talk (record { call = C.Free; result = r } ∷ []) rest)
     (subst (λ (s : Shape). IsShut s p ((talk ++ record { call = C.Free; result = r } ∷ []) ++ rest)) same
     (keeps_shut mid w rest p (talk ++ record { call = C.Free; result = r } ∷ [])
     (leads ∙ ap (λ (s : Shape). phase_from s p (talk ++ record { call = C.Free; result = r } ∷ [])) (sym same)) full
-    (record { front = talk; last = record { call = C.Free; result = r }; is = refl; frees = refl; discarded = discarded }) more))
+    (record { prefix = talk; last = record { call = C.Free; result = r }; is = refl; frees = refl; discarded = discarded }) more))
 
 -- ---- an instance that was made
 
@@ -260,7 +260,7 @@ module _ (i : Instance) (w : View) (sent : List Exchange) (p : Phase) (talk : Li
   shut_held : (full : Bool) → i.view.phase.slot.is_full ≡ full → i.has_saved ≡ true → SendsInTurn (closing_calls true) i.view sent w → IsShut i.view.fixed.shape p (talk ++ sent)
   shut_held full e saved (inl (may, (r, rest, mid, is, asked, more))) =
       subst (λ (es : List Exchange). IsShut i.view.fixed.shape p (talk ++ es)) (sym is)
-      (behind_free i.view mid w r rest p talk (ap (λ (f : Fixed). f.shape) asked.fixed) (leads_on i.view mid C.Free r p talk leads asked) (after_free i.view mid r may asked) more)
+      (rest_after_free i.view mid w r rest p talk (ap (λ (f : Fixed). f.shape) asked.fixed) (leads_on i.view mid C.Free r p talk leads asked) (after_free i.view mid r may asked) more)
   shut_held false e saved (inr (never, more)) = end_shut i.view w sent p talk leads h.alive (inl e) more
   shut_held true e saved (inr (never, more)) = elim (h.kept e) [
     | inl over ↦ end_shut i.view w sent p talk leads h.alive (inr over) more

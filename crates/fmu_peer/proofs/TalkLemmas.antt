@@ -62,7 +62,7 @@ first_bad_talked : (shape : Shape) (why : Why) (o : Option (List Exchange)) (cal
     IfSome o (T.AllGood shape) → IsWhy shape why (record { call = call; result = result }) → IfSome (talked o call result) (IsFirstBad shape why)
 first_bad_talked shape why None call result h bad = tt
 first_bad_talked shape why (Some es) call result h bad =
-    record { front = es; last = record { call = call; result = result }; is = refl; good = h; bad = bad }
+    record { prefix = es; last = record { call = call; result = result }; is = refl; good = h; bad = bad }
 
 pub answered_good : (old new : View) (call : Call) (reply : Reply) → Asked old call (Ok reply) new →
     grade_of old.fixed.shape call reply ≡ G.Good → AllGood old → AllGood new

@@ -51,10 +51,10 @@ IsWhy shape (Link call fault) e = (e.call ≡ call) × (e.result ≡ Err fault)
 
 -- why is the first exchange whose reply isn't good, and the talk ends with it
 pub record IsFirstBad (shape : Shape) (why : Why) (talk : List Exchange) : Type 0 where
-  pub front : List Exchange
+  pub prefix : List Exchange
   pub last : Exchange
-  pub is : talk ≡ front ++ last ∷ []
-  pub good : T.AllGood shape front
+  pub is : talk ≡ prefix ++ last ∷ []
+  pub good : T.AllGood shape prefix
   pub bad : IsWhy shape why last
 
 -- the call got this answer, which isn't good

@@ -18,10 +18,10 @@ abbrev pub seen_after : List Call → Call → List Call
 seen_after seen c = if moves_on c then c ∷ [] else c ∷ seen
 
 -- no call stands twice unless it may stand again at once, or one that moves the instance on stands between; these calls stood before
-abbrev pub NoneTwiceBehind : List Call → List Call → Type 0
-NoneTwiceBehind seen [] = Unit {0}
-NoneTwiceBehind seen (c ∷ cs) =
-    (may_repeat c ≡ false → IsNew c seen) × NoneTwiceBehind (seen_after seen c) cs
+abbrev pub NoneTwiceAfter : List Call → List Call → Type 0
+NoneTwiceAfter seen [] = Unit {0}
+NoneTwiceAfter seen (c ∷ cs) =
+    (may_repeat c ≡ false → IsNew c seen) × NoneTwiceAfter (seen_after seen c) cs
 
 -- up to the next Save the sizes of the steps fall, from below this one on
 abbrev pub SizesFall : Option ℕ → List Call → Type 0
@@ -39,4 +39,4 @@ StepsFall (_ ∷ cs) = StepsFall cs
 
 -- the calls of a run are needed
 abbrev pub IsLean : List Call → Type 0
-IsLean calls = NoneTwiceBehind [] calls × StepsFall calls
+IsLean calls = NoneTwiceAfter [] calls × StepsFall calls

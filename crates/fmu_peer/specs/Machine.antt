@@ -161,9 +161,9 @@ pub record IsInPhase (m : Machine) (phase : Phase) (s : MachineState) : Type 0 w
 -- ---- states as bytes
 
 -- how many bytes follow a reply to Serialize
-abbrev pub bytes_behind : Reply → ℕ
-bytes_behind (Done is_warning (Serialize length)) = length
-bytes_behind _ = 0
+abbrev pub bytes_after_reply : Reply → ℕ
+bytes_after_reply (Done is_warning (Serialize length)) = length
+bytes_after_reply _ = 0
 
 -- bytes aren't read back as a state in Initialization Mode, and those of a Deserialize that is done are read back as one
 pub record UnpacksWell (m : Machine) : Type 0 where

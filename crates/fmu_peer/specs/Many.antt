@@ -54,30 +54,30 @@ pub record AnsweredFirst (old : View) (calls : List Call) (replies : List Reply)
     (new : View) : Type 0 where
   pub within : count ≤ length calls
   pub talks : Talks old (exchanges (take count calls) (take count replies)) new
-  pub front : List Exchange
+  pub prefix : List Exchange
   pub last : Exchange
-  pub is : exchanges (take count calls) (take count replies) ≡ front ++ last ∷ []
-  pub good : AllGood old.fixed.shape front
+  pub is : exchanges (take count calls) (take count replies) ≡ prefix ++ last ∷ []
+  pub good : AllGood old.fixed.shape prefix
   pub ends : (count ≡ length calls) ⊎ (IsGood old.fixed.shape last → ⊥)
 
 -- the first calls got good replies, and the one after them this fault; the places of the replies after those are as they were
-pub record FaultsBehind (old : View) (calls : List Call) (before after : List Reply)
+pub record FaultsAfter (old : View) (calls : List Call) (before after : List Reply)
     (fault : PeerFault) (new : View) : Type 0 where
   pub replies : List Reply
   pub call : Call
   pub left : List Call
-  pub front : List Call
-  pub calls_are : calls ≡ front ++ call ∷ left
-  pub len : length replies ≡ length front
-  pub after_is : after ≡ replies ++ drop (length front) before
-  pub good : AllGood old.fixed.shape (exchanges front replies)
-  pub talks : Talks old (exchanges front replies ++ record { call = call; result = Err fault } ∷ []) new
+  pub prefix : List Call
+  pub calls_are : calls ≡ prefix ++ call ∷ left
+  pub len : length replies ≡ length prefix
+  pub after_is : after ≡ replies ++ drop (length prefix) before
+  pub good : AllGood old.fixed.shape (exchanges prefix replies)
+  pub talks : Talks old (exchanges prefix replies ++ record { call = call; result = Err fault } ∷ []) new
 
 abbrev pub AskedMany : View → List Call → List Reply → List Reply → Result ℕ PeerFault → View →
     Type 0
 AskedMany old calls before after (Ok count) new = AnsweredFirst old calls after count new
 AskedMany old calls before after (Err fault) new =
-    FaultsBehind old calls before after fault new
+    FaultsAfter old calls before after fault new
 
 -- the reply of this place hasn't come
 abbrev pub IsToCome : Reply → Type 0
@@ -115,11 +115,11 @@ pub record AnsweredAll (old : View) (calls : List Call) (replies : List Reply)
   pub good : AllGood old.fixed.shape (exchanges calls replies)
 
 -- the calls were asked up to the first whose answer isn't good, and that is why
-pub record FailedBehind (old : View) (calls : List Call) (why : Why) (new : View) : Type 0 where
-  pub front : List Exchange
+pub record FailedAfter (old : View) (calls : List Call) (why : Why) (new : View) : Type 0 where
+  pub prefix : List Exchange
   pub last : Exchange
   pub left : List Call
-  pub calls_are : calls ≡ calls_in (front ++ last ∷ []) ++ left
-  pub good : AllGood old.fixed.shape front
+  pub calls_are : calls ≡ calls_in (prefix ++ last ∷ []) ++ left
+  pub good : AllGood old.fixed.shape prefix
   pub bad : IsWhy old.fixed.shape why last
-  pub talks : Talks old (front ++ last ∷ []) new
+  pub talks : Talks old (prefix ++ last ∷ []) new

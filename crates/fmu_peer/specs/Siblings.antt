@@ -16,8 +16,8 @@ abbrev pub IsSpared : ℕ → Member → Type 0
 IsSpared source m = m.source ≡ source → m.closing ≡ []
 
 -- where an exchange of a run was refused with Fatal, no instance of that source has one of the closing
-abbrev pub SparesBehindRun : List Member → Type 0
-SparesBehindRun ms =
+abbrev pub SparesAfterRun : List Member → Type 0
+SparesAfterRun ms =
     All (λ (m : Member). any_fatal m.shape m.run ≡ true → All (IsSpared m.source) ms) ms
 
 -- where an exchange of the closing was refused with Fatal, no later instance of that source has one
@@ -28,5 +28,5 @@ SparesLater (m ∷ ms) =
 
 -- the instances in the order in which they are closed
 pub record Siblings (ms : List Member) : Type 0 where
-  pub behind_run : SparesBehindRun ms
+  pub after_run : SparesAfterRun ms
   pub later : SparesLater ms

@@ -50,19 +50,19 @@ AllGood shape talk = All (IsGood shape) talk
 
 -- from this phase on the talk ends with FreeInstance, which in Event Mode and in Step Mode stands right after a Terminate
 pub record EndsFreed (shape : Shape) (phase : Phase) (talk : List Exchange) : Type 0 where
-  pub front : List Exchange
+  pub prefix : List Exchange
   pub last : Exchange
-  pub is : talk ≡ front ++ last ∷ []
+  pub is : talk ≡ prefix ++ last ∷ []
   pub frees : last.call ≡ C.FreeInstance
-  pub terminated : is_running (phase_from shape phase front).state ≡ true →
-      (before : List Exchange) × (t : Exchange) × (front ≡ before ++ t ∷ []) ×
+  pub terminated : is_running (phase_from shape phase prefix).state ≡ true →
+      (before : List Exchange) × (t : Exchange) × (prefix ≡ before ++ t ∷ []) ×
       (t.call ≡ C.Terminate)
 
 -- the talk ends with a Free that was answered by Discard: the state that was saved is given up with the instance
 pub record EndsKeeping (talk : List Exchange) : Type 0 where
-  pub front : List Exchange
+  pub prefix : List Exchange
   pub last : Exchange
-  pub is : talk ≡ front ++ last ∷ []
+  pub is : talk ≡ prefix ++ last ∷ []
   pub frees : last.call ≡ C.Free
   pub discarded : last.result ≡ Ok (R.Refused K.Free B.Discard)
 

@@ -58,18 +58,18 @@ marks_of stay C.Update result =
 marks_of stay call result = []
 
 -- what stands before, after an exchange
-abbrev pub stay_behind : Stay → Call → Result Reply PeerFault → Stay
-stay_behind stay C.Update result = record { follows = true; arms = false }
-stay_behind stay (C.GetInterval reference) result =
+abbrev pub stay_after_exchange : Stay → Call → Result Reply PeerFault → Stay
+stay_after_exchange stay C.Update result = record { follows = true; arms = false }
+stay_after_exchange stay (C.GetInterval reference) result =
     record stay { arms = stay.arms || is_instant_interval result }
-stay_behind stay C.ExitInitialization result = no_stay
-stay_behind stay C.EnterStep result = no_stay
-stay_behind stay call result = stay
+stay_after_exchange stay C.ExitInitialization result = no_stay
+stay_after_exchange stay C.EnterStep result = no_stay
+stay_after_exchange stay call result = stay
 
 abbrev pub updates_from : Stay → List Exchange → List UpdateMark
 updates_from stay [] = []
 updates_from stay (e ∷ es) =
-    marks_of stay e.call e.result ++ updates_from (stay_behind stay e.call e.result) es
+    marks_of stay e.call e.result ++ updates_from (stay_after_exchange stay e.call e.result) es
 
 -- the Updates of a talk, in their order
 abbrev pub updates_in : List Exchange → List UpdateMark

@@ -14,7 +14,7 @@ use Rattle.fmu_peer.specs.declared.peer.PeerFault.{PeerFault}
 use Rattle.fmu_peer.specs.declared.peer.Exchange.{Exchange}
 use Rattle.fmu_peer.specs.Talk as T
 use Rattle.fmu_peer.specs.Talk.{Legal, phase_after}
-use Rattle.fmu_peer.specs.Machine.{IsInPhase, Machine, MachineState, after, bytes_behind, taken_in}
+use Rattle.fmu_peer.specs.Machine.{IsInPhase, Machine, MachineState, after, bytes_after_reply, taken_in}
 
 -- what a peer was started with, beside its shape
 pub record Origin : Type 0 where
@@ -75,7 +75,7 @@ ArePacked machine state reply bytes = Unit {0}
 
 -- the reply to Serialize is followed by these bytes: as many as it tells of, at most 2^20
 pub record IsFollowedBy (old : View) (reply : Reply) (bytes : List ℕ) : Type 0 where
-  pub count : length bytes ≡ bytes_behind reply
+  pub count : length bytes ≡ bytes_after_reply reply
   pub few : length bytes ≤ 2 ^ 20
   pub packed : ArePacked old.fixed.machine old.state reply bytes
 

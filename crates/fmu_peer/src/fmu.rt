@@ -9,7 +9,7 @@ ghost use Rattle.fmi_calls.specs.declared.phase.InstanceState.{InstanceState};
 ghost use Rattle.fmi_calls.specs.declared.phase.InstanceState.TheVariants as P;
 ghost use Rattle.fmu_peer.specs.Mode.{agrees, instantiate_of};
 ghost use Rattle.fmu_peer.specs.Answer.{Answered, AnsweredWith, Failed, FailedWith, IsGoodReply, IsWhy};
-ghost use Rattle.fmu_peer.specs.Many.{AnsweredAll, AreOfOneSort, FailedBehind, IsWorthOf, MayAskAll, count_came, to_come};
+ghost use Rattle.fmu_peer.specs.Many.{AnsweredAll, AreOfOneSort, FailedAfter, IsWorthOf, MayAskAll, count_came, to_come};
 ghost use Rattle.fmu_peer.specs.View.{IsDeserialize, IsFollowedBy, carries_bytes};
 ghost use Rattle.fmu_peer.specs.Close.{IsClosed, can_be_closed};
 ghost use Rattle.fmu_peer.specs.declared.ended.Why.TheVariants as Why;
@@ -189,7 +189,7 @@ fn ask_many<L: Peer>(peer: &mut L, calls: &[Call], replies: &mut [Reply]) -> Res
     ensures all { IfOk result (λ count. count ≡ length calls.now) }
     ensures ok { IfOk result (λ count. AnsweredAll (L.view peer.old) calls.now replies.new
         (L.view peer.new)) }
-    ensures err { IfErr result (λ why. FailedBehind (L.view peer.old) calls.now why
+    ensures err { IfErr result (λ why. FailedAfter (L.view peer.old) calls.now why
         (L.view peer.new)) }
     ensures keeps { (mode : InstanceState) → IsTrue (agrees mode (L.view peer.old).phase.state) →
         IsTrue (agrees mode (L.view peer.new).phase.state) }
@@ -522,7 +522,7 @@ impl<L: Peer, M: Mode> Fmu<L, M> {
         ensures all { IfOk result (λ count. count ≡ length calls.now) }
         ensures ok { IfOk result (λ count. AnsweredAll (L.view self.old.peer) calls.now replies.new
             (L.view self.new.peer)) }
-        ensures err { IfErr result (λ why. FailedBehind (L.view self.old.peer) calls.now why
+        ensures err { IfErr result (λ why. FailedAfter (L.view self.old.peer) calls.now why
             (L.view self.new.peer)) }
     {
         ask_many(&mut self.peer, calls, replies)

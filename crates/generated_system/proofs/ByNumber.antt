@@ -6,26 +6,26 @@ use Rattle.std.proofs.Math.ListN.{get_or-append}
 use Rattle.std.proofs.lemmas.List.FromFn.{get_or-range_with_len, length-range_with_len, map-range_with_len_more}
 use Rattle.sim_base.specs.declared.numbers.PortId.{PortId}
 use Rattle.system_model.specs.Orders.{IsOrder}
-use Rattle.system_model.specs.Ports.{numbers}
+use Rattle.system_model.specs.Ports.{port_numbers}
 use Rattle.system_model.proofs.CallerLemmas.{order_by_number}
 
 -- the element of a range that stands after so many others is their number
-place_in_range : (n : ℕ) (before behind : List ℕ) (p : ℕ) → range_with_len 0 n ≡ before ++ p ∷ behind → p ≡ length before
-place_in_range n before behind p split =
-    let long : n ≡ length before + suc (length behind) = sym (length-range_with_len 0 n) ∙ ap length split ∙ length-append before (p ∷ behind) in
-    let seam : get_or (before ++ p ∷ behind) (length before) 0 ≡ p = get_or-append_seam before p behind 0 in
+place_in_range : (n : ℕ) (before later : List ℕ) (p : ℕ) → range_with_len 0 n ≡ before ++ p ∷ later → p ≡ length before
+place_in_range n before later p split =
+    let long : n ≡ length before + suc (length later) = sym (length-range_with_len 0 n) ∙ ap length split ∙ length-append before (p ∷ later) in
+    let seam : get_or (before ++ p ∷ later) (length before) 0 ≡ p = get_or-append_seam before p later 0 in
     let at : get_or (range_with_len 0 n) (length before) 0 ≡ 0 + length before = get_or-range_with_len 0 n (length before) 0 (omega (arith, long)) in
-    let same : get_or (range_with_len 0 n) (length before) 0 ≡ get_or (before ++ p ∷ behind) (length before) 0 = ap (λ xs. get_or xs (length before) 0) split in
+    let same : get_or (range_with_len 0 n) (length before) 0 ≡ get_or (before ++ p ∷ later) (length before) 0 = ap (λ xs. get_or xs (length before) 0) split in
     omega (arith, seam, at, same)
 
 -- and all smaller numbers stand before it
-before_it : (n : ℕ) (before behind : List ℕ) (p q : ℕ) → range_with_len 0 n ≡ before ++ p ∷ behind → q < p → Contains before q
-before_it n before behind p q split less =
-    let place : p ≡ length before = place_in_range n before behind p split in
-    let long : n ≡ length before + suc (length behind) = sym (length-range_with_len 0 n) ∙ ap length split ∙ length-append before (p ∷ behind) in
-    let left : get_or (before ++ p ∷ behind) q q ≡ get_or before q q = get_or-append before (p ∷ behind) q q (omega (arith, place, less)) in
+before_it : (n : ℕ) (before later : List ℕ) (p q : ℕ) → range_with_len 0 n ≡ before ++ p ∷ later → q < p → Contains before q
+before_it n before later p q split less =
+    let place : p ≡ length before = place_in_range n before later p split in
+    let long : n ≡ length before + suc (length later) = sym (length-range_with_len 0 n) ∙ ap length split ∙ length-append before (p ∷ later) in
+    let left : get_or (before ++ p ∷ later) q q ≡ get_or before q q = get_or-append before (p ∷ later) q q (omega (arith, place, less)) in
     let at : get_or (range_with_len 0 n) q q ≡ 0 + q = get_or-range_with_len 0 n q q (omega (arith, place, less, long)) in
-    let same : get_or (range_with_len 0 n) q q ≡ get_or (before ++ p ∷ behind) q q = ap (λ xs. get_or xs q q) split in
+    let same : get_or (range_with_len 0 n) q q ≡ get_or (before ++ p ∷ later) q q = ap (λ xs. get_or xs q q) split in
     (q, omega (arith, place, less), omega (arith, left, at, same))
 
 abbrev NeedsNothing : ℕ → ℕ → Type 0
@@ -39,14 +39,14 @@ order_of_smaller n IsAmong NeedsOf order is below among smaller =
       each = plain.each;
       only = plain.only;
       once = plain.once;
-      after = λ before behind p q split needs. before_it n before behind p q (sym is ∙ split) (smaller p q needs);
+      after = λ before later p q split needs. before_it n before later p q (sym is ∙ split) (smaller p q needs);
     }
 
 -- the numbers of ports that are taken by number
-pub numbers_of : (a n : ℕ) → numbers (map (λ p. record { 0 = p }) (range_with_len a n)) ≡ range_with_len a n
+pub numbers_of : (a n : ℕ) → port_numbers (map (λ p. record { 0 = p }) (range_with_len a n)) ≡ range_with_len a n
 numbers_of a n = same (range_with_len a n)
   where
-    same : (xs : List ℕ) → numbers (map (λ p. record { 0 = p }) xs) ≡ xs
+    same : (xs : List ℕ) → port_numbers (map (λ p. record { 0 = p }) xs) ≡ xs
     same [] = refl
     same (x ∷ xs) = ap (λ ys. x ∷ ys) (same xs)
 

@@ -27,7 +27,7 @@ use Rattle.system_model.specs.declared.system.Role.TheVariants.{Input, Output, C
 use Rattle.system_model.specs.declared.system.Port.{Port}
 use Rattle.system_model.specs.Bounds.{AreParameterValues, BindsParameters, IsParameterValue}
 use Rattle.system_model.specs.Carried.{IsOn}
-use Rattle.system_model.specs.Ports.{numbers, source_of, is_output_role}
+use Rattle.system_model.specs.Ports.{port_numbers, source_of, is_output_role}
 use Rattle.system_model.specs.Ports as fed
 use Rattle.system_model.specs.Needs.{Needs, ByFeed, ByClock, ByDependency, NeedsInitially, InitiallyByFeed, InitiallyByDependency, DependsOn, is_unclocked, is_unclocked_at}
 use Rattle.system_model.specs.Shapes.{IsSoundClock, IsSoundDependency, IsSoundShape, HasFittingStart, HasNames, NamesClocks}
@@ -313,7 +313,7 @@ needs_before drawn are n p q (ByFeed port at from) = fed_before drawn are n p q 
 needs_before drawn are n p q (ByClock port at among) =
     let of : IsOf drawn n p port = of_port drawn n p port at in
     let none : port.clocks ≡ [] = no_clocks of.number (drawn of.number).machine (feed_of drawn of.number) of.place port of.own in
-    let m : Contains (numbers []) q = subst (λ (xs : List PortId). Contains (numbers xs) q) none among in
+    let m : Contains (port_numbers []) q = subst (λ (xs : List PortId). Contains (port_numbers xs) q) none among in
     let less : m.0 < 0 = m.1 in
     absurd (omega (arith, less))
 needs_before drawn are n p q (ByDependency d events) = depends_before drawn n false p q d
@@ -350,7 +350,7 @@ within_unclocked drawn n p less =
 
 -- ---- the whole
 
-by_number : (drawn : ℕ → Drawn) (n : ℕ) → numbers (map (λ p. record { 0 = p }) (range_with_len 0 (first_port drawn n))) ≡ range_with_len 0 (length (system_from drawn n).ports)
+by_number : (drawn : ℕ → Drawn) (n : ℕ) → port_numbers (map (λ p. record { 0 = p }) (range_with_len 0 (first_port drawn n))) ≡ range_with_len 0 (length (system_from drawn n).ports)
 by_number drawn n = numbers_of 0 (first_port drawn n) ∙ ap (range_with_len 0) (sym (ports_long drawn n))
 
 pub system_sound : (drawn : ℕ → Drawn) → AreDrawn drawn → (n : ℕ) → n ≤ 256 → IsSound (system_from drawn n)
@@ -358,9 +358,9 @@ system_sound drawn are n few = record {
   components = sound_components drawn n few;
   ports = sound_ports drawn n few;
   feeds = λ p port feed at from. sound_feed drawn are n p port feed at from;
-  instant_order = order_of_smaller (length (system_from drawn n).ports) (λ p. p < length (system_from drawn n).ports) (Needs (system_from drawn n)) (numbers (system_from drawn n).instant_order) (by_number drawn n)
+  instant_order = order_of_smaller (length (system_from drawn n).ports) (λ p. p < length (system_from drawn n).ports) (Needs (system_from drawn n)) (port_numbers (system_from drawn n).instant_order) (by_number drawn n)
       (λ p h. h) (λ p h. h) (needs_before drawn are n);
-  initial_order = order_of_smaller (length (system_from drawn n).ports) (λ p. is_unclocked_at (system_from drawn n).ports p ≡ true) (NeedsInitially (system_from drawn n)) (numbers (system_from drawn n).initial_order) (by_number drawn n)
+  initial_order = order_of_smaller (length (system_from drawn n).ports) (λ p. is_unclocked_at (system_from drawn n).ports p ≡ true) (NeedsInitially (system_from drawn n)) (port_numbers (system_from drawn n).initial_order) (by_number drawn n)
       (unclocked_within (system_from drawn n).ports) (within_unclocked drawn n) (needs_before_initially drawn are n);
 }
 

@@ -32,7 +32,7 @@ pub record IsReadFrom (packings : List Packing) (kept read : Snapshot) : Type 0 
 abbrev pub ResumesFromBytes : Type 0
 ResumesFromBytes =
     (r : Run) → IsSound r.system → AreMachines r → WellBehaved r → (packings : List Packing) →
-    ReadsBack r packings → (front is js : List Instant) (k l : EndKind) (p q : ℕ)
-    (z : Situation) (read : Snapshot) → Held r front z → IsTrace r is k p →
+    ReadsBack r packings → (prefix is js : List Instant) (k l : EndKind) (p q : ℕ)
+    (z : Situation) (read : Snapshot) → Held r prefix z → IsTrace r is k p →
     IsReadFrom packings (snapshot_of r (at_step r z)) read → Rest r (resumed r read) js l q →
-    (is ≡ front ++ js) × (k ≡ l) × (p ≡ q)
+    (is ≡ prefix ++ js) × (k ≡ l) × (p ≡ q)

@@ -75,12 +75,12 @@ takes_more old mid new done rest n turns within e t enough =
     let one = w.2 in
     (record { signals = t.signals + w.0; is = told }, omega arith)
 
-take_front : (a b : List ℕ) → take (length a) (a ++ b) ≡ a
-take_front a b = take-append-le (length a) a b (omega arith) ∙ take_all (length a) a (omega arith)
+take_prefix : (a b : List ℕ) → take (length a) (a ++ b) ≡ a
+take_prefix a b = take-append-le (length a) a b (omega arith) ∙ take_all (length a) a (omega arith)
 
 -- what was written so far is a prefix of all that is to be written
-pub front : (bytes done rest : List ℕ) → bytes ≡ done ++ rest → done ≡ take (length done) bytes
-front bytes done rest e = sym (ap (take (length done)) e ∙ take_front done rest)
+pub prefix : (bytes done rest : List ℕ) → bytes ≡ done ++ rest → done ≡ take (length done) bytes
+prefix bytes done rest e = sym (ap (take (length done)) e ∙ take_prefix done rest)
 
 -- nothing is left to be written
 pub finished : (bytes done rest : List ℕ) → bytes ≡ done ++ rest → length rest ≡ 0 → done ≡ bytes
@@ -125,7 +125,7 @@ written_writer old new bytes (Err error) steady bound keeps =
 -- a call went wrong after a part
 pub part_error : (old mid new : StreamView) (bytes done rest : List ℕ) → bytes ≡ done ++ rest → Takes old mid done → new ≡ with_error mid → StopsShort old new bytes
 part_error old mid new bytes done rest split t wrong =
-    record { count = length done; mid = mid; takes = subst (Takes old mid) (front bytes done rest split) t; cause = inl wrong }
+    record { count = length done; mid = mid; takes = subst (Takes old mid) (prefix bytes done rest split) t; cause = inl wrong }
 
 -- all calls that are tried were made, and too many of them were broken off
 pub part_broken : (old new : StreamView) (bytes done rest : List ℕ) (turns : ℕ) → bytes ≡ done ++ rest → (t : Takes old new done) → turns ≤ t.signals + length done →
@@ -133,7 +133,7 @@ pub part_broken : (old new : StreamView) (bytes done rest : List ℕ) (turns : �
 part_broken old new bytes done rest turns split t enough all short =
     let long = ap length split ∙ length-append done rest in
     let many : 2 ^ 63 ≤ t.signals = omega (arith, long) in
-    record { count = length done; mid = new; takes = record { signals = t.signals; is = t.is ∙ ap (λ l. with_signals (with_bytes old l) t.signals) (front bytes done rest split) }; cause = inr (refl, many) }
+    record { count = length done; mid = new; takes = record { signals = t.signals; is = t.is ∙ ap (λ l. with_signals (with_bytes old l) t.signals) (prefix bytes done rest split) }; cause = inr (refl, many) }
 
 pub flushed : {T : Type 0} (old mid new : StreamView) (bytes : List ℕ) (result : Result T Error) → Takes old mid bytes → Flushes mid new result → TakesBytes old new bytes result
 flushed old mid new bytes (Ok done) t same = subst (λ v. Takes old v bytes) (sym same) t

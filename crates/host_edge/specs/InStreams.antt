@@ -54,7 +54,7 @@ pub record Retries {T E : Type 0} (old new : ReadCounts) (result : Result T E) :
   pub so : EndsAfter old new signals result
 
 -- all the reads of a take: the bytes go from what was to come to the start of the room
-pub record GivesFront (old new : InStreamView) (into : List ℕ)
+pub record GivesPrefix (old new : InStreamView) (into : List ℕ)
     (result : Result ℕ Error) : Type 0 where
   pub within : IsWithinRoom result into
   pub taken : ReadConsumes old.left new.left result into

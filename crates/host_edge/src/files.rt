@@ -2,9 +2,10 @@ ghost use Rattle.std.specs.Prelude.{◌≡◌, ◌+◌, ◌-◌, ◌^◌, ◌<�
 ghost use Rattle.std.specs.Io.Take.{take_inner};
 ghost use Rattle.std.specs.IoError.{error_kind};
 ghost use Rattle.sim_base.specs.Folder.{KeepsLimit, NotesRead, folder_view};
+ghost use Rattle.sim_base.specs.ReadNotes.{told_answer};
 ghost use Rattle.host_edge.specs.Reading.{Opens, ReadsUpTo, ReadsWithin, unopened, unread};
 
-use sim_base::{Folder, ReadBook, ReadFault};
+use sim_base::{Folder, ReadBook, ReadFault, SharedBytes};
 use std::alloc::Global;
 use std::fs;
 use std::io::{self, ErrorKind, Read, Take};
@@ -106,7 +107,7 @@ impl<H: OpenFiles> OpenedFolder<H> {
 impl<H: OpenFiles> Folder for OpenedFolder<H> {
     ghost view = { λ f. folder_view None f.book };
 
-    fn read(&mut self, alloc: Global, path: &str, limit: u64) -> Result<Vec<u8>, ReadFault>
+    fn read(&mut self, alloc: Global, path: &str, limit: u64) -> Result<SharedBytes, ReadFault>
         ensures within { KeepsLimit limit result }
         ensures noted { NotesRead (folder_view None self.old.book)
             (folder_view None self.new.book) path.now result }
@@ -133,7 +134,7 @@ pub fn read_opened<S: OpenedFile>(
     ensures ok { IfOk opened.old
         (λ old. IsOkAnd opened.new (λ new. ReadsWithin (S.view old) (S.view new) limit result)) }
     ensures err { IfErr opened.old (λ error. result ≡ Err (unopened (error_kind error))) }
-    ensures bound { KeepsLimit limit result }
+    ensures bound { KeepsLimit limit (told_answer result) }
 {
     match opened {
         Ok(file) => read_within(file, alloc, limit),
@@ -148,7 +149,7 @@ fn read_within<S: OpenedFile>(
     limit: u64,
 ) -> Result<Vec<u8>, ReadFault>
     ensures told { ReadsWithin (S.view source.old) (S.view source.new) limit result }
-    ensures bound { KeepsLimit limit result }
+    ensures bound { KeepsLimit limit (told_answer result) }
 {
     let mut bytes = Vec::new(alloc);
     match source.read_up_to(limit.saturating_add(1), &mut bytes) {

@@ -1,7 +1,7 @@
 ghost use Rattle.std.specs.Prelude.{◌≡◌, ◌↔◌, None, IsTrue};
 ghost use Rattle.std.specs.IoError.{error_kind};
 ghost use Rattle.sim_base.specs.Source.{NotesTake, source_view};
-ghost use Rattle.host_edge.specs.InStreams.{GivesFront, Retries};
+ghost use Rattle.host_edge.specs.InStreams.{GivesPrefix, Retries};
 
 use sim_base::{Source, SourceFault};
 use std::io::{self, ErrorKind, Read};
@@ -61,7 +61,7 @@ impl<R: InStream> Source for StreamSource<R> {
         ensures retried { Retries (R.view self.old.stream).counts
             (R.view self.new.stream).counts result }
     {
-        match read_front(&mut self.stream, into) {
+        match read_prefix(&mut self.stream, into) {
             Ok(count) => Ok(count),
             Err(_) => {
                 self.faults = self.faults.saturating_add(1);
@@ -72,8 +72,8 @@ impl<R: InStream> Source for StreamSource<R> {
 }
 
 // One read, tried again while signals break it off.
-fn read_front<R: InStream>(stream: &mut R, into: &mut [u8]) -> io::Result<usize>
-    ensures { GivesFront (R.view stream.old) (R.view stream.new) into.new result }
+fn read_prefix<R: InStream>(stream: &mut R, into: &mut [u8]) -> io::Result<usize>
+    ensures { GivesPrefix (R.view stream.old) (R.view stream.new) into.new result }
 {
     'reads: for _ in 0..u64::MAX {
         match stream.read(into) {

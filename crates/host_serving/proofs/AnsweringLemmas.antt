@@ -95,8 +95,8 @@ item_is room count i calls is many lt call at =
 -- each is of the batch's kind
 frames_alike : (one : Kind) (frames : List CallFrame) (bytes : List ℕ) (i : ℕ) → AreFrames IsCallFrame (λ (f : CallFrame). kind_of f.call) one frames bytes → i < length frames → kind_of (call_in (map (λ (f : CallFrame). f.call) frames) i) ≡ one
 frames_alike one [] bytes i are lt = absurd (omega (arith, lt))
-frames_alike one (f ∷ fs) bytes zero (front, rest, both, is, k, more) lt = k
-frames_alike one (f ∷ fs) bytes (suc i) (front, rest, both, is, k, more) lt = frames_alike one fs rest i more (omega (arith, lt))
+frames_alike one (f ∷ fs) bytes zero (prefix, rest, both, is, k, more) lt = k
+frames_alike one (f ∷ fs) bytes (suc i) (prefix, rest, both, is, k, more) lt = frames_alike one fs rest i more (omega (arith, lt))
 
 pub kind_in : (calls : List Call) (bytes : List ℕ) (i : ℕ) (is : IsBatchOfCalls calls bytes) → i < length calls → kind_of (call_in calls i) ≡ is.batch.one
 kind_in calls bytes i is lt =
@@ -124,7 +124,7 @@ module _ (one : Kind) (old now : View) (calls : List Call) (places : List Reply)
 
   pub reaches : Reaches old calls call now
   reaches = record {
-    front = take i calls;
+    prefix = take i calls;
     left = drop (suc i) calls;
     replies = take i places;
     calls_are = sym (take-append-drop i calls) ∙ ap (λ (xs : List Call). take i calls ++ xs) (drop-cons calls i C.FreeInstance lt ∙ ap (λ (c : Call). c ∷ drop (suc i) calls) (sym is));

@@ -10,13 +10,13 @@ use Rattle.link_frames.specs.declared.call.CallFrame.{CallFrame}
 use Rattle.link_frames.specs.Batch.{IsCallBatch, IsHeadOf, batch_head}
 use Rattle.link_frames.specs.Call.{IsCallFrame}
 use Rattle.link_frames.specs.Head.{spelling}
-use Rattle.exact_parts.specs.Taking.{Breaks, Gets, IsFront}
+use Rattle.exact_parts.specs.Taking.{Breaks, Gets, IsPrefix}
 use Rattle.link_frames.proofs.CallerLemmas.{call_batch_long, call_begins, call_single, head_length, head_tells}
 use Rattle.host_serving.specs.Frames.{IsLinkFrame, IsNoFrame, IsRoom, Takes, TakesBatch, TakesCall}
-use Rattle.host_serving.proofs.FrameLemmas.{takes_more, written_behind}
+use Rattle.host_serving.proofs.FrameLemmas.{takes_more, written_after}
 use Rattle.host_serving.proofs.HeadLemmas.{frame_long, head_begins}
 use borrow.Rule.Slice.PartMut.{put_mid}
-use Rattle.host_serving.proofs.LinkFrames.{batch_breaks, batch_front, call_breaks, call_front, first_kept, first_of}
+use Rattle.host_serving.proofs.LinkFrames.{batch_breaks, batch_prefix, call_breaks, call_prefix, first_kept, first_of}
 
 -- ---- the head
 
@@ -38,28 +38,28 @@ broke old new bytes at single takes breaks = inl (record { bytes = bytes; takes 
 pub batch_broke : (old new : SourceView) (bytes : List ℕ) (at : ℕ) → slice_index bytes 0 ≡ 19 → Takes old new bytes → Breaks IsCallBatch bytes at → IsNoFrame old new at
 batch_broke old new bytes at batch takes breaks = inl (record { bytes = bytes; takes = takes; breaks = batch_breaks bytes at batch breaks })
 
-pub cut : (old new : SourceView) (bytes : List ℕ) (at : ℕ) → Takes old new bytes → IsAtEnd new.left → 0 < length bytes → IsFront IsLinkFrame bytes → at ≡ length bytes → IsNoFrame old new at
-cut old new bytes at takes end some front is = inr (record { bytes = bytes; takes = takes; at_end = end; some = some; front = front; at_is = is })
+pub cut : (old new : SourceView) (bytes : List ℕ) (at : ℕ) → Takes old new bytes → IsAtEnd new.left → 0 < length bytes → IsPrefix IsLinkFrame bytes → at ≡ length bytes → IsNoFrame old new at
+cut old new bytes at takes end some prefix is = inr (record { bytes = bytes; takes = takes; at_end = end; some = some; prefix = prefix; at_is = is })
 
-pub head_cut : (old new : SourceView) (bytes : List ℕ) → Takes old new bytes → IsAtEnd new.left → 0 < length bytes → IsFront IsCallFrame bytes → IsNoFrame old new (length bytes)
-head_cut old new bytes takes end some front = cut old new bytes (length bytes) takes end some (call_front bytes front) refl
+pub head_cut : (old new : SourceView) (bytes : List ℕ) → Takes old new bytes → IsAtEnd new.left → 0 < length bytes → IsPrefix IsCallFrame bytes → IsNoFrame old new (length bytes)
+head_cut old new bytes takes end some prefix = cut old new bytes (length bytes) takes end some (call_prefix bytes prefix) refl
 
 -- ---- the texts
 
 -- the head alone is no frame
-no_frame : (first : List ℕ) (value : CallFrame) → IsFront IsCallFrame first → IsCallFrame value first → ⊥
-no_frame first value front is =
-    let none = (call_single value front.value first front.more is front.spelled).1 in
-    omega (arith, none, front.goes_on)
+no_frame : (first : List ℕ) (value : CallFrame) → IsPrefix IsCallFrame first → IsCallFrame value first → ⊥
+no_frame first value prefix is =
+    let none = (call_single value prefix.value first prefix.more is prefix.spelled).1 in
+    omega (arith, none, prefix.goes_on)
 
 append_nothing : (xs more : List ℕ) → length more ≤ 0 → xs ++ more ≡ xs
 append_nothing xs [] none = append-nil xs
 append_nothing xs (m ∷ more) none = absurd (omega (arith, none))
 
 -- a frame that stands in the head and the texts is all of them
-whole_texts : (value : CallFrame) (first texts : List ℕ) (size room : ℕ) → length first ≡ 24 → IsFront IsCallFrame first → IsRoom first room → length texts ≤ room →
+whole_texts : (value : CallFrame) (first texts : List ℕ) (size room : ℕ) → length first ≡ 24 → IsPrefix IsCallFrame first → IsRoom first room → length texts ≤ room →
     Gets IsCallFrame (first ++ texts) value size → take size (first ++ texts) ≡ first ++ texts
-whole_texts value first texts size room long front is_room few gets =
+whole_texts value first texts size room long prefix is_room few gets =
     let least = frame_long value (take size (first ++ texts)) gets.spelled in
     let taken = length-take size (first ++ texts) in
     let all = length-append first texts in
@@ -70,37 +70,37 @@ whole_texts value first texts size room long front is_room few gets =
     let count = length-take n texts in
     elim (cases_lt 0 (length (take n texts))) [
       | inl some ↦ take_all size (first ++ texts) (omega (arith, is_room value (take n texts) some is, count, all, few, size_is))
-      | inr none ↦ absurd (no_frame first value front (subst (IsCallFrame value) (append_nothing first (take n texts) none) is))
+      | inr none ↦ absurd (no_frame first value prefix (subst (IsCallFrame value) (append_nothing first (take n texts) none) is))
     ]
 
 -- what the head and the texts come to
-pub texts_came : (old new : SourceView) (value : CallFrame) (first texts bytes : List ℕ) (size room : ℕ) → length first ≡ 24 → IsFront IsCallFrame first → IsRoom first room → length texts ≤ room →
+pub texts_came : (old new : SourceView) (value : CallFrame) (first texts bytes : List ℕ) (size room : ℕ) → length first ≡ 24 → IsPrefix IsCallFrame first → IsRoom first room → length texts ≤ room →
     bytes ≡ first ++ texts → Takes old new (first ++ texts) → Gets IsCallFrame bytes value size → TakesCall old new value.call
-texts_came old new value first texts bytes size room long front is_room few e takes gets =
+texts_came old new value first texts bytes size room long prefix is_room few e takes gets =
     let there : Gets IsCallFrame (first ++ texts) value size = subst (λ l. Gets IsCallFrame l value size) e gets in
-    record { frame = value; bytes = first ++ texts; spelled = subst (IsCallFrame value) (whole_texts value first texts size room long front is_room few there) there.spelled; is = refl; takes = takes }
+    record { frame = value; bytes = first ++ texts; spelled = subst (IsCallFrame value) (whole_texts value first texts size room long prefix is_room few there) there.spelled; is = refl; takes = takes }
 
-pub texts_broke : (old new : SourceView) (first texts bytes : List ℕ) (at : ℕ) → length first ≡ 24 → IsFront IsCallFrame first → bytes ≡ first ++ texts → Takes old new (first ++ texts) → Breaks IsCallFrame bytes at → IsNoFrame old new at
-texts_broke old new first texts bytes at long front e takes breaks = broke old new bytes at single (subst (Takes old new) (sym e) takes) breaks
+pub texts_broke : (old new : SourceView) (first texts bytes : List ℕ) (at : ℕ) → length first ≡ 24 → IsPrefix IsCallFrame first → bytes ≡ first ++ texts → Takes old new (first ++ texts) → Breaks IsCallFrame bytes at → IsNoFrame old new at
+texts_broke old new first texts bytes at long prefix e takes breaks = broke old new bytes at single (subst (Takes old new) (sym e) takes) breaks
   where
     some : 0 < length first
     some = omega (arith, long)
 
     single : slice_index bytes 0 ≡ 19 → ⊥
     single is =
-        call_begins front.value (first ++ front.more) front.spelled
-        (first_kept first front.more some ∙ sym (first_kept first texts some) ∙ ap (λ (l : List ℕ). slice_index l 0) (sym e) ∙ is)
+        call_begins prefix.value (first ++ prefix.more) prefix.spelled
+        (first_kept first prefix.more some ∙ sym (first_kept first texts some) ∙ ap (λ (l : List ℕ). slice_index l 0) (sym e) ∙ is)
 
 -- where the texts aren't whole, the source has ended
 pub texts_cut : (old new : SourceView) (first texts bytes : List ℕ) (room : ℕ) → length first ≡ 24 → IsRoom first room → bytes ≡ first ++ texts → Takes old new (first ++ texts) →
-    (length texts < room → IsAtEnd new.left) → IsFront IsCallFrame bytes → IsNoFrame old new (24 + length texts)
-texts_cut old new first texts bytes room long is_room e takes end front =
-    let there : IsCallFrame front.value (first ++ (texts ++ front.more)) = subst (IsCallFrame front.value) (ap (λ l. l ++ front.more) e ∙ append_assoc first texts front.more) front.spelled in
-    let both = length-append texts front.more in
-    let goes = front.goes_on in
-    let wanted : room ≡ length (texts ++ front.more) = is_room front.value (texts ++ front.more) (omega (arith, both, goes)) there in
+    (length texts < room → IsAtEnd new.left) → IsPrefix IsCallFrame bytes → IsNoFrame old new (24 + length texts)
+texts_cut old new first texts bytes room long is_room e takes end prefix =
+    let there : IsCallFrame prefix.value (first ++ (texts ++ prefix.more)) = subst (IsCallFrame prefix.value) (ap (λ l. l ++ prefix.more) e ∙ append_assoc first texts prefix.more) prefix.spelled in
+    let both = length-append texts prefix.more in
+    let goes = prefix.goes_on in
+    let wanted : room ≡ length (texts ++ prefix.more) = is_room prefix.value (texts ++ prefix.more) (omega (arith, both, goes)) there in
     let all = ap length e ∙ length-append first texts in
-    cut old new bytes (24 + length texts) (subst (Takes old new) (sym e) takes) (end (omega (arith, wanted, both, goes))) (omega (arith, all, long)) (call_front bytes front) (omega (arith, all, long))
+    cut old new bytes (24 + length texts) (subst (Takes old new) (sym e) takes) (end (omega (arith, wanted, both, goes))) (omega (arith, all, long)) (call_prefix bytes prefix) (omega (arith, all, long))
 
 -- ---- the calls of a batch
 
@@ -132,8 +132,8 @@ batch_came old new room bytes count value size n is few h takes gets =
     let part = take size bytes in
     let long = call_batch_long value part gets.spelled in
     let took = length-take-le size bytes gets.within in
-    let front : take 24 part ≡ take 24 bytes = take-take 24 size bytes (omega (arith, long, took)) in
-    let same : value ≡ count = head_tells value count (take 24 bytes) (subst (IsHeadOf value) front (batch_headed value part gets.spelled)) h in
+    let prefix : take 24 part ≡ take 24 bytes = take-take 24 size bytes (omega (arith, long, took)) in
+    let same : value ≡ count = head_tells value count (take 24 bytes) (subst (IsHeadOf value) prefix (batch_headed value part gets.spelled)) h in
     let cut = ap length is ∙ length-take n room in
     let within = gets.within in
     let whole : n ≡ 24 * (count + 1) = omega (arith, long, took, same, cut, few, within) in
@@ -148,14 +148,14 @@ pub items_broke : (old new : SourceView) (bytes : List ℕ) (count at : ℕ) →
 items_broke old new bytes count at h takes breaks = batch_broke old new bytes at (sym (first_of bytes 24 (omega arith)) ∙ head_begins count (take 24 bytes) h) takes breaks
 
 -- where the calls aren't whole, the source has ended
-pub items_cut : (old new : SourceView) (bytes : List ℕ) (count more : ℕ) → IsHeadOf count (take 24 bytes) → length bytes ≡ 24 + more → (more < 24 * count → IsAtEnd new.left) → Takes old new bytes → IsFront IsCallBatch bytes →
+pub items_cut : (old new : SourceView) (bytes : List ℕ) (count more : ℕ) → IsHeadOf count (take 24 bytes) → length bytes ≡ 24 + more → (more < 24 * count → IsAtEnd new.left) → Takes old new bytes → IsPrefix IsCallBatch bytes →
     IsNoFrame old new (24 + more)
-items_cut old new bytes count more h long end takes front =
-    let same = told_count count front.value bytes front.more h (omega (arith, long)) front.spelled in
-    let whole = call_batch_long front.value (bytes ++ front.more) front.spelled in
-    let both = length-append bytes front.more in
-    let goes = front.goes_on in
-    cut old new bytes (24 + more) takes (end (omega (arith, same, whole, both, goes, long))) (omega (arith, long)) (batch_front bytes front) (sym long)
+items_cut old new bytes count more h long end takes prefix =
+    let same = told_count count prefix.value bytes prefix.more h (omega (arith, long)) prefix.spelled in
+    let whole = call_batch_long prefix.value (bytes ++ prefix.more) prefix.spelled in
+    let both = length-append bytes prefix.more in
+    let goes = prefix.goes_on in
+    cut old new bytes (24 + more) takes (end (omega (arith, same, whole, both, goes, long))) (omega (arith, long)) (batch_prefix bytes prefix) (sym long)
 
 -- a batch has more than a head
 pub no_batch_in : (bytes : List ℕ) (value size : ℕ) → length bytes ≤ 24 → Gets IsCallBatch bytes value size → ⊥
@@ -167,11 +167,11 @@ no_batch_in bytes value size few gets =
     omega (arith, long, took, some, within, few)
 
 -- bytes that begin a batch are its head, or the source ends before that is whole
-pub batch_head_cut : (old new : SourceView) (bytes : List ℕ) → 0 < length bytes → length bytes ≤ 24 → (length bytes < 24 → IsAtEnd new.left) → ((calls : ℕ) → IsHeadOf calls bytes → ⊥) → Takes old new bytes → IsFront IsCallBatch bytes →
+pub batch_head_cut : (old new : SourceView) (bytes : List ℕ) → 0 < length bytes → length bytes ≤ 24 → (length bytes < 24 → IsAtEnd new.left) → ((calls : ℕ) → IsHeadOf calls bytes → ⊥) → Takes old new bytes → IsPrefix IsCallBatch bytes →
     IsNoFrame old new (length bytes)
-batch_head_cut old new bytes some few end none takes front = elim (cases_lt (length bytes) 24) [
-  | inl short ↦ cut old new bytes (length bytes) takes (end short) some (batch_front bytes front) refl
-  | inr long ↦ absurd (none front.value (subst (IsHeadOf front.value) (take-append-le 24 bytes front.more long ∙ take_all 24 bytes few) (batch_headed front.value (bytes ++ front.more) front.spelled)))
+batch_head_cut old new bytes some few end none takes prefix = elim (cases_lt (length bytes) 24) [
+  | inl short ↦ cut old new bytes (length bytes) takes (end short) some (batch_prefix bytes prefix) refl
+  | inr long ↦ absurd (none prefix.value (subst (IsHeadOf prefix.value) (take-append-le 24 bytes prefix.more long ∙ take_all 24 bytes few) (batch_headed prefix.value (bytes ++ prefix.more) prefix.spelled)))
 ]
 
 -- ---- the room
@@ -184,10 +184,10 @@ pub record IsFilled (old new : SourceView) (count more : ℕ) (bytes : List ℕ)
 
 pub filled : (before mid new : SourceView) (room head part bytes : List ℕ) (count size more : ℕ) → take 24 room ≡ head → bytes ≡ take (24 + more) (put_mid 24 size room part) → more ≤ length part → IsHeadOf count head →
     Takes before mid head → Takes mid new (take more part) → IsFilled before new count more bytes
-filled before mid new room head part bytes count size more front is few told first second =
+filled before mid new room head part bytes count size more prefix is few told first second =
     let head_long : length head ≡ 24 = ap length told.spelled ∙ head_length (batch_head count) in
-    let room_long = sym (ap length front) ∙ length-take 24 room in
-    let parts : bytes ≡ head ++ take more part = is ∙ written_behind room head part size more front (omega (arith, head_long, room_long)) few in
+    let room_long = sym (ap length prefix) ∙ length-take 24 room in
+    let parts : bytes ≡ head ++ take more part = is ∙ written_after room head part size more prefix (omega (arith, head_long, room_long)) few in
     let whole = ap length parts ∙ length-append head (take more part) in
     record {
       told = subst (IsHeadOf count) (sym (ap (take 24) parts ∙ take_at head (take more part) 24 head_long)) told;

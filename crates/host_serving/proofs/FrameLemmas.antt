@@ -38,12 +38,12 @@ part_written into part count size n within few =
     ∙ ap (take (count + n)) whole ∙ ap (λ (m : ℕ). take (m + n) (take count into ++ part)) (sym long) ∙ take-append-add (take count into) part n
 
 -- all that comes after the place
-pub front_more : (into part : List ℕ) (count n : ℕ) → count ≤ length into → n ≤ length part → take (count + n) (put_mid count (length into - count) into part) ≡ take count into ++ take n part
-front_more into part count n within few = part_written into part count (length into - count) n within few
+pub prefix_more : (into part : List ℕ) (count n : ℕ) → count ≤ length into → n ≤ length part → take (count + n) (put_mid count (length into - count) into part) ≡ take count into ++ take n part
+prefix_more into part count n within few = part_written into part count (length into - count) n within few
 
 room_more : (into part : List ℕ) (count n : ℕ) → count ≤ length into → n ≤ length part → count + n ≤ length (put_mid count (length into - count) into part)
 room_more into part count n within few =
-    let whole = ap length (front_more into part count n within few) in
+    let whole = ap length (prefix_more into part count n within few) in
     let a = length-append (take count into) (take n part) in
     let b = length-take count into in
     let c = length-take n part in
@@ -56,7 +56,7 @@ pub filled_more : {E : Type 0} (before now after : SourceView) (into part : List
 filled_more before now after into part count n within so takes =
     let one : Takes now after (take n part) = record { taken = takes.taken.0; quiet = takes.counted } in (
       room_more into part count n within takes.within,
-      subst (Takes before after) (sym (front_more into part count n within takes.within)) (takes_more before now after (take count into) (take n part) so one),
+      subst (Takes before after) (sym (prefix_more into part count n within takes.within)) (takes_more before now after (take count into) (take n part) so one),
     )
 
 -- one part of a state more
@@ -78,5 +78,5 @@ pub copied : (room part : List ℕ) (size : ℕ) → length part ≡ 24 → take
 copied room part size long = take-put_mid 0 size room part 24 (omega (arith, long)) (omega arith)
 
 -- and a part that was written after it
-pub written_behind : (room first part : List ℕ) (size n : ℕ) → take 24 room ≡ first → 24 ≤ length room → n ≤ length part → take (24 + n) (put_mid 24 size room part) ≡ first ++ take n part
-written_behind room first part size n front within few = part_written room part 24 size n within few ∙ ap (λ (xs : List ℕ). xs ++ take n part) front
+pub written_after : (room first part : List ℕ) (size n : ℕ) → take 24 room ≡ first → 24 ≤ length room → n ≤ length part → take (24 + n) (put_mid 24 size room part) ≡ first ++ take n part
+written_after room first part size n prefix within few = part_written room part 24 size n within few ∙ ap (λ (xs : List ℕ). xs ++ take n part) prefix

@@ -35,27 +35,27 @@ pub head_begins : (count : ℕ) (bytes : List ℕ) → IsHeadOf count bytes → 
 head_begins count bytes h = ap (λ (xs : List ℕ). slice_index xs 0) h.spelled ∙ spelled_begins 19 0 0 count 0 0
 
 -- the two numbers at the end of the head are the lengths of the texts
-pub record TellsTexts (front more : List ℕ) : Type 0 where
+pub record TellsTexts (prefix more : List ℕ) : Type 0 where
   pub name : ℕ
   pub token : ℕ
-  pub name_is : from_be_bytes w64 (eight_at front 8) ≡ name
-  pub token_is : from_be_bytes w64 (eight_at front 16) ≡ token
+  pub name_is : from_be_bytes w64 (eight_at prefix 8) ≡ name
+  pub token_is : from_be_bytes w64 (eight_at prefix 16) ≡ token
   pub more_is : length more ≡ name + token
   pub small : name + token < 2 ^ 64
 
-same_front : (a b c d : List ℕ) → a ++ b ≡ c ++ d → length a ≡ length c → a ≡ c
-same_front a b c d e same =
+same_prefix : (a b c d : List ℕ) → a ++ b ≡ c ++ d → length a ≡ length c → a ≡ c
+same_prefix a b c d e same =
     sym (take-append-le (length a) a b (omega arith) ∙ take_all (length a) a (omega arith)) ∙ ap (take (length a)) e
     ∙ take-append-le (length a) c d (omega (arith, same)) ∙ take_all (length a) c (omega (arith, same))
 
-whole_length : (k d f r a b : ℕ) (front more texts : List ℕ) → front ++ more ≡ spelling (head k d f r a b) ++ texts → length front + length more ≡ 24 + length texts
-whole_length k d f r a b front more texts e =
-    sym (length-append front more) ∙ ap length e ∙ length-append (spelling (head k d f r a b)) texts ∙ ap (λ n. n + length texts) (spelled_length k d f r a b)
+whole_length : (k d f r a b : ℕ) (prefix more texts : List ℕ) → prefix ++ more ≡ spelling (head k d f r a b) ++ texts → length prefix + length more ≡ 24 + length texts
+whole_length k d f r a b prefix more texts e =
+    sym (length-append prefix more) ∙ ap length e ∙ length-append (spelling (head k d f r a b)) texts ∙ ap (λ n. n + length texts) (spelled_length k d f r a b)
 
-by_numbers : (k d f r a b : ℕ) (front more texts : List ℕ) → length front ≡ 24 → front ++ more ≡ spelling (head k d f r a b) ++ texts → length texts ≡ a + b → a + b < 2 ^ 64 → a < 2 ^ 64 → b < 2 ^ 64 → TellsTexts front more
-by_numbers k d f r a b front more texts long e texts_len small first last =
-    let same : front ≡ spelling (head k d f r a b) = same_front front more (spelling (head k d f r a b)) texts e (long ∙ sym (spelled_length k d f r a b)) in
-    let whole = whole_length k d f r a b front more texts e in
+by_numbers : (k d f r a b : ℕ) (prefix more texts : List ℕ) → length prefix ≡ 24 → prefix ++ more ≡ spelling (head k d f r a b) ++ texts → length texts ≡ a + b → a + b < 2 ^ 64 → a < 2 ^ 64 → b < 2 ^ 64 → TellsTexts prefix more
+by_numbers k d f r a b prefix more texts long e texts_len small first last =
+    let same : prefix ≡ spelling (head k d f r a b) = same_prefix prefix more (spelling (head k d f r a b)) texts e (long ∙ sym (spelled_length k d f r a b)) in
+    let whole = whole_length k d f r a b prefix more texts e in
     record {
       name = a;
       token = b;
@@ -65,22 +65,22 @@ by_numbers k d f r a b front more texts long e texts_len small first last =
       small = small;
     }
 
-no_texts : (k d f r a b : ℕ) (front more : List ℕ) → length front ≡ 24 → 0 < length more → front ++ more ≡ spelling (head k d f r a b) ++ ([] ++ []) → ⊥
-no_texts k d f r a b front more long some e = let whole = whole_length k d f r a b front more ([] ++ []) e in omega (arith, whole, long, some)
+no_texts : (k d f r a b : ℕ) (prefix more : List ℕ) → length prefix ≡ 24 → 0 < length more → prefix ++ more ≡ spelling (head k d f r a b) ++ ([] ++ []) → ⊥
+no_texts k d f r a b prefix more long some e = let whole = whole_length k d f r a b prefix more ([] ++ []) e in omega (arith, whole, long, some)
 
-by_call : (call : Call) (name token front more : List ℕ) → length front ≡ 24 → 0 < length more → front ++ more ≡ spelling (head_of_call call (length name) (length token)) ++ (sent call name ++ sent call token)
-    → InRange (head_of_call call (length name) (length token)) → CanBeSent call (length name) (length token) → TellsTexts front more
-by_call (C.Instantiate event_mode early_return batches) name token front more long some e range can =
+by_call : (call : Call) (name token prefix more : List ℕ) → length prefix ≡ 24 → 0 < length more → prefix ++ more ≡ spelling (head_of_call call (length name) (length token)) ++ (sent call name ++ sent call token)
+    → InRange (head_of_call call (length name) (length token)) → CanBeSent call (length name) (length token) → TellsTexts prefix more
+by_call (C.Instantiate event_mode early_return batches) name token prefix more long some e range can =
     let call = C.Instantiate event_mode early_return batches in
-    by_numbers (facts_of (kind_of call)).number (detail_of call) 0 (reference_of call) (length name) (length token) front more (name ++ token) long e (length-append name token)
+    by_numbers (facts_of (kind_of call)).number (detail_of call) 0 (reference_of call) (length name) (length token) prefix more (name ++ token) long e (length-append name token)
     (omega (arith, can.1, can.2)) range.first range.last
-by_call call name token front more long some e range can =
-    absurd (no_texts (facts_of (kind_of call)).number (detail_of call) 0 (reference_of call) (first_of call (length name)) (last_of call (length token)) front more long some e)
+by_call call name token prefix more long some e range can =
+    absurd (no_texts (facts_of (kind_of call)).number (detail_of call) 0 (reference_of call) (first_of call (length name)) (last_of call (length token)) prefix more long some e)
 
 -- a frame that goes on after its head
-pub tells_texts : (frame : CallFrame) (front more : List ℕ) → length front ≡ 24 → 0 < length more → IsCallFrame frame (front ++ more) → TellsTexts front more
-tells_texts frame front more long some is =
-    by_call frame.call (bytes_at frame.name (front ++ more)) (bytes_at frame.token (front ++ more)) front more long some is.is_frame.spelled is.is_frame.in_range is.is_frame.can_be_sent
+pub tells_texts : (frame : CallFrame) (prefix more : List ℕ) → length prefix ≡ 24 → 0 < length more → IsCallFrame frame (prefix ++ more) → TellsTexts prefix more
+tells_texts frame prefix more long some is =
+    by_call frame.call (bytes_at frame.name (prefix ++ more)) (bytes_at frame.token (prefix ++ more)) prefix more long some is.is_frame.spelled is.is_frame.in_range is.is_frame.can_be_sent
 
 -- a frame is no shorter than its head
 pub frame_long : (frame : CallFrame) (bytes : List ℕ) → IsCallFrame frame bytes → 24 ≤ length bytes

@@ -82,9 +82,9 @@ Items shape old (c ∷ cs) (r ∷ rs) new =
 abbrev of : Call → Reply → Exchange
 of c r = record { call = c; result = Ok r }
 
-no_last : (front : List Exchange) (last : Exchange) → [] ≡ front ++ last ∷ [] → ⊥
+no_last : (prefix : List Exchange) (last : Exchange) → [] ≡ prefix ++ last ∷ [] → ⊥
 no_last [] last e = cc
-no_last (x ∷ front) last e = cc
+no_last (x ∷ prefix) last e = cc
 
 -- after the last of the calls none is left
 none_left : (shape : Shape) (c : Call) (r : Reply) (cs : List Call) (mid new : View) (last : Exchange) → new ≡ mid → grade_of shape c r ≡ G.Good → of c r ≡ last → (1 ≡ suc (length cs)) ⊎ (IsGood shape last → ⊥) → Items shape mid cs [] new
@@ -98,27 +98,27 @@ last_item shape c r cs mid new last G.Good e rest is ends = inl (e, none_left sh
 last_item shape c r cs mid new last G.Refused e rest is ends = inr ((λ good. let wrong : G.Refused ≡ G.Good = sym e ∙ good in absurd (cc)), refl, rest)
 last_item shape c r cs mid new last G.Misreply e rest is ends = inr ((λ good. let wrong : G.Misreply ≡ G.Good = sym e ∙ good in absurd (cc)), refl, rest)
 
-run : (shape : Shape) (calls : List Call) (replies : List Reply) (old new : View) (front : List Exchange) (last : Exchange) → old.fixed.shape ≡ shape → length replies ≤ length calls →
-    Talks old (exchanges (take (length replies) calls) replies) new → exchanges (take (length replies) calls) replies ≡ front ++ last ∷ [] → AllGood shape front →
+run : (shape : Shape) (calls : List Call) (replies : List Reply) (old new : View) (prefix : List Exchange) (last : Exchange) → old.fixed.shape ≡ shape → length replies ≤ length calls →
+    Talks old (exchanges (take (length replies) calls) replies) new → exchanges (take (length replies) calls) replies ≡ prefix ++ last ∷ [] → AllGood shape prefix →
     (length replies ≡ length calls) ⊎ (IsGood shape last → ⊥) → Items shape old calls replies new
-run shape calls [] old new front last fixed le talks is good ends = absurd (no_last front last is)
-run shape [] (r ∷ rs) old new front last fixed le talks is good ends = absurd (omega (arith, le))
+run shape calls [] old new prefix last fixed le talks is good ends = absurd (no_last prefix last is)
+run shape [] (r ∷ rs) old new prefix last fixed le talks is good ends = absurd (omega (arith, le))
 run shape (c ∷ cs) (r ∷ []) old new [] last fixed le (mid, may, asked, rest) is good ends =
     let one : of c r ≡ last = cc is in
     (mid, subst (λ (sh : Shape). Permitted sh old.phase c) fixed may, asked, last_item shape c r cs mid new last (grade_of shape c r) refl rest one ends)
-run shape (c ∷ cs) (r ∷ []) old new (e ∷ front) last fixed le talks is good ends =
-    let rest : [] ≡ front ++ last ∷ [] = cc is in absurd (no_last front last rest)
-run shape (c ∷ []) (r ∷ q ∷ rs) old new front last fixed le talks is good ends = absurd (omega (arith, le))
+run shape (c ∷ cs) (r ∷ []) old new (e ∷ prefix) last fixed le talks is good ends =
+    let rest : [] ≡ prefix ++ last ∷ [] = cc is in absurd (no_last prefix last rest)
+run shape (c ∷ []) (r ∷ q ∷ rs) old new prefix last fixed le talks is good ends = absurd (omega (arith, le))
 run shape (c ∷ d ∷ cs) (r ∷ q ∷ rs) old new [] last fixed le talks is good ends = absurd (let wrong : of d q ∷ exchanges (take (length rs) cs) rs ≡ [] = cc is in cc)
-run shape (c ∷ d ∷ cs) (r ∷ q ∷ rs) old new (e ∷ front) last fixed le (mid, may, asked, rest) is good ends =
+run shape (c ∷ d ∷ cs) (r ∷ q ∷ rs) old new (e ∷ prefix) last fixed le (mid, may, asked, rest) is good ends =
     let one : e ≡ of c r = cc is in
-    let more : exchanges (take (length (q ∷ rs)) (d ∷ cs)) (q ∷ rs) ≡ front ++ last ∷ [] = cc is in (
+    let more : exchanges (take (length (q ∷ rs)) (d ∷ cs)) (q ∷ rs) ≡ prefix ++ last ∷ [] = cc is in (
       mid,
       subst (λ (sh : Shape). Permitted sh old.phase c) fixed may,
       asked,
       inl (
-        subst (IsGood shape) one (All-head (IsGood shape) e front good),
-        run shape (d ∷ cs) (q ∷ rs) mid new front last (ap (λ (f : Fixed). f.shape) asked.fixed ∙ fixed) (omega (arith, le)) rest more (All-tail (IsGood shape) e front good)
+        subst (IsGood shape) one (All-head (IsGood shape) e prefix good),
+        run shape (d ∷ cs) (q ∷ rs) mid new prefix last (ap (λ (f : Fixed). f.shape) asked.fixed ∙ fixed) (omega (arith, le)) rest more (All-tail (IsGood shape) e prefix good)
             (elim ends [ inl len ↦ inl (omega (arith, len)) | inr other ↦ inr other ]),
       ),
     )
@@ -126,9 +126,9 @@ run shape (c ∷ d ∷ cs) (r ∷ q ∷ rs) old new (e ∷ front) last fixed le 
 pub items_run : (old new : View) (calls : List Call) (replies : List Reply) → AnsweredFirst old calls replies (length replies) new → Items old.fixed.shape old calls replies new
 items_run old new calls replies a =
     let all : take (length replies) replies ≡ replies = take_all (length replies) replies (omega arith) in
-    run old.fixed.shape calls replies old new a.front a.last refl a.within
+    run old.fixed.shape calls replies old new a.prefix a.last refl a.within
     (subst (λ (rs : List Reply). Talks old (exchanges (take (length replies) calls) rs) new) all a.talks)
-    (subst (λ (rs : List Reply). exchanges (take (length replies) calls) rs ≡ a.front ++ a.last ∷ []) all a.is) a.good a.ends
+    (subst (λ (rs : List Reply). exchanges (take (length replies) calls) rs ≡ a.prefix ++ a.last ∷ []) all a.is) a.good a.ends
 
 -- what stays
 pub fixed_along : (old new : View) (es : List Exchange) → Talks old es new → new.fixed ≡ old.fixed
@@ -174,51 +174,51 @@ module _ (shape : Shape) (m : Machine) where
       ]
 
   -- the call that isn't permitted after good replies
-  pub forbids_same : (told : Call) (phase : Phase) (s : MachineState) (calls : List Call) → ItemForbidden shape m told phase s calls → (front left : List Call) (replies : List Reply) (old new : View) (call : Call) →
-      calls ≡ front ++ call ∷ left → StandsAt shape m phase s old → length replies ≡ length front → Talks old (exchanges front replies) new → AllGood shape (exchanges front replies) → (Permitted shape new.phase call → ⊥) → told ≡ call
+  pub forbids_same : (told : Call) (phase : Phase) (s : MachineState) (calls : List Call) → ItemForbidden shape m told phase s calls → (prefix left : List Call) (replies : List Reply) (old new : View) (call : Call) →
+      calls ≡ prefix ++ call ∷ left → StandsAt shape m phase s old → length replies ≡ length prefix → Talks old (exchanges prefix replies) new → AllGood shape (exchanges prefix replies) → (Permitted shape new.phase call → ⊥) → told ≡ call
   forbids_same told _ _ _ (Now phase s left' cannot) [] left replies old new call is at len talks good forbidden = cc is
-  forbids_same told _ _ _ (Now phase s left' cannot) (f ∷ front) left [] old new call is at len talks good forbidden = absurd (omega (arith, len))
-  forbids_same told _ _ _ (Now phase s left' cannot) (f ∷ front) left (r ∷ rs) old new call is at len (mid, may, asked, rest) good forbidden =
+  forbids_same told _ _ _ (Now phase s left' cannot) (f ∷ prefix) left [] old new call is at len talks good forbidden = absurd (omega (arith, len))
+  forbids_same told _ _ _ (Now phase s left' cannot) (f ∷ prefix) left (r ∷ rs) old new call is at len (mid, may, asked, rest) good forbidden =
       let first : f ≡ told = cc is in
       absurd (cannot (subst (λ (c : Call). Permitted shape phase c) first (subst (λ (p : Phase). Permitted shape p f) at.phase_is (subst (λ (sh : Shape). Permitted sh old.phase f) at.shape_is may))))
   forbids_same told _ _ _ (Later phase s first left' may good' more) [] left replies old new call is at len talks good forbidden =
       let one : first ≡ call = cc is in
       absurd (forbidden (subst (λ (v : View). Permitted shape v.phase call) (sym talks) (subst (λ (p : Phase). Permitted shape p call) (sym at.phase_is) (subst (λ (c : Call). Permitted shape phase c) one may))))
-  forbids_same told _ _ _ (Later phase s first left' may good' more) (f ∷ front) left [] old new call is at len talks good forbidden = absurd (omega (arith, len))
-  forbids_same told _ _ _ (Later phase s first left' may good' more) (f ∷ front) left (r ∷ rs) old new call is at len (mid, ok, asked, rest) good forbidden =
+  forbids_same told _ _ _ (Later phase s first left' may good' more) (f ∷ prefix) left [] old new call is at len talks good forbidden = absurd (omega (arith, len))
+  forbids_same told _ _ _ (Later phase s first left' may good' more) (f ∷ prefix) left (r ∷ rs) old new call is at len (mid, ok, asked, rest) good forbidden =
       let one : f ≡ first = cc is in
-      let tail : left' ≡ front ++ call ∷ left = cc is in
+      let tail : left' ≡ prefix ++ call ∷ left = cc is in
       let next = stepped shape m phase s old mid first r at (subst (λ (c : Call). Asked old c (Ok r) mid) one asked) in
-      forbids_same told _ _ _ more front left rs mid new call tail next.at (omega (arith, len)) rest (All-tail (IsGood shape) (of f r) (exchanges front rs) good) forbidden
+      forbids_same told _ _ _ more prefix left rs mid new call tail next.at (omega (arith, len)) rest (All-tail (IsGood shape) (of f r) (exchanges prefix rs) good) forbidden
 
   -- where what is told answers all, none is forbidden
-  pub never_forbidden : (phase q : Phase) (s z : MachineState) (calls : List Call) (told : List Reply) → ItemsCome shape m phase s calls told q z → (front left : List Call) (replies : List Reply) (old new : View) (call : Call) →
-      calls ≡ front ++ call ∷ left → StandsAt shape m phase s old → length replies ≡ length front → Talks old (exchanges front replies) new → AllGood shape (exchanges front replies) → (Permitted shape new.phase call → ⊥) → ⊥
+  pub never_forbidden : (phase q : Phase) (s z : MachineState) (calls : List Call) (told : List Reply) → ItemsCome shape m phase s calls told q z → (prefix left : List Call) (replies : List Reply) (old new : View) (call : Call) →
+      calls ≡ prefix ++ call ∷ left → StandsAt shape m phase s old → length replies ≡ length prefix → Talks old (exchanges prefix replies) new → AllGood shape (exchanges prefix replies) → (Permitted shape new.phase call → ⊥) → ⊥
   never_forbidden _ _ _ _ _ _ (Through phase s) [] left replies old new call is at len talks good forbidden = absurd (cc is)
-  never_forbidden _ _ _ _ _ _ (Through phase s) (f ∷ front) left replies old new call is at len talks good forbidden = absurd (cc is)
+  never_forbidden _ _ _ _ _ _ (Through phase s) (f ∷ prefix) left replies old new call is at len talks good forbidden = absurd (cc is)
   never_forbidden _ _ _ _ _ _ (Bad phase s first left' may bad) [] left replies old new call is at len talks good forbidden =
       let one : first ≡ call = cc is in
       forbidden (subst (λ (v : View). Permitted shape v.phase call) (sym talks) (subst (λ (p : Phase). Permitted shape p call) (sym at.phase_is) (subst (λ (c : Call). Permitted shape phase c) one may)))
-  never_forbidden _ _ _ _ _ _ (Bad phase s first left' may bad) (f ∷ front) left [] old new call is at len talks good forbidden = absurd (omega (arith, len))
-  never_forbidden _ _ _ _ _ _ (Bad phase s first left' may bad) (f ∷ front) left (r ∷ rs) old new call is at len (mid, ok, asked, rest) good forbidden =
+  never_forbidden _ _ _ _ _ _ (Bad phase s first left' may bad) (f ∷ prefix) left [] old new call is at len talks good forbidden = absurd (omega (arith, len))
+  never_forbidden _ _ _ _ _ _ (Bad phase s first left' may bad) (f ∷ prefix) left (r ∷ rs) old new call is at len (mid, ok, asked, rest) good forbidden =
       let one : f ≡ first = cc is in
       let next = stepped shape m phase s old mid first r at (subst (λ (c : Call). Asked old c (Ok r) mid) one asked) in
-      bad (subst (λ (x : Reply). grade_of shape first x ≡ G.Good) next.looks (subst (λ (c : Call). grade_of shape c r ≡ G.Good) one (All-head (IsGood shape) (of f r) (exchanges front rs) good)))
+      bad (subst (λ (x : Reply). grade_of shape first x ≡ G.Good) next.looks (subst (λ (c : Call). grade_of shape c r ≡ G.Good) one (All-head (IsGood shape) (of f r) (exchanges prefix rs) good)))
   never_forbidden _ _ _ _ _ _ (Good phase q s z first left' told may good' more) [] left replies old new call is at len talks good forbidden =
       let one : first ≡ call = cc is in
       forbidden (subst (λ (v : View). Permitted shape v.phase call) (sym talks) (subst (λ (p : Phase). Permitted shape p call) (sym at.phase_is) (subst (λ (c : Call). Permitted shape phase c) one may)))
-  never_forbidden _ _ _ _ _ _ (Good phase q s z first left' told may good' more) (f ∷ front) left [] old new call is at len talks good forbidden = absurd (omega (arith, len))
-  never_forbidden _ _ _ _ _ _ (Good phase q s z first left' told may good' more) (f ∷ front) left (r ∷ rs) old new call is at len (mid, ok, asked, rest) good forbidden =
+  never_forbidden _ _ _ _ _ _ (Good phase q s z first left' told may good' more) (f ∷ prefix) left [] old new call is at len talks good forbidden = absurd (omega (arith, len))
+  never_forbidden _ _ _ _ _ _ (Good phase q s z first left' told may good' more) (f ∷ prefix) left (r ∷ rs) old new call is at len (mid, ok, asked, rest) good forbidden =
       let one : f ≡ first = cc is in
-      let tail : left' ≡ front ++ call ∷ left = cc is in
+      let tail : left' ≡ prefix ++ call ∷ left = cc is in
       let next = stepped shape m phase s old mid first r at (subst (λ (c : Call). Asked old c (Ok r) mid) one asked) in
-      never_forbidden _ _ _ _ _ _ more front left rs mid new call tail next.at (omega (arith, len)) rest (All-tail (IsGood shape) (of f r) (exchanges front rs) good) forbidden
+      never_forbidden _ _ _ _ _ _ more prefix left rs mid new call tail next.at (omega (arith, len)) rest (All-tail (IsGood shape) (of f r) (exchanges prefix rs) good) forbidden
 
 -- ---- the bytes
 
 frames_same : (one : Kind) (replies : List Reply) (bytes : List ℕ) → AreFrames IsReplyFrame kind_of_reply one replies bytes → bytes ≡ frames_of replies
 frames_same one [] bytes e = e
-frames_same one (r ∷ rs) bytes (front, rest, both, is, k, more) = both ∙ ap (λ (l : List ℕ). l ++ rest) is.spelled ∙ ap (λ (l : List ℕ). frame_of r ++ l) (frames_same one rs rest more)
+frames_same one (r ∷ rs) bytes (prefix, rest, both, is, k, more) = both ∙ ap (λ (l : List ℕ). l ++ rest) is.spelled ∙ ap (λ (l : List ℕ). frame_of r ++ l) (frames_same one rs rest more)
 
 -- a batch of replies is spelled in one way
 pub pieces_same : (replies : List Reply) (piece : List ℕ) → IsBatch IsReplyFrame kind_of_reply replies piece → piece ≡ batch_of replies

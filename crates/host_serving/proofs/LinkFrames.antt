@@ -8,7 +8,7 @@ use Rattle.link_frames.specs.Batch.{IsCallBatch, batch_head}
 use Rattle.link_frames.specs.Call.{IsCallFrame}
 use Rattle.exact_parts.specs.declared.taken.Taken.{Taken}
 use Rattle.exact_parts.specs.declared.taken.Taken.TheVariants.{Got, NeedMore, Bad}
-use Rattle.exact_parts.specs.Taking.{AreSingle, Breaks, Gets, IsFront}
+use Rattle.exact_parts.specs.Taking.{AreSingle, Breaks, Gets, IsPrefix}
 use Rattle.link_frames.specs.Head.{spelling}
 use Rattle.link_frames.proofs.CallerLemmas.{batch_begins, call_batches_apart, call_begins, call_single, calls_single, head_length, one_call_batch}
 use Rattle.host_serving.specs.Frames.{IsBatchOfCalls, IsLinkFrame}
@@ -30,11 +30,11 @@ some_taken (x ∷ xs) n some = (let one : n + 1 ≡ suc n = omega arith in subst
 
 -- ---- prefixes
 
-pub call_front : (bytes : List ℕ) → IsFront IsCallFrame bytes → IsFront IsLinkFrame bytes
-call_front bytes f = record { value = inl f.value; more = f.more; spelled = f.spelled; goes_on = f.goes_on }
+pub call_prefix : (bytes : List ℕ) → IsPrefix IsCallFrame bytes → IsPrefix IsLinkFrame bytes
+call_prefix bytes f = record { value = inl f.value; more = f.more; spelled = f.spelled; goes_on = f.goes_on }
 
-pub batch_front : (bytes : List ℕ) → IsFront IsCallBatch bytes → IsFront IsLinkFrame bytes
-batch_front bytes f = record { value = inr f.value; more = f.more; spelled = f.spelled; goes_on = f.goes_on }
+pub batch_prefix : (bytes : List ℕ) → IsPrefix IsCallBatch bytes → IsPrefix IsLinkFrame bytes
+batch_prefix bytes f = record { value = inr f.value; more = f.more; spelled = f.spelled; goes_on = f.goes_on }
 
 -- ---- breaks
 
@@ -44,7 +44,7 @@ call_breaks bytes at other b =
     let some : 0 < length bytes = omega (arith, b.within) in
     record {
       within = b.within;
-      front = call_front (take at bytes) b.front;
+      prefix = call_prefix (take at bytes) b.prefix;
       none = λ begins. by begins.value begins.more begins.spelled some;
     }
   where
@@ -59,7 +59,7 @@ batch_breaks bytes at batch b =
     let some : 0 < length bytes = omega (arith, b.within) in
     record {
       within = b.within;
-      front = batch_front (take at bytes) b.front;
+      prefix = batch_prefix (take at bytes) b.prefix;
       none = λ begins. by begins.value begins.more begins.spelled some;
     }
   where
@@ -102,8 +102,8 @@ pub got_item : (room : List ℕ) (i : ℕ) (f : CallFrame) → 24 * (i + 2) ≤ 
 got_item room i f within is =
     let size : 24 * (i + 1) + 24 - 24 * (i + 1) ≡ 24 = omega arith in
     let cut = length-take 24 (drop (24 * (i + 1)) room) in
-    let behind = length-drop (24 * (i + 1)) room in
-    let whole : 24 ≤ length (take 24 (drop (24 * (i + 1)) room)) = omega (arith, cut, behind, within) in
+    let after = length-drop (24 * (i + 1)) room in
+    let whole : 24 ≤ length (take 24 (drop (24 * (i + 1)) room)) = omega (arith, cut, after, within) in
     subst (λ (n : ℕ). Gets IsCallFrame (take n (drop (24 * (i + 1)) room)) f 24) (sym size)
     (record { within = whole; spelled = subst (IsCallFrame f) (sym (take-take 24 24 (drop (24 * (i + 1)) room) (omega arith))) is })
 

@@ -25,7 +25,7 @@ use Rattle.host_serving.specs.declared.serving.Next.TheVariants as N
 use Rattle.host_serving.specs.declared.serving.ServeEnd.{ServeEnd}
 use Rattle.host_serving.specs.declared.serving.ServeEnd.TheVariants as E
 use Rattle.host_serving.specs.Frames.{EndsBefore, IsBatchOfCalls, Takes, TakesBatch, TakesCall, TakesWhole, bytes_after}
-use Rattle.host_serving.specs.Serving.{BreaksItems, EndsBehind, EndsBy, IsAnswered, IsAsked, IsCounted, IsGiven, IsPut, IsStill, OfBatch, OfInput, OfItem, OfOutput, OfReply, PutFails, PutsReply, Scene, Served, ServesOne, Single, Steps, TakesCalls, Together, Untold, as_sent, served_of, with_state}
+use Rattle.host_serving.specs.Serving.{BreaksItems, EndsAfter, EndsBy, IsAnswered, IsAsked, IsCounted, IsGiven, IsPut, IsStill, OfBatch, OfInput, OfItem, OfOutput, OfReply, PutFails, PutsReply, Scene, Served, ServesOne, Single, Steps, TakesCalls, Together, Untold, as_sent, served_of, with_state}
 use Rattle.host_serving.proofs.FrameLemmas.{takes_none}
 
 pub put_rose : (old new : SinkView) (piece : List ℕ) → new ≡ with_fault old piece → Rose old.faults new.faults
@@ -41,9 +41,9 @@ said_yes said shape s phase p call told is shape_is phase_is =
     subst (λ (x : Phase). Permitted shape x call) phase_is (subst (λ (x : Shape). Permitted x p call) shape_is (told.0 is))
 
 -- a call that was served, and what it ends
-pub behind_call : (old new : Scene) (served : Served) (next : Next) → ServesOne old new served → EndsBehind served.call next → Steps old new next
-behind_call old new served (N.Served count) serves (one, unfreed) = (served ∷ [], one, omega (arith, one), Single served serves unfreed)
-behind_call old new served (N.Ends end) serves (is, freed) =
+pub after_call : (old new : Scene) (served : Served) (next : Next) → ServesOne old new served → EndsAfter served.call next → Steps old new next
+after_call old new served (N.Served count) serves (one, unfreed) = (served ∷ [], one, omega (arith, one), Single served serves unfreed)
+after_call old new served (N.Ends end) serves (is, freed) =
     subst (λ e. (e ≢ E.TooMany) × EndsBy old new e) (sym is) ((λ (wrong : E.Freed ≡ E.TooMany). cc), (served, serves, freed))
 
 -- ---- a call with the bytes that follow it
@@ -122,7 +122,7 @@ state_rose old mid new frame state (Err fault) is (n, e) =
 
 -- what became of its reply
 pub answer_put : (old new : Scene) (served : Served) (next : Next) → IsAnswered old new served → PutsReply old.output new.output served.call served.reply served.given next → Steps old new next
-answer_put old new served _ a (IsPut piece next spelled put ends) = behind_call old new served next (record { answered = a; piece = piece; spelled = spelled; put = put }) ends
+answer_put old new served _ a (IsPut piece next spelled put ends) = after_call old new served next (record { answered = a; piece = piece; spelled = spelled; put = put }) ends
 answer_put old new served _ a (PutFails rose) = ((λ (wrong : E.Failed ≡ E.TooMany). cc), OfOutput served a rose)
 answer_put old new served _ a (Untold cannot still) = ((λ (wrong : E.Failed ≡ E.TooMany). cc), OfReply served a cannot still)
 
@@ -151,7 +151,7 @@ answered_alone old new calls places n within a =
     subst (λ (k : ℕ). AnsweredFirst old calls (take n places) k new) (sym (length-take-le n places within)) (record {
       within = a.within;
       talks = subst (λ (rs : List Reply). Talks old (exchanges (take n calls) rs) new) (sym again) a.talks;
-      front = a.front;
+      prefix = a.prefix;
       last = a.last;
       is = ap (exchanges (take n calls)) again ∙ a.is;
       good = a.good;
@@ -159,9 +159,9 @@ answered_alone old new calls places n within a =
     })
 
 -- a batch of replies that was put
-pub behind_batch : (old new : Scene) (calls : List Call) (places : List Reply) (n : ℕ) (piece : List ℕ) → TakesCalls old new calls → n ≤ length places → AnsweredFirst old.machine calls places n new.machine →
+pub after_batch : (old new : Scene) (calls : List Call) (places : List Reply) (n : ℕ) (piece : List ℕ) → TakesCalls old new calls → n ≤ length places → AnsweredFirst old.machine calls places n new.machine →
     IsBatch IsReplyFrame kind_of_reply (take n places) piece → new.output ≡ with_piece old.output piece → Steps old new (N.Served n)
-behind_batch old new calls places n piece read within a spelled put =
+after_batch old new calls places n piece read within a spelled put =
     let size = length-take-le n places within in
     let some = spelled.some in
     let few = a.within in

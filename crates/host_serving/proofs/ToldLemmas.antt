@@ -14,13 +14,13 @@ use Rattle.fmi_calls.specs.declared.call.Content.TheVariants as A
 use Rattle.fmi_calls.specs.declared.call.Reply.{Reply}
 use Rattle.fmi_calls.specs.declared.call.Reply.TheVariants as R
 use Rattle.fmi_calls.specs.declared.phase.Phase.{Phase}
-use Rattle.exact_parts.specs.Taking.{Begins, Breaks, Gets, IsFront}
+use Rattle.exact_parts.specs.Taking.{Begins, Breaks, Gets, IsPrefix}
 use Rattle.link_frames.specs.declared.call.CallFrame.{CallFrame}
 use Rattle.exact_parts.specs.declared.taken.Taken.{Taken}
 use Rattle.exact_parts.specs.declared.taken.Taken.TheVariants.{Got, NeedMore, Bad}
 use Rattle.exact_parts.proofs.CallerLemmas.{only_one}
 use Rattle.link_frames.specs.Reply.{frame_of}
-use Rattle.fmu_peer.specs.Machine.{Machine, MachineState, after, bytes_behind}
+use Rattle.fmu_peer.specs.Machine.{Machine, MachineState, after, bytes_after_reply}
 use Rattle.fmu_peer.specs.Many.{exchanges}
 use Rattle.fmu_peer.specs.View.{ArePacked, IsFollowedBy, View}
 use Rattle.host_serving.specs.declared.serving.ServeEnd.{ServeEnd}
@@ -39,11 +39,11 @@ abbrev Link : Type 0
 Link = CallFrame ⊎ ℕ
 
 -- a frame at the start of bytes is what is taken from them
-gets_front : (frame : Link) (front rest bytes : List ℕ) → IsLinkFrame frame front → bytes ≡ front ++ rest → Gets IsLinkFrame bytes frame (length front)
-gets_front frame front rest bytes spelled both =
-    let whole = ap length both ∙ length-append front rest in
-    let is : take (length front) bytes ≡ front =
-    ap (take (length front)) both ∙ take-append-le (length front) front rest (omega arith) ∙ take_all (length front) front (omega arith) in
+gets_prefix : (frame : Link) (prefix rest bytes : List ℕ) → IsLinkFrame frame prefix → bytes ≡ prefix ++ rest → Gets IsLinkFrame bytes frame (length prefix)
+gets_prefix frame prefix rest bytes spelled both =
+    let whole = ap length both ∙ length-append prefix rest in
+    let is : take (length prefix) bytes ≡ prefix =
+    ap (take (length prefix)) both ∙ take-append-le (length prefix) prefix rest (omega arith) ∙ take_all (length prefix) prefix (omega arith) in
     record { within = omega (arith, whole); spelled = subst (IsLinkFrame frame) (sym is) spelled }
 
 got_value : (a b : Link) (m n : ℕ) → ◌≡◌ {A = Taken Link} (Got a m) (Got b n) → a ≡ b
@@ -56,49 +56,49 @@ bad_place : (a b : ℕ) → ◌≡◌ {A = Taken Link} (Bad a) (Bad b) → a ≡
 bad_place a b e = cc
 
 -- what follows a prefix
-behind : (front rest bytes : List ℕ) → bytes ≡ front ++ rest → drop (length front) bytes ≡ rest
-behind front rest bytes both = ap (drop (length front)) both ∙ drop-append_seam front rest
+later : (prefix rest bytes : List ℕ) → bytes ≡ prefix ++ rest → drop (length prefix) bytes ≡ rest
+later prefix rest bytes both = ap (drop (length prefix)) both ∙ drop-append_seam prefix rest
 
 -- a prefix of so many bytes
-ahead : (front rest bytes : List ℕ) → bytes ≡ front ++ rest → take (length front) bytes ≡ front
-ahead front rest bytes both = ap (take (length front)) both ∙ take-append-le (length front) front rest (omega arith) ∙ take_all (length front) front (omega arith)
+ahead : (prefix rest bytes : List ℕ) → bytes ≡ prefix ++ rest → take (length prefix) bytes ≡ prefix
+ahead prefix rest bytes both = ap (take (length prefix)) both ∙ take-append-le (length prefix) prefix rest (omega arith) ∙ take_all (length prefix) prefix (omega arith)
 
-record SameFront (a b : Link) (xs ys u v : List ℕ) : Type 0 where
+record SamePrefix (a b : Link) (xs ys u v : List ℕ) : Type 0 where
   value : a ≡ b
-  front : xs ≡ ys
+  prefix : xs ≡ ys
   rest : u ≡ v
 
 -- bytes begin with one frame at most
-same_front : (a b : Link) (xs ys u v bytes : List ℕ) → IsLinkFrame a xs → IsLinkFrame b ys → bytes ≡ xs ++ u → bytes ≡ ys ++ v → SameFront a b xs ys u v
-same_front a b xs ys u v bytes is_a is_b first second =
-    let one = only_one IsLinkFrame link_single bytes (Got a (length xs)) (Got b (length ys)) (gets_front a xs u bytes is_a first) (gets_front b ys v bytes is_b second) in
+same_prefix : (a b : Link) (xs ys u v bytes : List ℕ) → IsLinkFrame a xs → IsLinkFrame b ys → bytes ≡ xs ++ u → bytes ≡ ys ++ v → SamePrefix a b xs ys u v
+same_prefix a b xs ys u v bytes is_a is_b first second =
+    let one = only_one IsLinkFrame link_single bytes (Got a (length xs)) (Got b (length ys)) (gets_prefix a xs u bytes is_a first) (gets_prefix b ys v bytes is_b second) in
     let long = got_size a b (length xs) (length ys) one in
     record {
       value = got_value a b (length xs) (length ys) one;
-      front = sym (ahead xs u bytes first) ∙ ap (λ (n : ℕ). take n bytes) long ∙ ahead ys v bytes second;
-      rest = sym (behind xs u bytes first) ∙ ap (λ (n : ℕ). drop n bytes) long ∙ behind ys v bytes second;
+      prefix = sym (ahead xs u bytes first) ∙ ap (λ (n : ℕ). take n bytes) long ∙ ahead ys v bytes second;
+      rest = sym (later xs u bytes first) ∙ ap (λ (n : ℕ). drop n bytes) long ∙ later ys v bytes second;
     }
 
 -- where a frame begins, no byte breaks one, and the bytes don't end inside one
-no_break : (frame : Link) (front rest bytes : List ℕ) (at : ℕ) → IsLinkFrame frame front → bytes ≡ front ++ rest → Breaks IsLinkFrame bytes at → ⊥
-no_break frame front rest bytes at spelled both breaks =
-    let one = only_one IsLinkFrame link_single bytes (Got frame (length front)) (Bad at) (gets_front frame front rest bytes spelled both) breaks in cc
+no_break : (frame : Link) (prefix rest bytes : List ℕ) (at : ℕ) → IsLinkFrame frame prefix → bytes ≡ prefix ++ rest → Breaks IsLinkFrame bytes at → ⊥
+no_break frame prefix rest bytes at spelled both breaks =
+    let one = only_one IsLinkFrame link_single bytes (Got frame (length prefix)) (Bad at) (gets_prefix frame prefix rest bytes spelled both) breaks in cc
 
-no_cut : (frame : Link) (front rest bytes : List ℕ) → IsLinkFrame frame front → bytes ≡ front ++ rest → IsFront IsLinkFrame bytes → ⊥
-no_cut frame front rest bytes spelled both cut =
-    let one = only_one IsLinkFrame link_single bytes (Got frame (length front)) NeedMore (gets_front frame front rest bytes spelled both) cut in cc
+no_cut : (frame : Link) (prefix rest bytes : List ℕ) → IsLinkFrame frame prefix → bytes ≡ prefix ++ rest → IsPrefix IsLinkFrame bytes → ⊥
+no_cut frame prefix rest bytes spelled both cut =
+    let one = only_one IsLinkFrame link_single bytes (Got frame (length prefix)) NeedMore (gets_prefix frame prefix rest bytes spelled both) cut in cc
 
-no_both : (bytes : List ℕ) (at : ℕ) → Breaks IsLinkFrame bytes at → IsFront IsLinkFrame bytes → ⊥
+no_both : (bytes : List ℕ) (at : ℕ) → Breaks IsLinkFrame bytes at → IsPrefix IsLinkFrame bytes → ⊥
 no_both bytes at breaks cut = let one = only_one IsLinkFrame link_single bytes (Bad at) NeedMore breaks cut in cc
 
 same_place : (bytes : List ℕ) (a b : ℕ) → Breaks IsLinkFrame bytes a → Breaks IsLinkFrame bytes b → a ≡ b
 same_place bytes a b first second = bad_place a b (only_one IsLinkFrame link_single bytes (Bad a) (Bad b) first second)
 
 -- no frame begins where no byte is
-no_bytes : (frame : Link) (front rest : List ℕ) → IsLinkFrame frame front → [] ≡ front ++ rest → ⊥
-no_bytes frame front rest spelled both =
-    let long = link_long frame front spelled in
-    let whole = ap length both ∙ length-append front rest in
+no_bytes : (frame : Link) (prefix rest : List ℕ) → IsLinkFrame frame prefix → [] ≡ prefix ++ rest → ⊥
+no_bytes frame prefix rest spelled both =
+    let long = link_long frame prefix spelled in
+    let whole = ap length both ∙ length-append prefix rest in
     omega (arith, long, whole)
 
 -- ---- what was taken of told bytes
@@ -128,7 +128,7 @@ breaks_more taken rest bytes at both breaks =
     let same : (n : ℕ) → n ≤ length taken → take n bytes ≡ take n taken = λ n few. ap (take n) both ∙ take-append-le n taken rest few in
     record {
       within = omega (arith, whole, breaks.within);
-      front = subst (IsFront IsLinkFrame) (sym (same at (omega (arith, breaks.within)))) breaks.front;
+      prefix = subst (IsPrefix IsLinkFrame) (sym (same at (omega (arith, breaks.within)))) breaks.prefix;
       none = λ begins. breaks.none (subst (Begins IsLinkFrame) (same (at + 1) (omega (arith, breaks.within))) begins);
     }
 
@@ -158,8 +158,8 @@ record IsOver (pieces : List (List ℕ)) (end other : ServeEnd) : Type 0 where
 abbrev call_link : CallFrame → Link
 call_link f = inl f
 
-batch_starts : (bytes : List ℕ) (calls : List Call) (rest : List ℕ) (starts : StartsWithBatch bytes calls rest) → IsLinkFrame (inr (length starts.batch.frames)) starts.front
-batch_starts bytes calls rest starts = batch_link calls starts.front starts.batch
+batch_starts : (bytes : List ℕ) (calls : List Call) (rest : List ℕ) (starts : StartsWithBatch bytes calls rest) → IsLinkFrame (inr (length starts.batch.frames)) starts.prefix
+batch_starts bytes calls rest starts = batch_link calls starts.prefix starts.batch
 
 -- a frame of a call is no batch
 never : (f : CallFrame) (n : ℕ) → ◌≡◌ {A = Link} (inl f) (inr n) → ⊥
@@ -182,26 +182,26 @@ module _ (shape : Shape) (m : Machine) where
   -- two calls that the same bytes begin with
   both_calls : (bytes : List ℕ) (call call' : Call) (rest rest' : List ℕ) (a : StartsWith bytes call rest) (b : StartsWith bytes call' rest') → (call ≡ call') × (rest ≡ rest')
   both_calls bytes call call' rest rest' a b =
-      let same = same_front (inl a.frame) (inl b.frame) a.front b.front rest rest' bytes a.spelled b.spelled a.both b.both in
+      let same = same_prefix (inl a.frame) (inl b.frame) a.prefix b.prefix rest rest' bytes a.spelled b.spelled a.both b.both in
       (sym a.is ∙ ap (λ (f : CallFrame). f.call) (same_call a.frame b.frame same.value) ∙ b.is, same.rest)
 
   -- two batches
   both_batches : (bytes : List ℕ) (calls calls' : List Call) (rest rest' : List ℕ) (a : StartsWithBatch bytes calls rest) (b : StartsWithBatch bytes calls' rest') → (calls ≡ calls') × (rest ≡ rest')
   both_batches bytes calls calls' rest rest' a b =
-      let same = same_front (inr (length a.batch.frames)) (inr (length b.batch.frames)) a.front b.front rest rest' bytes (batch_starts bytes calls rest a) (batch_starts bytes calls' rest' b) a.both b.both in
-      (same_calls calls calls' b.front (subst (IsBatchOfCalls calls) same.front a.batch) b.batch, same.rest)
+      let same = same_prefix (inr (length a.batch.frames)) (inr (length b.batch.frames)) a.prefix b.prefix rest rest' bytes (batch_starts bytes calls rest a) (batch_starts bytes calls' rest' b) a.both b.both in
+      (same_calls calls calls' b.prefix (subst (IsBatchOfCalls calls) same.prefix a.batch) b.batch, same.rest)
 
   -- not one of each
   not_both : (bytes : List ℕ) (call : Call) (calls : List Call) (rest rest' : List ℕ) → StartsWith bytes call rest → StartsWithBatch bytes calls rest' → ⊥
   not_both bytes call calls rest rest' a b =
-      let same = same_front (inl a.frame) (inr (length b.batch.frames)) a.front b.front rest rest' bytes a.spelled (batch_starts bytes calls rest' b) a.both b.both in
+      let same = same_prefix (inl a.frame) (inr (length b.batch.frames)) a.prefix b.prefix rest rest' bytes a.spelled (batch_starts bytes calls rest' b) a.both b.both in
       never a.frame (length b.batch.frames) same.value
 
   at_call : (phase : Phase) (s : MachineState) (bytes : List ℕ) (pieces : List (List ℕ)) (count : ℕ) (end : ServeEnd) → Comes shape m phase s bytes pieces count end →
       (call : Call) (rest : List ℕ) → StartsWith bytes call rest → AtCall shape m phase s call rest pieces count end
-  at_call _ _ _ _ _ _ (Over phase s) call rest starts = absurd (no_bytes (inl starts.frame) starts.front rest starts.spelled starts.both)
-  at_call _ _ _ _ _ _ (NoFrame phase s bytes at breaks) call rest starts = absurd (no_break (inl starts.frame) starts.front rest bytes at starts.spelled starts.both breaks)
-  at_call _ _ _ _ _ _ (CutFrame phase s bytes some cut) call rest starts = absurd (no_cut (inl starts.frame) starts.front rest bytes starts.spelled starts.both cut)
+  at_call _ _ _ _ _ _ (Over phase s) call rest starts = absurd (no_bytes (inl starts.frame) starts.prefix rest starts.spelled starts.both)
+  at_call _ _ _ _ _ _ (NoFrame phase s bytes at breaks) call rest starts = absurd (no_break (inl starts.frame) starts.prefix rest bytes at starts.spelled starts.both breaks)
+  at_call _ _ _ _ _ _ (CutFrame phase s bytes some cut) call rest starts = absurd (no_cut (inl starts.frame) starts.prefix rest bytes starts.spelled starts.both cut)
   at_call _ _ _ _ _ _ (Forbidden phase s bytes rest' call' starts' cannot) call rest starts =
       let same = both_calls bytes call' call rest' rest starts' starts in
       moved phase s call' call rest' rest [] 0 (E.NotPermitted call') same.0 same.1 (Refuses cannot)
@@ -219,9 +219,9 @@ module _ (shape : Shape) (m : Machine) where
 
   at_batch : (phase : Phase) (s : MachineState) (bytes : List ℕ) (pieces : List (List ℕ)) (count : ℕ) (end : ServeEnd) → Comes shape m phase s bytes pieces count end →
       (calls : List Call) (rest : List ℕ) → StartsWithBatch bytes calls rest → AtBatch shape m phase s calls rest pieces count end
-  at_batch _ _ _ _ _ _ (Over phase s) calls rest starts = absurd (no_bytes (inr (length starts.batch.frames)) starts.front rest (batch_starts [] calls rest starts) starts.both)
-  at_batch _ _ _ _ _ _ (NoFrame phase s bytes at breaks) calls rest starts = absurd (no_break (inr (length starts.batch.frames)) starts.front rest bytes at (batch_starts bytes calls rest starts) starts.both breaks)
-  at_batch _ _ _ _ _ _ (CutFrame phase s bytes some cut) calls rest starts = absurd (no_cut (inr (length starts.batch.frames)) starts.front rest bytes (batch_starts bytes calls rest starts) starts.both cut)
+  at_batch _ _ _ _ _ _ (Over phase s) calls rest starts = absurd (no_bytes (inr (length starts.batch.frames)) starts.prefix rest (batch_starts [] calls rest starts) starts.both)
+  at_batch _ _ _ _ _ _ (NoFrame phase s bytes at breaks) calls rest starts = absurd (no_break (inr (length starts.batch.frames)) starts.prefix rest bytes at (batch_starts bytes calls rest starts) starts.both breaks)
+  at_batch _ _ _ _ _ _ (CutFrame phase s bytes some cut) calls rest starts = absurd (no_cut (inr (length starts.batch.frames)) starts.prefix rest bytes (batch_starts bytes calls rest starts) starts.both cut)
   at_batch _ _ _ _ _ _ (Forbidden phase s bytes rest' call' starts' cannot) calls rest starts = absurd (not_both bytes call' calls rest' rest starts' starts)
   at_batch _ _ _ _ _ _ (ForbiddenItem phase s bytes rest' calls' call' starts' forbidden) calls rest starts =
       let same = both_batches bytes calls' calls rest' rest starts' starts in
@@ -237,36 +237,36 @@ module _ (shape : Shape) (m : Machine) where
   at_end _ _ _ _ _ _ (Over phase s) empty = record { none = refl; is = refl }
   at_end _ _ _ _ _ _ (NoFrame phase s bytes at breaks) empty = let long = ap length empty in absurd (omega (arith, long, breaks.within))
   at_end _ _ _ _ _ _ (CutFrame phase s bytes some cut) empty = let long = ap length empty in absurd (omega (arith, long, some))
-  at_end _ _ _ _ _ _ (Forbidden phase s bytes rest call starts cannot) empty = absurd (no_bytes (inl starts.frame) starts.front rest starts.spelled (sym empty ∙ starts.both))
-  at_end _ _ _ _ _ _ (ForbiddenItem phase s bytes rest calls call starts forbidden) empty = absurd (no_bytes (inr (length starts.batch.frames)) starts.front rest (batch_starts bytes calls rest starts) (sym empty ∙ starts.both))
-  at_end _ _ _ _ _ _ (Last phase s bytes rest call starts may frees) empty = absurd (no_bytes (inl starts.frame) starts.front rest starts.spelled (sym empty ∙ starts.both))
-  at_end _ _ _ _ _ _ (CutState phase s bytes rest call starts may short) empty = absurd (no_bytes (inl starts.frame) starts.front rest starts.spelled (sym empty ∙ starts.both))
-  at_end _ _ _ _ _ _ (Next phase s bytes rest call taken given more pieces count end starts may unfreed parts whole gives comes) empty = absurd (no_bytes (inl starts.frame) starts.front rest starts.spelled (sym empty ∙ starts.both))
-  at_end _ _ _ _ _ _ (NextBatch phase q s z bytes rest calls replies pieces count end starts items comes) empty = absurd (no_bytes (inr (length starts.batch.frames)) starts.front rest (batch_starts bytes calls rest starts) (sym empty ∙ starts.both))
+  at_end _ _ _ _ _ _ (Forbidden phase s bytes rest call starts cannot) empty = absurd (no_bytes (inl starts.frame) starts.prefix rest starts.spelled (sym empty ∙ starts.both))
+  at_end _ _ _ _ _ _ (ForbiddenItem phase s bytes rest calls call starts forbidden) empty = absurd (no_bytes (inr (length starts.batch.frames)) starts.prefix rest (batch_starts bytes calls rest starts) (sym empty ∙ starts.both))
+  at_end _ _ _ _ _ _ (Last phase s bytes rest call starts may frees) empty = absurd (no_bytes (inl starts.frame) starts.prefix rest starts.spelled (sym empty ∙ starts.both))
+  at_end _ _ _ _ _ _ (CutState phase s bytes rest call starts may short) empty = absurd (no_bytes (inl starts.frame) starts.prefix rest starts.spelled (sym empty ∙ starts.both))
+  at_end _ _ _ _ _ _ (Next phase s bytes rest call taken given more pieces count end starts may unfreed parts whole gives comes) empty = absurd (no_bytes (inl starts.frame) starts.prefix rest starts.spelled (sym empty ∙ starts.both))
+  at_end _ _ _ _ _ _ (NextBatch phase q s z bytes rest calls replies pieces count end starts items comes) empty = absurd (no_bytes (inr (length starts.batch.frames)) starts.prefix rest (batch_starts bytes calls rest starts) (sym empty ∙ starts.both))
 
   at_break : (phase : Phase) (s : MachineState) (bytes : List ℕ) (pieces : List (List ℕ)) (count : ℕ) (end : ServeEnd) → Comes shape m phase s bytes pieces count end →
       (place : ℕ) → Breaks IsLinkFrame bytes place → IsOver pieces end (E.BadFrame place)
   at_break _ _ _ _ _ _ (Over phase s) place breaks = absurd (omega (arith, breaks.within))
   at_break _ _ _ _ _ _ (NoFrame phase s bytes at breaks') place breaks = record { none = refl; is = ap (λ (n : ℕ). E.BadFrame n) (same_place bytes at place breaks' breaks) }
   at_break _ _ _ _ _ _ (CutFrame phase s bytes some cut) place breaks = absurd (no_both bytes place breaks cut)
-  at_break _ _ _ _ _ _ (Forbidden phase s bytes rest call starts cannot) place breaks = absurd (no_break (inl starts.frame) starts.front rest bytes place starts.spelled starts.both breaks)
-  at_break _ _ _ _ _ _ (ForbiddenItem phase s bytes rest calls call starts forbidden) place breaks = absurd (no_break (inr (length starts.batch.frames)) starts.front rest bytes place (batch_starts bytes calls rest starts) starts.both breaks)
-  at_break _ _ _ _ _ _ (Last phase s bytes rest call starts may frees) place breaks = absurd (no_break (inl starts.frame) starts.front rest bytes place starts.spelled starts.both breaks)
-  at_break _ _ _ _ _ _ (CutState phase s bytes rest call starts may short) place breaks = absurd (no_break (inl starts.frame) starts.front rest bytes place starts.spelled starts.both breaks)
-  at_break _ _ _ _ _ _ (Next phase s bytes rest call taken given more pieces count end starts may unfreed parts whole gives comes) place breaks = absurd (no_break (inl starts.frame) starts.front rest bytes place starts.spelled starts.both breaks)
-  at_break _ _ _ _ _ _ (NextBatch phase q s z bytes rest calls replies pieces count end starts items comes) place breaks = absurd (no_break (inr (length starts.batch.frames)) starts.front rest bytes place (batch_starts bytes calls rest starts) starts.both breaks)
+  at_break _ _ _ _ _ _ (Forbidden phase s bytes rest call starts cannot) place breaks = absurd (no_break (inl starts.frame) starts.prefix rest bytes place starts.spelled starts.both breaks)
+  at_break _ _ _ _ _ _ (ForbiddenItem phase s bytes rest calls call starts forbidden) place breaks = absurd (no_break (inr (length starts.batch.frames)) starts.prefix rest bytes place (batch_starts bytes calls rest starts) starts.both breaks)
+  at_break _ _ _ _ _ _ (Last phase s bytes rest call starts may frees) place breaks = absurd (no_break (inl starts.frame) starts.prefix rest bytes place starts.spelled starts.both breaks)
+  at_break _ _ _ _ _ _ (CutState phase s bytes rest call starts may short) place breaks = absurd (no_break (inl starts.frame) starts.prefix rest bytes place starts.spelled starts.both breaks)
+  at_break _ _ _ _ _ _ (Next phase s bytes rest call taken given more pieces count end starts may unfreed parts whole gives comes) place breaks = absurd (no_break (inl starts.frame) starts.prefix rest bytes place starts.spelled starts.both breaks)
+  at_break _ _ _ _ _ _ (NextBatch phase q s z bytes rest calls replies pieces count end starts items comes) place breaks = absurd (no_break (inr (length starts.batch.frames)) starts.prefix rest bytes place (batch_starts bytes calls rest starts) starts.both breaks)
 
   at_cut : (phase : Phase) (s : MachineState) (bytes : List ℕ) (pieces : List (List ℕ)) (count : ℕ) (end : ServeEnd) → Comes shape m phase s bytes pieces count end →
-      0 < length bytes → IsFront IsLinkFrame bytes → IsOver pieces end (E.BadFrame (length bytes))
+      0 < length bytes → IsPrefix IsLinkFrame bytes → IsOver pieces end (E.BadFrame (length bytes))
   at_cut _ _ _ _ _ _ (Over phase s) some cut = absurd (omega (arith, some))
   at_cut _ _ _ _ _ _ (NoFrame phase s bytes at breaks) some cut = absurd (no_both bytes at breaks cut)
   at_cut _ _ _ _ _ _ (CutFrame phase s bytes some' cut') some cut = record { none = refl; is = refl }
-  at_cut _ _ _ _ _ _ (Forbidden phase s bytes rest call starts cannot) some cut = absurd (no_cut (inl starts.frame) starts.front rest bytes starts.spelled starts.both cut)
-  at_cut _ _ _ _ _ _ (ForbiddenItem phase s bytes rest calls call starts forbidden) some cut = absurd (no_cut (inr (length starts.batch.frames)) starts.front rest bytes (batch_starts bytes calls rest starts) starts.both cut)
-  at_cut _ _ _ _ _ _ (Last phase s bytes rest call starts may frees) some cut = absurd (no_cut (inl starts.frame) starts.front rest bytes starts.spelled starts.both cut)
-  at_cut _ _ _ _ _ _ (CutState phase s bytes rest call starts may short) some cut = absurd (no_cut (inl starts.frame) starts.front rest bytes starts.spelled starts.both cut)
-  at_cut _ _ _ _ _ _ (Next phase s bytes rest call taken given more pieces count end starts may unfreed parts whole gives comes) some cut = absurd (no_cut (inl starts.frame) starts.front rest bytes starts.spelled starts.both cut)
-  at_cut _ _ _ _ _ _ (NextBatch phase q s z bytes rest calls replies pieces count end starts items comes) some cut = absurd (no_cut (inr (length starts.batch.frames)) starts.front rest bytes (batch_starts bytes calls rest starts) starts.both cut)
+  at_cut _ _ _ _ _ _ (Forbidden phase s bytes rest call starts cannot) some cut = absurd (no_cut (inl starts.frame) starts.prefix rest bytes starts.spelled starts.both cut)
+  at_cut _ _ _ _ _ _ (ForbiddenItem phase s bytes rest calls call starts forbidden) some cut = absurd (no_cut (inr (length starts.batch.frames)) starts.prefix rest bytes (batch_starts bytes calls rest starts) starts.both cut)
+  at_cut _ _ _ _ _ _ (Last phase s bytes rest call starts may frees) some cut = absurd (no_cut (inl starts.frame) starts.prefix rest bytes starts.spelled starts.both cut)
+  at_cut _ _ _ _ _ _ (CutState phase s bytes rest call starts may short) some cut = absurd (no_cut (inl starts.frame) starts.prefix rest bytes starts.spelled starts.both cut)
+  at_cut _ _ _ _ _ _ (Next phase s bytes rest call taken given more pieces count end starts may unfreed parts whole gives comes) some cut = absurd (no_cut (inl starts.frame) starts.prefix rest bytes starts.spelled starts.both cut)
+  at_cut _ _ _ _ _ _ (NextBatch phase q s z bytes rest calls replies pieces count end starts items comes) some cut = absurd (no_cut (inr (length starts.batch.frames)) starts.prefix rest bytes (batch_starts bytes calls rest starts) starts.both cut)
 
 -- ---- one frame that was served
 
@@ -274,13 +274,13 @@ module _ (shape : Shape) (m : Machine) where
 starts : (old : Scene) (new : SourceView) (pieces : List (List ℕ)) (count : ℕ) (end : ServeEnd) (tells : Tells old pieces count end) (call : Call) (read : TakesCall old.input new call) →
     StartsWith tells.bytes call (left_of old.input.left new.left tells.bytes read.bytes tells.has read.takes.taken).rest
 starts old new pieces count end tells call read =
-    record { frame = read.frame; front = read.bytes; spelled = read.spelled; is = read.is; both = (left_of old.input.left new.left tells.bytes read.bytes tells.has read.takes.taken).both }
+    record { frame = read.frame; prefix = read.bytes; spelled = read.spelled; is = read.is; both = (left_of old.input.left new.left tells.bytes read.bytes tells.has read.takes.taken).both }
 
 -- and so do the calls of a batch
 starts_many : (old new : Scene) (pieces : List (List ℕ)) (count : ℕ) (end : ServeEnd) (tells : Tells old pieces count end) (calls : List Call) (read : TakesCalls old new calls) →
     StartsWithBatch tells.bytes calls (left_of old.input.left new.input.left tells.bytes read.bytes tells.has read.takes.taken).rest
 starts_many old new pieces count end tells calls read =
-    record { front = read.bytes; batch = read.batch; both = (left_of old.input.left new.input.left tells.bytes read.bytes tells.has read.takes.taken).both }
+    record { prefix = read.bytes; batch = read.batch; both = (left_of old.input.left new.input.left tells.bytes read.bytes tells.has read.takes.taken).both }
 
 -- the FMU stands where it is told
 stands : (old : Scene) (pieces : List (List ℕ)) (count : ℕ) (end : ServeEnd) (tells : Tells old pieces count end) → StandsAt old.machine.fixed.shape tells.machine old.machine.phase tells.state old.machine
@@ -296,14 +296,14 @@ record Further (old new : Scene) (many : ℕ) (pieces : List (List ℕ)) (count 
 -- ---- a call with the bytes that follow it
 
 record SameParts (xs ys u v : List ℕ) : Type 0 where
-  front : xs ≡ ys
+  prefix : xs ≡ ys
   rest : u ≡ v
 
 -- what is parted at one place is parted in one way
 same_parts : (xs ys u v bytes : List ℕ) → bytes ≡ xs ++ u → bytes ≡ ys ++ v → length xs ≡ length ys → SameParts xs ys u v
 same_parts xs ys u v bytes first second long = record {
-  front = sym (ahead xs u bytes first) ∙ ap (λ (n : ℕ). take n bytes) long ∙ ahead ys v bytes second;
-  rest = sym (behind xs u bytes first) ∙ ap (λ (n : ℕ). drop n bytes) long ∙ behind ys v bytes second;
+  prefix = sym (ahead xs u bytes first) ∙ ap (λ (n : ℕ). take n bytes) long ∙ ahead ys v bytes second;
+  rest = sym (later xs u bytes first) ∙ ap (λ (n : ℕ). drop n bytes) long ∙ later ys v bytes second;
 }
 
 -- what the machine answers to it
@@ -317,7 +317,7 @@ record Heard (m : Machine) (s : MachineState) (call : Call) (taken : List ℕ) (
 -- the bytes that follow the reply to a Serialize are those of the state in the slot
 packed : (m : Machine) (s : MachineState) (old : View) (reply : Reply) (given : List ℕ) → old.fixed.machine ≡ Some m → old.state ≡ Some s → reply ≡ m.look s C.Serialize → IsFollowedBy old reply given → Gives m s C.Serialize given
 packed m s old reply given is_machine in_state looks h = (
-  h.count ∙ ap bytes_behind looks,
+  h.count ∙ ap bytes_after_reply looks,
   subst (λ (r : Reply). ArePacked (Some m) (Some s) r given) looks
       (subst (λ (b : Option MachineState). ArePacked (Some m) b reply given) in_state
       (subst (λ (a : Option Machine). ArePacked a old.state reply given) is_machine h.packed)),
@@ -343,7 +343,7 @@ no_length [] e = refl
 no_length (x ∷ xs) e = absurd (omega (arith, e))
 
 -- so they are told once
-given_once : (m : Machine) (s : MachineState) (reply : Reply) (a b : List ℕ) → length a ≡ bytes_behind reply → ArePacked (Some m) (Some s) reply a → length b ≡ bytes_behind reply → ArePacked (Some m) (Some s) reply b → a ≡ b
+given_once : (m : Machine) (s : MachineState) (reply : Reply) (a b : List ℕ) → length a ≡ bytes_after_reply reply → ArePacked (Some m) (Some s) reply a → length b ≡ bytes_after_reply reply → ArePacked (Some m) (Some s) reply b → a ≡ b
 given_once m s (R.Done is_warning (A.Serialize count)) a b long p other q = some_same a b (sym p ∙ q)
 given_once m s reply a b long p other q = no_length a long ∙ sym (no_length b other)
 
@@ -414,8 +414,8 @@ further_one old new served pieces count end one unfreed tells = by_call pieces c
     by_call _ _ _ (Cuts may short) = absurd (not_cut old new _ _ _ tells call served.taken read short)
     by_call _ _ _ (Goes taken given more rest many end may unfreed' parts whole gives comes) =
         let same = same_parts taken served.taken more left.rest first.rest parts left.both (whole ∙ sym read.all) in
-        let state_is : leads_to m s call taken ≡ leads_to m s call served.taken = ap (leads_to m s call) same.front in
-        let reply_is : reply_to m s call taken ≡ served.reply = ap (reply_to m s call) same.front ∙ sym answer.looks in
+        let state_is : leads_to m s call taken ≡ leads_to m s call served.taken = ap (leads_to m s call) same.prefix in
+        let reply_is : reply_to m s call taken ≡ served.reply = ap (reply_to m s call) same.prefix ∙ sym answer.looks in
         let given_is : given ≡ served.given = same_given m s call given served.given gives answer.gives in
         let same_shape : new.machine.fixed.shape ≡ shape = ap (λ f. f.shape) answer.fixed in
         let same_phase : new.machine.phase ≡ next_of shape old.machine.phase call (Some (reply_to m s call taken)) = answer.phase ∙ ap (λ (r : Reply). next_of shape old.machine.phase call (Some r)) (sym reply_is) in
@@ -547,7 +547,7 @@ module _ (old new : Scene) (pieces : List (List ℕ)) (count : ℕ) (end : Serve
       let left = left_of old.input.left new.input.left tells.bytes inside.bytes tells.has inside.takes.taken in
       let all = all_taken new.input.left tells.bytes inside.bytes left inside.at_end in
       let over = at_cut old.machine.fixed.shape tells.machine old.machine.phase tells.state tells.bytes pieces count end tells.comes
-      (subst (λ (l : List ℕ). 0 < length l) (sym all) inside.some) (subst (IsFront IsLinkFrame) (sym all) inside.front) in
+      (subst (λ (l : List ℕ). 0 < length l) (sym all) inside.some) (subst (IsPrefix IsLinkFrame) (sym all) inside.prefix) in
       stays old new pieces end (E.BadFrame at) (record { none = over.none; is = over.is ∙ ap (λ (l : List ℕ). E.BadFrame (length l)) all ∙ ap (λ (n : ℕ). E.BadFrame n) (sym inside.at_is) }) still.output
 
   no_frame : (at : ℕ) → IsNoFrame old.input new.input at → IsStill old new → KeepsTo old new (E.BadFrame at) pieces end
@@ -555,8 +555,8 @@ module _ (old new : Scene) (pieces : List (List ℕ)) (count : ℕ) (end : Serve
   no_frame at (inr inside) still = cut_short at inside still
 
   -- inside the bytes that follow a frame
-  cut_behind : (call : Call) (at : ℕ) → Permitted old.machine.fixed.shape old.machine.phase call → EndsInState old.input new.input call at → IsStill old new → KeepsTo old new (E.BadFrame at) pieces end
-  cut_behind call at may inside still =
+  cut_after : (call : Call) (at : ℕ) → Permitted old.machine.fixed.shape old.machine.phase call → EndsInState old.input new.input call at → IsStill old new → KeepsTo old new (E.BadFrame at) pieces end
+  cut_after call at may inside still =
       by_call pieces count end (at_call old.machine.fixed.shape tells.machine old.machine.phase tells.state tells.bytes pieces count end tells.comes call first.rest (starts old inside.mid pieces count end tells call inside.frame))
     where
       first : Left inside.mid.left tells.bytes inside.frame.bytes
@@ -587,7 +587,7 @@ module _ (old new : Scene) (pieces : List (List ℕ)) (count : ℕ) (end : Serve
 
   lacks_frame : (at : ℕ) → LacksFrame old new at → IsStill old new → KeepsTo old new (E.BadFrame at) pieces end
   lacks_frame at (inl none) still = no_frame at none still
-  lacks_frame at (inr (call, may, inside)) still = cut_behind call at may inside still
+  lacks_frame at (inr (call, may, inside)) still = cut_after call at may inside still
 
   forbidden : (call : Call) → TakesCall old.input new.input call → (Permitted old.machine.fixed.shape old.machine.phase call → ⊥) → IsStill old new → KeepsTo old new (E.NotPermitted call) pieces end
   forbidden call read cannot still =
@@ -614,14 +614,14 @@ module _ (old new : Scene) (pieces : List (List ℕ)) (count : ℕ) (end : Serve
       r = f.reached
 
       cannot : Permitted old.machine.fixed.shape new.machine.phase call → ⊥
-      cannot may = f.forbidden (subst (λ (sh : Shape). Permitted sh new.machine.phase call) (sym (shape_along old.machine new.machine (exchanges r.front r.replies) r.talks)) may)
+      cannot may = f.forbidden (subst (λ (sh : Shape). Permitted sh new.machine.phase call) (sym (shape_along old.machine new.machine (exchanges r.prefix r.replies) r.talks)) may)
 
       by_batch : (pieces : List (List ℕ)) (count : ℕ) (end : ServeEnd) → AtBatch old.machine.fixed.shape tells.machine old.machine.phase tells.state calls left.rest pieces count end → KeepsTo old new (E.NotPermitted call) pieces end
       by_batch _ _ _ (Halts told forbidden) =
-          let same = forbids_same old.machine.fixed.shape tells.machine told old.machine.phase tells.state calls forbidden r.front r.left r.replies old.machine new.machine call r.calls_are (stands old _ _ _ tells) r.len r.talks r.good cannot in
+          let same = forbids_same old.machine.fixed.shape tells.machine told old.machine.phase tells.state calls forbidden r.prefix r.left r.replies old.machine new.machine call r.calls_are (stands old _ _ _ tells) r.len r.talks r.good cannot in
           record { ends = ap (λ (c : Call). E.NotPermitted c) (sym same); output = still }
       by_batch _ _ _ (Answers q z told rest more end come comes) =
-          absurd (never_forbidden old.machine.fixed.shape tells.machine old.machine.phase q tells.state z calls told come r.front r.left r.replies old.machine new.machine call r.calls_are (stands old _ _ _ tells) r.len r.talks r.good cannot)
+          absurd (never_forbidden old.machine.fixed.shape tells.machine old.machine.phase q tells.state z calls told come r.prefix r.left r.replies old.machine new.machine call r.calls_are (stands old _ _ _ tells) r.len r.talks r.good cannot)
 
   forbids : (call : Call) → Forbids old new call → KeepsTo old new (E.NotPermitted call) pieces end
   forbids call (inl h) = forbidden call h.0 h.1 h.2

@@ -9,7 +9,7 @@ use Rattle.fmi_calls.specs.declared.call.Content.TheVariants as A
 use Rattle.fmi_calls.specs.declared.call.Kind.TheVariants as K
 use Rattle.fmi_calls.specs.declared.call.Reply.TheVariants as R
 use Rattle.link_frames.specs.Reply.{CanBeTold}
-use Rattle.fmu_peer.specs.Machine.{Machine, MachineState, after, bytes_behind, taken_in}
+use Rattle.fmu_peer.specs.Machine.{Machine, MachineState, after, bytes_after_reply, taken_in}
 use Rattle.fmu_peer.specs.Many.{Talks, exchanges}
 use Rattle.fmu_peer.specs.View.{Asked, AskedWith, Fixed, View}
 use Rattle.host_serving.specs.Serving.{GoesOn, IsAnswered, IsAsked, IsGiven, LosesOne, More, Nothing, Scene, Served, Serves, Single, Together}
@@ -69,7 +69,7 @@ lost_by_fault m alike old new calls told l = elim l.lost [
 ]
   where
     there : IsTold m l.mid
-    there = told_talks m old l.mid l.reached.front l.reached.replies told l.reached.talks
+    there = told_talks m old l.mid l.reached.prefix l.reached.replies told l.reached.talks
 
 -- a reply that isn't a state's has a frame
 told_by_kind : (reply : Reply) → (kind_of_reply reply ≡ K.Serialize → ⊥) → CanBeTold reply
@@ -77,7 +77,7 @@ told_by_kind (R.Done is_warning (A.Serialize count)) other = absurd (other refl)
 told_by_kind reply other = tt
 
 -- and so has a state's that isn't too long
-told_by_count : (reply : Reply) → bytes_behind reply ≤ 2 ^ 20 → CanBeTold reply
+told_by_count : (reply : Reply) → bytes_after_reply reply ≤ 2 ^ 20 → CanBeTold reply
 told_by_count (R.Done is_warning (A.Serialize count)) few = few
 told_by_count reply few = tt
 

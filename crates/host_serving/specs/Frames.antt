@@ -10,7 +10,7 @@ use Rattle.fmi_calls.specs.declared.call.Call.TheVariants as C
 use Rattle.link_frames.specs.declared.call.CallFrame.{CallFrame}
 use Rattle.link_frames.specs.Batch.{IsBatch, IsCallBatch}
 use Rattle.link_frames.specs.Call.{IsCallFrame}
-use Rattle.exact_parts.specs.Taking.{Breaks, IsFront}
+use Rattle.exact_parts.specs.Taking.{Breaks, IsPrefix}
 use Rattle.host_serving.specs.declared.reading.NextFrame.{NextFrame}
 use Rattle.host_serving.specs.declared.reading.NextFrame.TheVariants.{Came, Batch, AtEnd, Bad, Failed, Memory}
 use Rattle.host_serving.specs.declared.state.NextState.{NextState}
@@ -66,7 +66,7 @@ pub record EndsInside (old new : SourceView) (at : ℕ) : Type 0 where
   pub takes : Takes old new bytes
   pub at_end : IsAtEnd new.left
   pub some : 0 < length bytes
-  pub front : IsFront IsLinkFrame bytes
+  pub prefix : IsPrefix IsLinkFrame bytes
   pub at_is : at ≡ length bytes
 
 -- no frame begins so

@@ -104,13 +104,13 @@ pub record ServesMany (old new : Scene) (calls : List Call) (replies : List Repl
 
 -- the first calls, each permitted in its turn, got good replies, and this one is next
 pub record Reaches (old : View) (calls : List Call) (call : Call) (new : View) : Type 0 where
-  pub front : List Call
+  pub prefix : List Call
   pub left : List Call
   pub replies : List Reply
-  pub calls_are : calls ≡ front ++ call ∷ left
-  pub len : length replies ≡ length front
-  pub good : AllGood old.fixed.shape (exchanges front replies)
-  pub talks : Talks old (exchanges front replies) new
+  pub calls_are : calls ≡ prefix ++ call ∷ left
+  pub len : length replies ≡ length prefix
+  pub good : AllGood old.fixed.shape (exchanges prefix replies)
+  pub talks : Talks old (exchanges prefix replies) new
 
 -- and it isn't permitted
 pub record ForbidsOne (old new : View) (calls : List Call) (call : Call) : Type 0 where
@@ -205,15 +205,15 @@ Steps old new (N.Served count) =
 Steps old new (N.Ends end) = (end ≢ E.TooMany) × EndsBy old new end
 
 -- FreeInstance ends the serving
-abbrev pub EndsBehind : Call → Next → Type 0
-EndsBehind call (N.Served count) = (count ≡ 1) × (call ≢ C.FreeInstance)
-EndsBehind call (N.Ends end) = (end ≡ E.Freed) × (call ≡ C.FreeInstance)
+abbrev pub EndsAfter : Call → Next → Type 0
+EndsAfter call (N.Served count) = (count ≡ 1) × (call ≢ C.FreeInstance)
+EndsAfter call (N.Ends end) = (end ≡ E.Freed) × (call ≡ C.FreeInstance)
 
 -- what became of a reply: it was put, and the bytes that follow it, and its call may end the serving; or a put failed; or no frame tells it
 pub data PutsReply (old new : SinkView) (call : Call) (reply : Reply) (given : List ℕ) : Next →
     Type 0 where
   IsPut : (piece : List ℕ) (next : Next) → IsReplyFrame (as_sent call reply) piece →
-      new ≡ with_state (with_piece old piece) given → EndsBehind call next →
+      new ≡ with_state (with_piece old piece) given → EndsAfter call next →
       PutsReply old new call reply given next
   PutFails : Rose old.faults new.faults → PutsReply old new call reply given (N.Ends E.Failed)
   Untold : (CanBeTold reply → ⊥) → new ≡ old →

@@ -10,9 +10,9 @@ use Rattle.fmi_calls.specs.declared.call.Reply.{Reply}
 use Rattle.fmi_calls.specs.declared.phase.Phase.{Phase}
 use Rattle.link_frames.specs.Call.{IsCallFrame}
 use Rattle.link_frames.specs.Reply.{frame_of}
-use Rattle.exact_parts.specs.Taking.{Breaks, IsFront}
+use Rattle.exact_parts.specs.Taking.{Breaks, IsPrefix}
 use Rattle.link_frames.specs.declared.call.CallFrame.{CallFrame}
-use Rattle.fmu_peer.specs.Machine.{Machine, MachineState, after, bytes_behind, taken_in}
+use Rattle.fmu_peer.specs.Machine.{Machine, MachineState, after, bytes_after_reply, taken_in}
 use Rattle.fmu_peer.specs.View.{ArePacked}
 use Rattle.host_serving.specs.declared.serving.ServeEnd.{ServeEnd}
 use Rattle.host_serving.specs.declared.serving.ServeEnd.TheVariants as E
@@ -39,7 +39,7 @@ leads_to m s call taken = after m s call
 -- these bytes follow its reply: those of the state in its slot, where the reply to a Serialize tells of it
 abbrev pub Gives : Machine → MachineState → Call → List ℕ → Type 0
 Gives m s C.Serialize given =
-    (length given ≡ bytes_behind (m.look s C.Serialize)) ×
+    (length given ≡ bytes_after_reply (m.look s C.Serialize)) ×
     ArePacked (Some m) (Some s) (m.look s C.Serialize) given
 Gives m s call given = given ≡ []
 
@@ -53,16 +53,16 @@ state_pieces (byte ∷ bytes) = (byte ∷ bytes) ∷ []
 -- the bytes begin with the frame of this call, and these follow
 pub record StartsWith (bytes : List ℕ) (call : Call) (rest : List ℕ) : Type 0 where
   pub frame : CallFrame
-  pub front : List ℕ
-  pub spelled : IsCallFrame frame front
+  pub prefix : List ℕ
+  pub spelled : IsCallFrame frame prefix
   pub is : frame.call ≡ call
-  pub both : bytes ≡ front ++ rest
+  pub both : bytes ≡ prefix ++ rest
 
 -- the bytes begin with the batch of these calls, and these follow
 pub record StartsWithBatch (bytes : List ℕ) (calls : List Call) (rest : List ℕ) : Type 0 where
-  pub front : List ℕ
-  pub batch : IsBatchOfCalls calls front
-  pub both : bytes ≡ front ++ rest
+  pub prefix : List ℕ
+  pub batch : IsBatchOfCalls calls prefix
+  pub both : bytes ≡ prefix ++ rest
 
 -- the calls of a batch, from a phase and a state of the machine on, with the replies up to the first that isn't good, and the phase and the state after them
 pub data ItemsCome (shape : Shape) (m : Machine) : Phase → MachineState → List Call → List Reply →
@@ -103,7 +103,7 @@ pub data Comes (shape : Shape) (m : Machine) : Phase → MachineState → List �
   NoFrame : (phase : Phase) (s : MachineState) (bytes : List ℕ) (at : ℕ) →
       Breaks IsLinkFrame bytes at → Comes shape m phase s bytes [] 0 (E.BadFrame at)
   CutFrame : (phase : Phase) (s : MachineState) (bytes : List ℕ) → 0 < length bytes →
-      IsFront IsLinkFrame bytes → Comes shape m phase s bytes [] 0 (E.BadFrame (length bytes))
+      IsPrefix IsLinkFrame bytes → Comes shape m phase s bytes [] 0 (E.BadFrame (length bytes))
   CutState : (phase : Phase) (s : MachineState) (bytes rest : List ℕ) (call : Call) →
       StartsWith bytes call rest → Permitted shape phase call → length rest < bytes_after call →
       Comes shape m phase s bytes [] 0 (E.BadFrame (24 + length rest))

@@ -6,7 +6,7 @@ ghost use Rattle.sim_base.specs.Causes.{Rose};
 ghost use Rattle.sim_base.specs.Source.{SourceView};
 ghost use Rattle.link_frames.specs.Batch.{IsHeadOf};
 ghost use Rattle.link_frames.specs.Call.{IsCallFrame};
-ghost use Rattle.exact_parts.specs.Taking.{IsFront};
+ghost use Rattle.exact_parts.specs.Taking.{IsPrefix};
 ghost use Rattle.link_frames.specs.declared.call.CallFrame.{CallFrame as FrameSpec};
 ghost use Rattle.host_serving.specs.Frames.{ComesTo, IsItem, IsRoom, Takes, eight_at};
 
@@ -60,7 +60,7 @@ pub(crate) fn next_frame<I: Source>(
     if head[0] == BATCH {
         return next_batch(&head, count, input, room);
     }
-    match take_call(front_of(&head, count)) {
+    match take_call(prefix_of(&head, count)) {
         Taken::Got { value, .. } => next_of_frame(value),
         Taken::Bad { at } => NextFrame::Bad { at: at as u64 },
         Taken::NeedMore => {
@@ -116,7 +116,7 @@ fn no_batch(head: &[u8; HEAD], count: usize) -> NextFrame
         Takes before after (take count head.now) → (count < 24 → IsAtEnd after.left) →
         ComesTo before after room result }
 {
-    match take_batch(front_of(head, count)) {
+    match take_batch(prefix_of(head, count)) {
         Taken::Got { .. } => unreachable!(),
         Taken::Bad { at } => NextFrame::Bad { at: at as u64 },
         Taken::NeedMore => NextFrame::Bad { at: count as u64 },
@@ -139,7 +139,7 @@ fn next_items<I: Source>(
         return NextFrame::Failed;
     };
     let length = HEAD + more;
-    match take_batch(front_of(room, length)) {
+    match take_batch(prefix_of(room, length)) {
         Taken::Got { .. } => NextFrame::Batch(calls),
         Taken::Bad { at } => NextFrame::Bad { at: at as u64 },
         Taken::NeedMore => NextFrame::Bad { at: length as u64 },
@@ -173,7 +173,7 @@ fn next_of_frame(frame: CallFrame) -> NextFrame
 }
 
 /// The first bytes, so many.
-pub(crate) fn front_of(bytes: &[u8], count: usize) -> &[u8]
+pub(crate) fn prefix_of(bytes: &[u8], count: usize) -> &[u8]
     requires { count ≤ length bytes.now }
     ensures { result.now ≡ take count bytes.now }
 {
@@ -182,7 +182,7 @@ pub(crate) fn front_of(bytes: &[u8], count: usize) -> &[u8]
 
 // Takes the texts of a frame whose beginning was taken.
 fn next_with_texts<I: Source>(alloc: Global, head: &[u8; HEAD], input: &mut I) -> NextFrame
-    requires { IsFront IsCallFrame head.now }
+    requires { IsPrefix IsCallFrame head.now }
     ensures { (before : SourceView) (room : List ℕ) → Takes before (I.view input.old) head.now →
         ComesTo before (I.view input.new) room result }
 {
@@ -194,7 +194,7 @@ fn next_with_texts<I: Source>(alloc: Global, head: &[u8; HEAD], input: &mut I) -
 
 // Takes the texts of a frame after its beginning.
 fn next_in<I: Source>(frame: &mut [u8], input: &mut I) -> NextFrame
-    requires front { IsFront IsCallFrame (take 24 frame.old) }
+    requires prefix { IsPrefix IsCallFrame (take 24 frame.old) }
     requires long { 24 ≤ length frame.old }
     requires room { IsRoom (take 24 frame.old) (length frame.old - 24) }
     ensures { (before : SourceView) (room : List ℕ) → Takes before (I.view input.old)
@@ -204,7 +204,7 @@ fn next_in<I: Source>(frame: &mut [u8], input: &mut I) -> NextFrame
         return NextFrame::Failed;
     };
     let length = HEAD + count;
-    match take_call(front_of(frame, length)) {
+    match take_call(prefix_of(frame, length)) {
         Taken::Got { value, .. } => next_of_frame(value),
         Taken::Bad { at } => NextFrame::Bad { at: at as u64 },
         Taken::NeedMore => NextFrame::Bad { at: length as u64 },
@@ -213,7 +213,7 @@ fn next_in<I: Source>(frame: &mut [u8], input: &mut I) -> NextFrame
 
 // The beginning of a frame, with room for its texts.
 fn with_room(alloc: Global, head: &[u8; HEAD]) -> Result<Vec<u8>, AllocError>
-    ensures front { IfOk result (λ frame. take 24 frame.items ≡ head.now) }
+    ensures prefix { IfOk result (λ frame. take 24 frame.items ≡ head.now) }
     ensures room { IfOk result (λ frame. (value : FrameSpec) (more : List ℕ) → 0 < length more →
         IsCallFrame value (head.now ++ more) → length frame.items ≡ 24 + length more) }
 {

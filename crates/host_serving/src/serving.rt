@@ -10,7 +10,7 @@ ghost use Rattle.fmu_peer.specs.View.{IsDeserialize, carries_bytes};
 ghost use Rattle.link_frames.specs.Batch.{CanAnswer, IsCallBatch};
 ghost use Rattle.link_frames.specs.Reply.{CanBeTold};
 ghost use Rattle.host_serving.specs.Frames.{IsBatchOfCalls, TakesBatch, TakesCall};
-ghost use Rattle.host_serving.specs.Serving.{AnswersItems, EndsBehind, HasServed, PutsReply, Steps, as_sent, scene, with_state};
+ghost use Rattle.host_serving.specs.Serving.{AnswersItems, EndsAfter, HasServed, PutsReply, Steps, as_sent, scene, with_state};
 ghost use Rattle.host_serving.specs.Told.{ServesAsTold};
 
 use crate::reading::{MOST_BYTES, NextFrame, item, next_frame};
@@ -193,7 +193,7 @@ fn put_answer<O: Sink>(call: &Call, reply: Reply, state: &[u8], output: &mut O) 
     let mut frame = [0; 24];
     put_reply(&as_sent(call, reply), &mut frame);
     match put_both(&frame, state, output) {
-        Ok(()) => end_behind(*call),
+        Ok(()) => end_after(*call),
         Err(_) => Next::Ends(ServeEnd::Failed),
     }
 }
@@ -333,8 +333,8 @@ fn is_of_kind(reply: &Reply, call: &Call) -> bool
 }
 
 // What ends the serving after a call that was served.
-fn end_behind(call: Call) -> Next
-    ensures { EndsBehind call result }
+fn end_after(call: Call) -> Next
+    ensures { EndsAfter call result }
 {
     match call {
         Call::FreeInstance => Next::Ends(ServeEnd::Freed),

@@ -3,7 +3,7 @@ ghost use Rattle.std.specs.Prelude.{◌≡◌, IfErr, IfOk, length};
 ghost use Rattle.sim_base.specs.Causes.{Rose};
 ghost use Rattle.host_serving.specs.Frames.{BringsState, Gains};
 
-use crate::reading::{fill, front_of};
+use crate::reading::{fill, prefix_of};
 use sim_base::Source;
 use std::alloc::Global;
 
@@ -69,7 +69,7 @@ fn take_part<I: Source>(
     let Ok(count) = fill(input, room) else {
         return Err(PartFault::Failed);
     };
-    match state.extend_from_slice(front_of(room, count)) {
+    match state.extend_from_slice(prefix_of(room, count)) {
         Ok(()) => Ok(count),
         Err(_) => Err(PartFault::Memory),
     }

@@ -124,8 +124,8 @@ module _ (t u : SystemTree) (same : without_numbers t ≡ without_numbers u) (sh
     leads = leads_along (Joins t shapes) (Joins u shapes) joins p l.between q l.leads;
   }
 
-  leads_upto : (p s : Point) → LeadsUpTo t shapes p s → LeadsUpTo u shapes p s
-  leads_upto p s h = elim h [ inl e ↦ inl e | inr l ↦ inr (of_system s l.0, leads p s l.1) ]
+  leads_up_to : (p s : Point) → LeadsUpTo t shapes p s → LeadsUpTo u shapes p s
+  leads_up_to p s h = elim h [ inl e ↦ inl e | inr l ↦ inr (of_system s l.0, leads p s l.1) ]
 
   leads_onto : (e q : Point) → LeadsOnTo t shapes e q → LeadsOnTo u shapes e q
   leads_onto e q h = elim h [ inl same ↦ inl same | inr l ↦ inr (of_system e l.0, leads e q l.1) ]
@@ -150,10 +150,10 @@ module _ (t u : SystemTree) (same : without_numbers t ≡ without_numbers u) (sh
   ends_by : (k : Connection) (p s q : Point) (output input : Variable) → EndsBy t shapes k p s q output input → (m : Connection) × EndsBy u shapes m p s q output input
   ends_by k p s q output input x =
       let last = joins_by k s q x.last in
-      (last.0, record { from = x.from; to = x.to; upto = leads_upto p s x.upto; last = last.1 })
+      (last.0, record { from = x.from; to = x.to; up_to = leads_up_to p s x.up_to; last = last.1 })
 
   is_on : (p s : Point) (c : ℕ) → IsOn t shapes p s c → IsOn u shapes p s c
-  is_on p s c h = (of_system (Itself c) h.0, leads p (Itself c) h.1, leads_upto (Itself c) s h.2)
+  is_on p s c h = (of_system (Itself c) h.0, leads p (Itself c) h.1, leads_up_to (Itself c) s h.2)
 
   -- ---- rules
 
@@ -240,7 +240,7 @@ module _ (t u : SystemTree) (same : without_numbers t ≡ without_numbers u) (sh
         e = b.e;
         q = b.q;
         from = b.from;
-        upto = leads_upto b.p b.s b.upto;
+        up_to = leads_up_to b.p b.s b.up_to;
         is = m.1;
         on = leads_onto b.e b.q b.on;
         to = b.to;

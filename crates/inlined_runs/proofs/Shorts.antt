@@ -23,7 +23,7 @@ use Rattle.run_model.specs.Steps.{FixedStep, IsBound, Stepper, StopsAgain, Stops
 use Rattle.run_model.specs.Trace.{Leads, LeadsBy}
 use Rattle.event_iteration.specs.Lost.{IsFirstLost}
 use Rattle.event_iteration.specs.declared.lost.LostValue.{LostValue}
-use Rattle.machine_courses.specs.Fronts.{AtTheStart, InInstant, LacksStepAt, LosesAt}
+use Rattle.machine_courses.specs.Prefixes.{AtTheStart, InInstant, LacksStepAt, LosesAt}
 use Rattle.inlined_runs.specs.Shorts.{FixedOnce, LostOnce}
 
 -- ---- one step

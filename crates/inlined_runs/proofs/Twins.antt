@@ -27,9 +27,9 @@ use Rattle.calling_sequence.specs.declared.run_end.RunEnd.TheVariants as E
 use Rattle.calling_sequence.specs.Ends.{trace_pieces}
 use Rattle.calling_sequence.specs.Puts.{with_pieces}
 use Rattle.event_iteration.specs.declared.lost.LostValue.{LostValue}
-use Rattle.machine_courses.specs.Fronts.{LacksStepAt, LosesAt}
+use Rattle.machine_courses.specs.Prefixes.{LacksStepAt, LosesAt}
 use Rattle.machine_courses.specs.Outcomes.{PutsTrace}
-use Rattle.step_master.specs.Traced.{IsRunOf, SomeRose, output_of}
+use Rattle.step_master.specs.Traced.{IsRunOf, SomeFaultCounted, output_of}
 use Rattle.step_master.specs.Traced as T
 use Rattle.command_line.specs.Line.{Asked, IsLine, Line, RunLine, run_in}
 use Rattle.command_line.specs.Line as L
@@ -46,7 +46,7 @@ use Rattle.run_program.specs.TraceCheck.{KeepsRows}
 use Rattle.alike_runs.specs.Alike.{AreAlike, BehaveAlike, TraceAlike}
 use Rattle.run_program.proofs.CallerLemmas.{first_state, system_rows}
 use Rattle.inlined_runs.specs.Shorts.{FixedOnce, LostOnce}
-use Rattle.inlined_runs.specs.Twins.{AnswerAlike, IsUnhindered, RunAlike, TellAlike, TellMachines, ToldUnknown, run_of}
+use Rattle.inlined_runs.specs.Twins.{AnswerAlike, AreMachinesOf, IsUnhindered, RunAlike, TellAlike, ToldUnknown, run_of}
 use Rattle.alike_runs.proofs.Alike.{lacks_alike, loses_alike}
 
 -- ---- lists
@@ -68,7 +68,7 @@ fused (v ∷ vs) = ap (λ (ms : List (Option Machine)). v.fixed.machine ∷ ms) 
 
 -- peers that tell these machines when they are taken back told them from the start
 tell_machines : (host : List ℕ) (folders : List (List ℕ)) (cs : List Component) (olds news : List View) (machines : List Machine) → AreStarted host folders cs olds →
-    map fixed_of news ≡ map fixed_of olds → map machine_of news ≡ map (λ (m : Machine). Some m) machines → T.TellMachines olds machines
+    map fixed_of news ≡ map fixed_of olds → map machine_of news ≡ map (λ (m : Machine). Some m) machines → T.AreMachinesOf olds machines
 tell_machines host folders cs olds news machines are stay tell = record {
   count = sym (length-map machines (λ (m : Machine). Some m)) ∙ ap length (sym told) ∙ length-map olds machine_of;
   each = λ i v m at there.
@@ -82,7 +82,7 @@ tell_machines host folders cs olds news machines are stay tell = record {
     told : map machine_of olds ≡ map (λ (m : Machine). Some m) machines
     told = fused olds ∙ ap (map (λ (f : Fixed). f.machine)) (sym stay) ∙ sym (fused news) ∙ tell
 
-none_rose : (olds news : List View) → All (λ (v : View). v.faults ≡ 0) news → SomeRose olds news → ⊥
+none_rose : (olds news : List View) → All (λ (v : View). v.faults ≡ 0) news → SomeFaultCounted olds news → ⊥
 none_rose olds news quiet x =
     let none : x.new.faults ≡ 0 = all_at (λ (v : View). v.faults ≡ 0) news x.place x.new quiet x.after in
     let rose : Rose x.old.faults x.new.faults = x.rose in
@@ -127,7 +127,7 @@ of_same asked one other machines parts bound = record { components = parts.0; po
 turned : (one other : System) → HaveSameParts one other → HaveSameParts other one
 turned one other parts = (sym parts.0, sym parts.1)
 
-module _ (h : Happened) (asked : RunLine) (loaded : Loaded) (machines : List Machine) (x : RunsLoaded h asked loaded) (tell : TellMachines h machines) (hinders : IsUnhindered h)
+module _ (h : Happened) (asked : RunLine) (loaded : Loaded) (machines : List Machine) (x : RunsLoaded h asked loaded) (tell : AreMachinesOf h machines) (hinders : IsUnhindered h)
     (well : WellBehaved (run_of asked loaded machines)) (behave : BehaveAlike) where
   abbrev own : Run
   own = run_of asked x.made machines
@@ -147,7 +147,7 @@ module _ (h : Happened) (asked : RunLine) (loaded : Loaded) (machines : List Mac
   own_well : WellBehaved own
   own_well = behave (run_of asked loaded machines) own (of_same asked loaded x.made machines (turned x.made.system loaded.system x.agree.0) (sym x.agree.1)) well
 
-  quiet : SomeRose x.traces.account.olds x.traces.account.news → ⊥
+  quiet : SomeFaultCounted x.traces.account.olds x.traces.account.news → ⊥
   quiet = none_rose x.traces.account.olds x.traces.account.news (subst (All (λ (v : View). v.faults ≡ 0)) (sym news_are) tell.answer)
 
   put : (kind : EndKind) (point : ℕ) (p : PutsTrace own (output_of x.traces.account) kind point) → h.new.run.out ≡ with_pieces h.old.run.out (trace_pieces x.made.system asked.plan p.is kind point)
@@ -307,7 +307,7 @@ hindered h text hinders (inr mute) = hinders.puts mute.0
 pub runs_alike : Laws → RunAlike
 runs_alike laws h k line asked loaded machines twins find asks known hinders hinders_too tell tell_too well = alike (by_row h twins.keeps.0 twins.is.0 find.0 known hinders tell) (by_row k twins.keeps.1 twins.is.1 find.1 (subst (λ (s : SpawnerView). AreKnown asked.host s loaded.system.components) twins.spawner known) hinders_too tell_too)
   where
-    by_row : (c : Happened) → KeepsRows c → IsLine c.words line → IsToFind c line (Found loaded) → AreKnown asked.host c.old.run.spawner loaded.system.components → IsUnhindered c → TellMachines c machines →
+    by_row : (c : Happened) → KeepsRows c → IsLine c.words line → IsToFind c line (Found loaded) → AreKnown asked.host c.old.run.spawner loaded.system.components → IsUnhindered c → AreMachinesOf c machines →
         Ran c asked loaded machines
     by_row c keeps is finds knows free tells = by ((system_rows c line keeps is).trace.when line asked loaded is asks finds knows free.starts)
       where

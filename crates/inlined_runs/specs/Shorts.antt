@@ -4,7 +4,7 @@ use Rattle.system_model.specs.Sound.{IsSound}
 use Rattle.run_model.specs.Run.{Run}
 use Rattle.run_model.specs.Machines.{AreMachines}
 use Rattle.event_iteration.specs.declared.lost.LostValue.{LostValue}
-use Rattle.machine_courses.specs.Fronts.{LacksStepAt, LosesAt}
+use Rattle.machine_courses.specs.Prefixes.{LacksStepAt, LosesAt}
 
 -- a run lacks one step at most
 abbrev pub FixedOnce : Type 0

@@ -70,7 +70,7 @@ pub record IsUnhindered (h : Happened) : Type 0 where
   pub memory : h.status ≢ 11
 
 -- the peers that were taken back tell these machines, and none of their calls failed
-pub record TellMachines (h : Happened) (machines : List Machine) : Type 0 where
+pub record AreMachinesOf (h : Happened) (machines : List Machine) : Type 0 where
   pub peers : List View
   pub retired : h.new.run.spawner.retired ≡ h.old.run.spawner.retired ++ peers
   pub tell : map (λ (v : View). v.fixed.machine) peers ≡ map (λ (m : Machine). Some m) machines
@@ -90,7 +90,7 @@ RunAlike =
     (h k : Happened) (line : Line) (asked : RunLine) (loaded : Loaded) (machines : List Machine) →
     AreTwins h k line → BothFind h k line loaded → run_in line ≡ Some asked →
     AreKnown asked.host h.old.run.spawner loaded.system.components →
-    IsUnhindered h → IsUnhindered k → TellMachines h machines → TellMachines k machines →
+    IsUnhindered h → IsUnhindered k → AreMachinesOf h machines → AreMachinesOf k machines →
     WellBehaved (run_of asked loaded machines) → AnswerAlike h k
 
 -- ---- no run

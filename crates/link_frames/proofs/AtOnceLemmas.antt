@@ -11,7 +11,7 @@ use Rattle.link_frames.specs.declared.layout.Form.TheVariants.{OfCall, OfReply, 
 use Rattle.exact_parts.specs.Field.{AreBytes, Field, InSpans, number}
 use Rattle.link_frames.specs.Layout.{any, between, call_row, done_row, kind_at, plain_reply, row, row_by, status_span, type_at, zero_only}
 use Rattle.link_frames.specs.Numbers.{AreInSpans, Reads, numbers_in}
-use Rattle.exact_parts.specs.Taking.{Behind}
+use Rattle.exact_parts.specs.Taking.{After}
 use Rattle.exact_parts.proofs.CallerLemmas.{taken_bytes}
 
 -- ---- rows
@@ -181,10 +181,10 @@ dropped_bytes (suc n) (b ∷ bs) h = dropped_bytes n bs h.1
 one : (size : ℕ) (spans : Spans) (bytes : List ℕ) → size ≤ length bytes → AreBytes bytes → InSpans spans (number 0 (take size bytes)) → Field size spans (number 0 (take size bytes)) (take size bytes)
 one size spans bytes le small span = record { size_is = omega (arith, length-take size bytes); are_bytes = taken_bytes size bytes small; number = refl; span = span }
 
-both : (size : ℕ) (first : ℕ → List ℕ → Type 0) (next : ℕ → List ℕ → List ℕ → Type 0) (all bytes : List ℕ) → first (number 0 (take size bytes)) (take size bytes) → next (number 0 (take size bytes)) all (drop size bytes) → Behind first next all bytes
+both : (size : ℕ) (first : ℕ → List ℕ → Type 0) (next : ℕ → List ℕ → List ℕ → Type 0) (all bytes : List ℕ) → first (number 0 (take size bytes)) (take size bytes) → next (number 0 (take size bytes)) all (drop size bytes) → After first next all bytes
 both size first next all bytes is_first is_next = record {
   number = number 0 (take size bytes);
-  front = take size bytes;
+  prefix = take size bytes;
   rest = drop size bytes;
   is_first = is_first;
   is_next = is_next;

@@ -51,11 +51,11 @@ counted_batch bytes count value size h len got =
     let took : length part ≡ size = length-take-le size bytes got.within in
     let head : take 24 part ≡ spelling (batch_head value) =
     ap (λ (xs : List ℕ). take 24 xs) b.batch.spelled ∙ take_at (spelling (batch_head (length b.values))) b.batch.rest 24 (head_length (batch_head (length b.values))) ∙ ap (λ (n : ℕ). spelling (batch_head n)) (sym b.count_is) in
-    let front : take 24 part ≡ take 24 bytes = take-take 24 size bytes (omega (arith, long, took)) in
+    let prefix : take 24 part ≡ take 24 bytes = take-take 24 size bytes (omega (arith, long, took)) in
     let some = b.batch.some in
     let few = b.batch.few in
     let count_is = b.count_is in
-    let told : IsHeadOf value (take 24 bytes) = record { some = omega (arith, some, count_is); few = omega (arith, few, count_is); spelled = sym front ∙ head } in
+    let told : IsHeadOf value (take 24 bytes) = record { some = omega (arith, some, count_is); few = omega (arith, few, count_is); spelled = sym prefix ∙ head } in
     let is : value ≡ count = head_tells value count (take 24 bytes) told h in
     let all : part ≡ bytes = take_all size bytes (omega (arith, long, took, is, len)) in
     subst (λ (n : ℕ). IsReplyBatch n bytes) is (subst (IsReplyBatch value) all b)

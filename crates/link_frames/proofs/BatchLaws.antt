@@ -60,36 +60,36 @@ reply_batches_apart reply count bytes more = (
 
 -- ---- items
 
-module _ {V : Type 0} (frame : V → List ℕ → Type 0) (kind : V → Kind) (one : Kind) (long : (v : V) (front : List ℕ) → frame v front → kind v ≡ one → length front ≡ 24) where
+module _ {V : Type 0} (frame : V → List ℕ → Type 0) (kind : V → Kind) (one : Kind) (long : (v : V) (prefix : List ℕ) → frame v prefix → kind v ≡ one → length prefix ≡ 24) where
   frames_at : (vs : List V) (bytes : List ℕ) (i : ℕ) (d : V) → AreFrames frame kind one vs bytes → i < length vs → frame (get_or vs i d) (take 24 (drop (24 * i) bytes))
   frames_at [] bytes i d are lt = absurd (omega (arith, lt))
-  frames_at (v ∷ vs) bytes zero d (front, rest, both, is, k, more) lt =
-      let size = long v front is k in
-      subst (frame v) (sym (ap (λ (xs : List ℕ). take 24 xs) both ∙ take_at front rest 24 size)) is
-  frames_at (v ∷ vs) bytes (suc i) d (front, rest, both, is, k, more) lt =
-      let size = long v front is k in
-      let place : 24 * suc i ≡ length front + 24 * i = omega (arith, size) in
-      let behind : drop (24 * suc i) bytes ≡ drop (24 * i) rest = ap (λ (xs : List ℕ). drop (24 * suc i) xs) both ∙ ap (λ (n : ℕ). drop n (front ++ rest)) place ∙ drop-append-add front rest (24 * i) in
-      subst (λ (xs : List ℕ). frame (get_or vs i d) (take 24 xs)) (sym behind) (frames_at vs rest i d more (omega (arith, lt)))
+  frames_at (v ∷ vs) bytes zero d (prefix, rest, both, is, k, more) lt =
+      let size = long v prefix is k in
+      subst (frame v) (sym (ap (λ (xs : List ℕ). take 24 xs) both ∙ take_at prefix rest 24 size)) is
+  frames_at (v ∷ vs) bytes (suc i) d (prefix, rest, both, is, k, more) lt =
+      let size = long v prefix is k in
+      let place : 24 * suc i ≡ length prefix + 24 * i = omega (arith, size) in
+      let after : drop (24 * suc i) bytes ≡ drop (24 * i) rest = ap (λ (xs : List ℕ). drop (24 * suc i) xs) both ∙ ap (λ (n : ℕ). drop n (prefix ++ rest)) place ∙ drop-append-add prefix rest (24 * i) in
+      subst (λ (xs : List ℕ). frame (get_or vs i d) (take 24 xs)) (sym after) (frames_at vs rest i d more (omega (arith, lt)))
 
   -- each frame has 24 bytes
   frames_long : (vs : List V) (bytes : List ℕ) → AreFrames frame kind one vs bytes → length bytes ≡ 24 * length vs
   frames_long [] bytes none = ap length none
-  frames_long (v ∷ vs) bytes (front, rest, both, is, k, more) =
-      let size = long v front is k in
-      let whole : length bytes ≡ length front + length rest = ap length both ∙ length-append front rest in
-      let behind = frames_long vs rest more in
-      omega (arith, size, whole, behind)
+  frames_long (v ∷ vs) bytes (prefix, rest, both, is, k, more) =
+      let size = long v prefix is k in
+      let whole : length bytes ≡ length prefix + length rest = ap length both ∙ length-append prefix rest in
+      let after = frames_long vs rest more in
+      omega (arith, size, whole, after)
 
 -- after the head
-items_stand : {V : Type 0} (frame : V → List ℕ → Type 0) (kind : V → Kind) (long : (v : V) (front : List ℕ) → frame v front → (kind v ≡ K.Get) ⊎ (kind v ≡ K.Set) → length front ≡ 24) → ItemsStand frame kind
+items_stand : {V : Type 0} (frame : V → List ℕ → Type 0) (kind : V → Kind) (long : (v : V) (prefix : List ℕ) → frame v prefix → (kind v ≡ K.Get) ⊎ (kind v ≡ K.Set) → length prefix ≡ 24) → ItemsStand frame kind
 items_stand frame kind long values bytes i d b lt =
     let size = head_length (batch_head (length values)) in
     let place : 24 * (i + 1) ≡ length (spelling (batch_head (length values))) + 24 * i = omega (arith, size) in
-    let behind : drop (24 * (i + 1)) bytes ≡ drop (24 * i) b.rest = ap (λ (xs : List ℕ). drop (24 * (i + 1)) xs) b.spelled ∙ ap (λ (n : ℕ). drop n (spelling (batch_head (length values)) ++ b.rest)) place
+    let after : drop (24 * (i + 1)) bytes ≡ drop (24 * i) b.rest = ap (λ (xs : List ℕ). drop (24 * (i + 1)) xs) b.spelled ∙ ap (λ (n : ℕ). drop n (spelling (batch_head (length values)) ++ b.rest)) place
     ∙ drop-append-add (spelling (batch_head (length values))) b.rest (24 * i) in
-    subst (λ (xs : List ℕ). frame (get_or values i d) (take 24 xs)) (sym behind)
-    (frames_at frame kind b.one (λ v front is k. long v front is (elim b.reads_or_sets [ inl e ↦ inl (k ∙ e) | inr e ↦ inr (k ∙ e) ])) values b.rest i d b.frames lt)
+    subst (λ (xs : List ℕ). frame (get_or values i d) (take 24 xs)) (sym after)
+    (frames_at frame kind b.one (λ v prefix is k. long v prefix is (elim b.reads_or_sets [ inl e ↦ inl (k ∙ e) | inr e ↦ inr (k ∙ e) ])) values b.rest i d b.frames lt)
 
 -- calls that read or set variables have no texts
 bare : (call : Call) (text : List ℕ) → (kind_of call ≡ K.Get) ⊎ (kind_of call ≡ K.Set) → sent call text ≡ []
@@ -97,15 +97,15 @@ bare (C.Instantiate event_mode early_return batches) text (inl e) = absurd (cc)
 bare (C.Instantiate event_mode early_return batches) text (inr e) = absurd (cc)
 bare call text sort = refl
 
-call_long : (f : CallFrame) (front : List ℕ) → IsCallFrame f front → (kind_of f.call ≡ K.Get) ⊎ (kind_of f.call ≡ K.Set) → length front ≡ 24
-call_long f front is sort =
-    let whole = frame_length f.call (bytes_at f.name front) (bytes_at f.token front) front is.is_frame in
-    let name = ap length (bare f.call (bytes_at f.name front) sort) in
-    let token = ap length (bare f.call (bytes_at f.token front) sort) in
+call_long : (f : CallFrame) (prefix : List ℕ) → IsCallFrame f prefix → (kind_of f.call ≡ K.Get) ⊎ (kind_of f.call ≡ K.Set) → length prefix ≡ 24
+call_long f prefix is sort =
+    let whole = frame_length f.call (bytes_at f.name prefix) (bytes_at f.token prefix) prefix is.is_frame in
+    let name = ap length (bare f.call (bytes_at f.name prefix) sort) in
+    let token = ap length (bare f.call (bytes_at f.token prefix) sort) in
     omega (arith, whole, name, token)
 
-reply_long : (reply : Reply) (front : List ℕ) → IsReplyFrame reply front → (kind_of_reply reply ≡ K.Get) ⊎ (kind_of_reply reply ≡ K.Set) → length front ≡ 24
-reply_long reply front is sort = ap length is.spelled ∙ head_length (head_of_reply reply)
+reply_long : (reply : Reply) (prefix : List ℕ) → IsReplyFrame reply prefix → (kind_of_reply reply ≡ K.Get) ⊎ (kind_of_reply reply ≡ K.Set) → length prefix ≡ 24
+reply_long reply prefix is sort = ap length is.spelled ∙ head_length (head_of_reply reply)
 
 pub call_items_stand : ItemsStand IsCallFrame (λ (f : CallFrame). kind_of f.call)
 call_items_stand = items_stand IsCallFrame (λ (f : CallFrame). kind_of f.call) call_long
@@ -114,13 +114,13 @@ pub reply_items_stand : ItemsStand IsReplyFrame kind_of_reply
 reply_items_stand = items_stand IsReplyFrame kind_of_reply reply_long
 
 -- a batch of so many has as many bytes as its head and so many frames
-batch_long : {V : Type 0} (frame : V → List ℕ → Type 0) (kind : V → Kind) (long : (v : V) (front : List ℕ) → frame v front → (kind v ≡ K.Get) ⊎ (kind v ≡ K.Set) → length front ≡ 24)
+batch_long : {V : Type 0} (frame : V → List ℕ → Type 0) (kind : V → Kind) (long : (v : V) (prefix : List ℕ) → frame v prefix → (kind v ≡ K.Get) ⊎ (kind v ≡ K.Set) → length prefix ≡ 24)
     (count : ℕ) (bytes : List ℕ) → IsBatchOf frame kind count bytes → length bytes ≡ 24 * (count + 1)
 batch_long frame kind long count bytes b =
     let k = b.batch in
     let head = head_length (batch_head (length b.values)) in
     let whole : length bytes ≡ length (spelling (batch_head (length b.values))) + length k.rest = ap length k.spelled ∙ length-append (spelling (batch_head (length b.values))) k.rest in
-    let rest = frames_long frame kind k.one (λ v front is e. long v front is (elim k.reads_or_sets [ inl g ↦ inl (e ∙ g) | inr s ↦ inr (e ∙ s) ])) b.values k.rest k.frames in
+    let rest = frames_long frame kind k.one (λ v prefix is e. long v prefix is (elim k.reads_or_sets [ inl g ↦ inl (e ∙ g) | inr s ↦ inr (e ∙ s) ])) b.values k.rest k.frames in
     let count_is = b.count_is in
     omega (arith, head, whole, rest, count_is)
 
@@ -143,10 +143,10 @@ frames_one : {V : Type 0} (frame : V → List ℕ → Type 0) (kind : V → Kind
 frames_one {V} frame kind a b single [] [] bytes len one other = refl
 frames_one {V} frame kind a b single [] (w ∷ ws) bytes len one other = absurd (omega (arith, len))
 frames_one {V} frame kind a b single (v ∷ vs) [] bytes len one other = absurd (omega (arith, len))
-frames_one {V} frame kind a b single (v ∷ vs) (w ∷ ws) bytes len (front, rest, both, is, k, more) (first, tail, parts, was, j, others) =
-    let same = single_front single v w front first rest tail is was (sym both ∙ parts) in
-    let behind = subst (AreFrames frame kind b ws) (sym same.1) others in
-    ap (λ (x : V). x ∷ vs) same.0 ∙ ap (λ (xs : List V). w ∷ xs) (frames_one frame kind a b single vs ws rest (omega (arith, len)) more behind)
+frames_one {V} frame kind a b single (v ∷ vs) (w ∷ ws) bytes len (prefix, rest, both, is, k, more) (first, tail, parts, was, j, others) =
+    let same = single_prefix single v w prefix first rest tail is was (sym both ∙ parts) in
+    let after = subst (AreFrames frame kind b ws) (sym same.1) others in
+    ap (λ (x : V). x ∷ vs) same.0 ∙ ap (λ (xs : List V). w ∷ xs) (frames_one frame kind a b single vs ws rest (omega (arith, len)) more after)
   where
     -- of two frames that begin the same bytes the one begins the other
     split : (xs ys zs ts : List ℕ) → xs ++ ys ≡ zs ++ ts → length xs ≤ length zs → (m : List ℕ) × (zs ≡ xs ++ m) × (ys ≡ m ++ ts)
@@ -156,15 +156,15 @@ frames_one {V} frame kind a b single (v ∷ vs) (w ∷ ws) bytes len (front, res
         let rest = split xs ys zs ts (ap (λ (l : List ℕ). drop 1 l) e) (omega (arith, le)) in
         (rest.0, ap (λ (l : List ℕ). z ∷ l) rest.1 ∙ ap (λ (n : ℕ). n ∷ (xs ++ rest.0)) (sym (ap (λ (l : List ℕ). slice_index l 0) e)), rest.2)
 
-    ends_with : {V : Type 0} (frame : V → List ℕ → Type 0) → AreSingle frame → (v w : V) (front first m rest tail : List ℕ) → frame v front → frame w first → first ≡ front ++ m → rest ≡ m ++ tail → (v ≡ w) × (rest ≡ tail)
-    ends_with frame single v w front first m rest tail is was longer behind =
-        let one = single v w front m is (subst (frame w) longer was) in
-        (one.0, behind ∙ ap (λ (l : List ℕ). l ++ tail) (nil_from_length m one.1))
+    ends_with : {V : Type 0} (frame : V → List ℕ → Type 0) → AreSingle frame → (v w : V) (prefix first m rest tail : List ℕ) → frame v prefix → frame w first → first ≡ prefix ++ m → rest ≡ m ++ tail → (v ≡ w) × (rest ≡ tail)
+    ends_with frame single v w prefix first m rest tail is was longer after =
+        let one = single v w prefix m is (subst (frame w) longer was) in
+        (one.0, after ∙ ap (λ (l : List ℕ). l ++ tail) (nil_from_length m one.1))
 
-    single_front : {V : Type 0} {frame : V → List ℕ → Type 0} → AreSingle frame → (v w : V) (front first rest tail : List ℕ) → frame v front → frame w first → front ++ rest ≡ first ++ tail → (v ≡ w) × (rest ≡ tail)
-    single_front {V} {frame} single v w front first rest tail is was e = elim (cases_le (length front) (length first)) [
-      | inl le ↦ (let m = split front rest first tail e le in ends_with frame single v w front first m.0 rest tail is was m.1 m.2)
-      | inr ge ↦ (let m = split first tail front rest (sym e) ge in let back = ends_with frame single w v first front m.0 tail rest was is m.1 m.2 in (sym back.0, sym back.1))
+    single_prefix : {V : Type 0} {frame : V → List ℕ → Type 0} → AreSingle frame → (v w : V) (prefix first rest tail : List ℕ) → frame v prefix → frame w first → prefix ++ rest ≡ first ++ tail → (v ≡ w) × (rest ≡ tail)
+    single_prefix {V} {frame} single v w prefix first rest tail is was e = elim (cases_le (length prefix) (length first)) [
+      | inl le ↦ (let m = split prefix rest first tail e le in ends_with frame single v w prefix first m.0 rest tail is was m.1 m.2)
+      | inr ge ↦ (let m = split first tail prefix rest (sym e) ge in let back = ends_with frame single w v first prefix m.0 tail rest was is m.1 m.2 in (sym back.0, sym back.1))
     ]
 
 -- the head tells how many, and after it stand their frames

@@ -26,7 +26,7 @@ use Rattle.link_frames.specs.Layout.{between, kind_at, kind_numbers, kinds_of, k
 use Rattle.link_frames.specs.Numbers.{Reads}
 use Rattle.link_frames.specs.Reply.{IsReplyFrame, content_at, reply_at, reply_by, bad_status_at}
 use Rattle.exact_parts.specs.Taking.{AreSingle}
-use Rattle.exact_parts.proofs.CallerLemmas.{Followed, Same, behind_single, made_single}
+use Rattle.exact_parts.proofs.CallerLemmas.{Followed, Same, after_single, made_single}
 use Rattle.link_frames.proofs.CallLemmas.{call_same}
 use Rattle.link_frames.proofs.HeadLemmas.{IsKindNumber, in_between, in_kinds, in_zero, is_between, is_zero, head_reads, kind_again, kinds_in, read_head}
 use Rattle.link_frames.proofs.NumbersLemmas.{filled_7, reads_single}
@@ -40,17 +40,17 @@ nothing_single v w xs more p q = (refl, omega (arith, ap length q, length-append
 items_single : (side : Side) (items : Items) (left : ℕ) → AreSingle (ItemsOf side items left)
 items_single side items zero = nothing_single
 items_single side items (suc left) =
-    behind_single (Reads (item_form side items) 7 []) (λ (ns : List ℕ). ItemsOf side items left) (reads_single (item_form side items) 7 []) (λ ns. items_single side items left)
+    after_single (Reads (item_form side items) 7 []) (λ (ns : List ℕ). ItemsOf side items left) (reads_single (item_form side items) 7 []) (λ ns. items_single side items left)
 
 first_single : (side : Side) (count : ℕ) → AreSingle (FirstOf side count)
 first_single side count =
-    behind_single (Reads (item_form side Either) 7 []) (λ (ns : List ℕ). ItemsOf side (items_at (slice_index ns 0)) (count - 1)) (reads_single (item_form side Either) 7 []) (λ ns. items_single side (items_at (slice_index ns 0)) (count - 1))
+    after_single (Reads (item_form side Either) 7 []) (λ (ns : List ℕ). ItemsOf side (items_at (slice_index ns 0)) (count - 1)) (reads_single (item_form side Either) 7 []) (λ ns. items_single side (items_at (slice_index ns 0)) (count - 1))
 
 count_single : (side : Side) (ns : List ℕ) → AreSingle (CountOf side ns)
 count_single side ns v w xs more p q = (p.0 ∙ sym q.0, (first_single side (slice_index ns 4) tt tt xs more p.1 q.1).1)
 
 parts_single : (side : Side) → AreSingle (BatchParts side)
-parts_single side = behind_single (Reads OfBatch 7 []) (CountOf side) (reads_single OfBatch 7 []) (count_single side)
+parts_single side = after_single (Reads OfBatch 7 []) (CountOf side) (reads_single OfBatch 7 []) (count_single side)
 
 record FilledItems (side : Side) (items : Items) (left : ℕ) : Type 0 where
   bytes : List ℕ
@@ -61,7 +61,7 @@ items_filled side items zero = record { bytes = []; are = refl }
 items_filled side items (suc left) =
     let f = filled_7 (item_form side items) in
     let r = items_filled side items left in
-    record { bytes = f.bytes ++ r.bytes; are = record { number = f.all; front = f.bytes; rest = r.bytes; is_first = f.reads; is_next = r.are; both = refl } }
+    record { bytes = f.bytes ++ r.bytes; are = record { number = f.all; prefix = f.bytes; rest = r.bytes; is_first = f.reads; is_next = r.are; both = refl } }
 
 pub items_followed : (side : Side) (items : Items) (left : ℕ) → Followed {N = List ℕ} {V = Unit {0}} (λ (ns : List ℕ). ItemsOf side items left)
 items_followed side items left =
@@ -83,7 +83,7 @@ count_followed side = record {
     refl,
     record {
       number = (filled_7 (item_form side Either)).all;
-      front = (filled_7 (item_form side Either)).bytes;
+      prefix = (filled_7 (item_form side Either)).bytes;
       rest = (items_filled side (items_at (slice_index (filled_7 (item_form side Either)).all 0)) (slice_index ns 4 - 1)).bytes;
       is_first = (filled_7 (item_form side Either)).reads;
       is_next = (items_filled side (items_at (slice_index (filled_7 (item_form side Either)).all 0)) (slice_index ns 4 - 1)).are;
@@ -102,7 +102,7 @@ pub count_in : (ns bytes : List ℕ) → Reads OfBatch 7 [] ns bytes → IsCount
 count_in ns bytes reads =
     let r = read_head OfBatch ns bytes reads in
     let b = is_between 1 64 r.head.reference r.is.allowed.reference in
-    rw r.all_is (record { some = b.from; few = b.upto })
+    rw r.all_is (record { some = b.from; few = b.up_to })
 
 pub record Headed (ns bytes : List ℕ) : Type 0 where
   pub count : IsCount (slice_index ns 4)
@@ -118,7 +118,7 @@ headed ns bytes reads =
     let k = is_between 19 19 h.kind r.is.kind in
     let a = r.is.allowed in
     let reference : h.reference ≡ slice_index ns 4 = sym (ap (λ (xs : List ℕ). slice_index xs 4) r.all_is) in
-    let is : h ≡ batch_head (slice_index ns 4) = head_is h 19 0 0 (slice_index ns 4) 0 0 (omega (arith, k.from, k.upto)) (is_zero h.detail a.detail) (is_zero h.flags a.flags) reference (is_zero h.first a.first) (is_zero h.last a.last) in
+    let is : h ≡ batch_head (slice_index ns 4) = head_is h 19 0 0 (slice_index ns 4) 0 0 (omega (arith, k.from, k.up_to)) (is_zero h.detail a.detail) (is_zero h.flags a.flags) reference (is_zero h.first a.first) (is_zero h.last a.last) in
     record { count = count_in ns bytes reads; spelled = r.spelled ∙ ap spelling is }
 
 pub batch_reads : (n : ℕ) → 1 ≤ n → n ≤ 64 → Reads OfBatch 7 [] (numbers_of (batch_head n)) (spelling (batch_head n))
@@ -148,29 +148,29 @@ with_span : (size : ℕ) (spans other : Spans) (n : ℕ) (bytes : List ℕ) → 
 with_span size spans other n bytes f h = record { size_is = f.size_is; are_bytes = f.are_bytes; number = f.number; span = h }
 
 wide : (items : Items) (n : ℕ) → InSpans (kinds_of_items items) n → IsKindNumber n
-wide Either n h = let upto = (is_between 8 9 n h).upto in record { from = omega (arith, (is_between 8 9 n h).from); upto = omega (arith, upto); named = λ e. absurd (omega (arith, e, upto)) }
-wide Gets n h = let upto = (is_between 8 8 n h).upto in record { from = omega (arith, (is_between 8 8 n h).from); upto = omega (arith, upto); named = λ e. absurd (omega (arith, e, upto)) }
-wide Sets n h = let upto = (is_between 9 9 n h).upto in record { from = omega (arith, (is_between 9 9 n h).from); upto = omega (arith, upto); named = λ e. absurd (omega (arith, e, upto)) }
+wide Either n h = let up_to = (is_between 8 9 n h).up_to in record { from = omega (arith, (is_between 8 9 n h).from); up_to = omega (arith, up_to); named = λ e. absurd (omega (arith, e, up_to)) }
+wide Gets n h = let up_to = (is_between 8 8 n h).up_to in record { from = omega (arith, (is_between 8 8 n h).from); up_to = omega (arith, up_to); named = λ e. absurd (omega (arith, e, up_to)) }
+wide Sets n h = let up_to = (is_between 9 9 n h).up_to in record { from = omega (arith, (is_between 9 9 n h).from); up_to = omega (arith, up_to); named = λ e. absurd (omega (arith, e, up_to)) }
 
 as_call : (items : Items) (ns bytes : List ℕ) → Reads (CallItem items) 7 [] ns bytes → Reads OfCall 7 [] ns bytes
 as_call items ns bytes p =
     let w = wide items p.number p.is_first.span in
-    record { number = p.number; front = p.front; rest = p.rest; is_first = with_span 1 (kinds_of_items items) kind_numbers p.number p.front p.is_first (in_kinds p.number w); is_next = p.is_next; both = p.both }
+    record { number = p.number; prefix = p.prefix; rest = p.rest; is_first = with_span 1 (kinds_of_items items) kind_numbers p.number p.prefix p.is_first (in_kinds p.number w); is_next = p.is_next; both = p.both }
 
 call_as : (items : Items) (ns bytes : List ℕ) → Reads OfCall 7 [] ns bytes → InSpans (kinds_of_items items) (slice_index ns 0) → Reads (CallItem items) 7 [] ns bytes
 call_as items ns bytes p h =
     let at : InSpans (kinds_of_items items) p.number = subst (InSpans (kinds_of_items items)) (sym (first_is OfCall ns bytes p)) h in
-    record { number = p.number; front = p.front; rest = p.rest; is_first = with_span 1 kind_numbers (kinds_of_items items) p.number p.front p.is_first at; is_next = p.is_next; both = p.both }
+    record { number = p.number; prefix = p.prefix; rest = p.rest; is_first = with_span 1 kind_numbers (kinds_of_items items) p.number p.prefix p.is_first at; is_next = p.is_next; both = p.both }
 
 as_reply : (items : Items) (ns bytes : List ℕ) → Reads (ReplyItem items) 7 [] ns bytes → Reads OfReply 7 [] ns bytes
 as_reply items ns bytes p =
     let w = wide items p.number p.is_first.span in
-    record { number = p.number; front = p.front; rest = p.rest; is_first = with_span 1 (kinds_of_items items) kind_numbers p.number p.front p.is_first (in_kinds p.number w); is_next = p.is_next; both = p.both }
+    record { number = p.number; prefix = p.prefix; rest = p.rest; is_first = with_span 1 (kinds_of_items items) kind_numbers p.number p.prefix p.is_first (in_kinds p.number w); is_next = p.is_next; both = p.both }
 
 reply_as : (items : Items) (ns bytes : List ℕ) → Reads OfReply 7 [] ns bytes → InSpans (kinds_of_items items) (slice_index ns 0) → Reads (ReplyItem items) 7 [] ns bytes
 reply_as items ns bytes p h =
     let at : InSpans (kinds_of_items items) p.number = subst (InSpans (kinds_of_items items)) (sym (first_is OfReply ns bytes p)) h in
-    record { number = p.number; front = p.front; rest = p.rest; is_first = with_span 1 kind_numbers (kinds_of_items items) p.number p.front p.is_first at; is_next = p.is_next; both = p.both }
+    record { number = p.number; prefix = p.prefix; rest = p.rest; is_first = with_span 1 kind_numbers (kinds_of_items items) p.number p.prefix p.is_first at; is_next = p.is_next; both = p.both }
 
 -- from one restriction to another
 again : (side : Side) (items other : Items) (ns bytes : List ℕ) → Reads (item_form side items) 7 [] ns bytes → InSpans (kinds_of_items other) (slice_index ns 0) → Reads (item_form side other) 7 [] ns bytes
@@ -194,7 +194,7 @@ of_sets = record { spans = refl; kind = refl; at = refl; item = in_between 8 9 9
 
 number_of_one : (items : Items) (one : Kind) (number n : ℕ) → IsOne items one number → InSpans (kinds_of_items items) n → n ≡ number
 number_of_one items one number n is h =
-    let b = is_between number number n (subst (λ (s : Spans). InSpans s n) is.spans h) in omega (arith, b.from, b.upto)
+    let b = is_between number number n (subst (λ (s : Spans). InSpans s n) is.spans h) in omega (arith, b.from, b.up_to)
 
 in_one : (items : Items) (one : Kind) (number n : ℕ) → IsOne items one number → n ≡ number → InSpans (kinds_of_items items) n
 in_one items one number n is e = subst (λ (s : Spans). InSpans s n) (sym is.spans) (in_between number number n (omega (arith, e)) (omega (arith, e)))
@@ -269,8 +269,8 @@ call_to items one number is ns bytes p =
     let e : slice_index ns 0 ≡ number = number_of_one items one number (slice_index ns 0) is (first_number (CallItem items) ns bytes p) in
     let name_is : 0 ≡ name_len ns = sym (bare_len items one number (slice_index ns 0) (slice_index ns 5) is e) in
     let token_is : 0 ≡ token_len ns = sym (bare_len items one number (slice_index ns 0) (slice_index ns 6) is e) in
-    let texts : TextsOf ns (frame_at ns) [] = record { number = tt; front = []; rest = []; is_first = record { size_is = name_is; text = IsUtf8-nil }; is_next = (refl, record { size_is = token_is; text = IsUtf8-nil }); both = refl } in (
-      call_same.to (frame_at ns) bytes (record { number = ns; front = bytes; rest = []; is_first = as_call items ns bytes p; is_next = texts; both = sym (append-nil bytes) }),
+    let texts : TextsOf ns (frame_at ns) [] = record { number = tt; prefix = []; rest = []; is_first = record { size_is = name_is; text = IsUtf8-nil }; is_next = (refl, record { size_is = token_is; text = IsUtf8-nil }); both = refl } in (
+      call_same.to (frame_at ns) bytes (record { number = ns; prefix = bytes; rest = []; is_first = as_call items ns bytes p; is_next = texts; both = sym (append-nil bytes) }),
       kind_by (kind_at (slice_index ns 0)) _ _ _ _ ∙ ap kind_at e ∙ is.kind,
     )
 
@@ -283,11 +283,11 @@ call_from items one number is v bytes f k =
     let ns = p.number in
     let call_is : v.call ≡ call_at ns = ap (λ (x : CallFrame). x.call) (source.is ∙ last.0) in
     let kind_is : kind_at (slice_index ns 0) ≡ one = sym (kind_by (kind_at (slice_index ns 0)) _ _ _ _) ∙ sym (ap kind_of call_is) ∙ k in
-    let e : slice_index ns 0 ≡ number = kind_number one (slice_index ns 0) number (kinds_in (slice_index ns 0) (first_number OfCall ns p.front p.is_first)) is.number_is kind_is in
-    let name_nil : q.front ≡ [] = nil_from_length q.front (q.is_first.size_is ∙ bare_len items one number (slice_index ns 0) (slice_index ns 5) is e) in
+    let e : slice_index ns 0 ≡ number = kind_number one (slice_index ns 0) number (kinds_in (slice_index ns 0) (first_number OfCall ns p.prefix p.is_first)) is.number_is kind_is in
+    let name_nil : q.prefix ≡ [] = nil_from_length q.prefix (q.is_first.size_is ∙ bare_len items one number (slice_index ns 0) (slice_index ns 5) is e) in
     let token_nil : q.rest ≡ [] = nil_from_length q.rest (last.1.size_is ∙ bare_len items one number (slice_index ns 0) (slice_index ns 6) is e) in
     let rest_nil : p.rest ≡ [] = q.both ∙ ap (λ (t : List ℕ). t ++ q.rest) name_nil ∙ token_nil in
-    let all : bytes ≡ p.front = p.both ∙ ap (λ (t : List ℕ). p.front ++ t) rest_nil ∙ append-nil p.front in
+    let all : bytes ≡ p.prefix = p.both ∙ ap (λ (t : List ℕ). p.prefix ++ t) rest_nil ∙ append-nil p.prefix in
     (ns, call_as items ns bytes (subst (Reads OfCall 7 [] ns) (sym all) p.is_first) (in_one items one number (slice_index ns 0) is e), e)
 
 call_frames : Frames Calls CallFrame IsCallFrame (λ (f : CallFrame). kind_of f.call)
@@ -332,7 +332,7 @@ either n h =
     let b = is_between 8 9 n h in
     elim (cases_lt n 9) [
       | inl lt ↦ record { one = K.Get; kinds = record { items = Gets; number = 8; is = of_gets }; which = inl refl; number = omega (arith, b.from, lt) }
-      | inr le ↦ record { one = K.Set; kinds = record { items = Sets; number = 9; is = of_sets }; which = inr refl; number = omega (arith, b.upto, le) }
+      | inr le ↦ record { one = K.Set; kinds = record { items = Sets; number = 9; is = of_sets }; which = inr refl; number = omega (arith, b.up_to, le) }
     ]
 
 kinds_form : (side : Side) (items : Items) → kinds_of (item_form side items) ≡ kinds_of_items items
@@ -349,21 +349,21 @@ module _ (side : Side) (V : Type 0) (frame : V → List ℕ → Type 0) (kind : 
   several items one number is zero bytes e = record { values = []; len = refl; are = e }
   several items one number is (suc left) bytes p =
       let r = several items one number is left p.rest p.is_next in
-      let v = fs.to items one number is p.number p.front p.is_first in
-      record { values = fs.make p.number ∷ r.values; len = ap suc r.len; are = (p.front, p.rest, p.both, v.0, v.1, r.are) }
+      let v = fs.to items one number is p.number p.prefix p.is_first in
+      record { values = fs.make p.number ∷ r.values; len = ap suc r.len; are = (p.prefix, p.rest, p.both, v.0, v.1, r.are) }
 
   item_of : (items : Items) (ns bytes : List ℕ) → Reads (item_form side items) 7 [] ns bytes → InSpans (kinds_of_items items) (slice_index ns 0)
   item_of items ns bytes p = subst (λ (s : Spans). InSpans s (slice_index ns 0)) (kinds_form side items) (first_number (item_form side items) ns bytes p)
 
   batch_of : (count : ℕ) (bytes : List ℕ) → BatchParts side count bytes → IsBatchOf frame kind count bytes
   batch_of count bytes p =
-      let h = headed p.number p.front p.is_first in
+      let h = headed p.number p.prefix p.is_first in
       let n = slice_index p.number 4 in
       let q = p.is_next.1 in
-      let e = either (slice_index q.number 0) (item_of Either q.number q.front q.is_first) in
+      let e = either (slice_index q.number 0) (item_of Either q.number q.prefix q.is_first) in
       let k = e.kinds in
       let items_is : items_at (slice_index q.number 0) ≡ k.items = ap items_at e.number ∙ k.is.at in
-      let first = fs.to k.items e.one k.number k.is q.number q.front (again side Either k.items q.number q.front q.is_first (in_one k.items e.one k.number (slice_index q.number 0) k.is e.number)) in
+      let first = fs.to k.items e.one k.number k.is q.number q.prefix (again side Either k.items q.number q.prefix q.is_first (in_one k.items e.one k.number (slice_index q.number 0) k.is e.number)) in
       let r = several k.items e.one k.number k.is (n - 1) q.rest (subst (λ (x : Items). ItemsOf side x (n - 1) tt q.rest) items_is q.is_next) in
       let len : suc (length r.values) ≡ n = omega (arith, r.len, h.count.some) in
       record {
@@ -375,41 +375,41 @@ module _ (side : Side) (V : Type 0) (frame : V → List ℕ → Type 0) (kind : 
           one = e.one;
           reads_or_sets = e.which;
           rest = p.rest;
-          frames = (q.front, q.rest, q.both, first.0, first.1, r.are);
+          frames = (q.prefix, q.rest, q.both, first.0, first.1, r.are);
           spelled = p.both ∙ ap (λ (t : List ℕ). t ++ p.rest) (h.spelled ∙ ap (λ (x : ℕ). spelling (batch_head x)) (sym len));
         };
       }
 
   items_from : (items : Items) (one : Kind) (number : ℕ) → IsOne items one number → (values : List V) (bytes : List ℕ) → AreFrames frame kind one values bytes → ItemsOf side items (length values) tt bytes
   items_from items one number is [] bytes e = e
-  items_from items one number is (v ∷ vs) bytes (front, rest, both, is_frame, is_kind, more) =
-      let f = fs.from items one number is v front is_frame is_kind in
-      record { number = f.0; front = front; rest = rest; is_first = f.1; is_next = items_from items one number is vs rest more; both = both }
+  items_from items one number is (v ∷ vs) bytes (prefix, rest, both, is_frame, is_kind, more) =
+      let f = fs.from items one number is v prefix is_frame is_kind in
+      record { number = f.0; prefix = prefix; rest = rest; is_first = f.1; is_next = items_from items one number is vs rest more; both = both }
 
   parts_of : (values : List V) (bytes : List ℕ) → IsBatch frame kind values bytes → BatchParts side (length values) bytes
   parts_of [] bytes b = absurd (omega (arith, b.some))
   parts_of (v ∷ vs) bytes b = parts_cons v vs bytes b b.frames
     where
       parts_cons : (v : V) (vs : List V) (bytes : List ℕ) (b : IsBatch frame kind (v ∷ vs) bytes) → AreFrames frame kind b.one (v ∷ vs) b.rest → BatchParts side (length (v ∷ vs)) bytes
-      parts_cons v vs bytes b (front, rest, both, is_frame, is_kind, more) =
+      parts_cons v vs bytes b (prefix, rest, both, is_frame, is_kind, more) =
           let k = kinds_of_one b.one b.reads_or_sets in
-          let f = fs.from k.items b.one k.number k.is v front is_frame is_kind in
+          let f = fs.from k.items b.one k.number k.is v prefix is_frame is_kind in
           let n = length (v ∷ vs) in
           let items_is : k.items ≡ items_at (slice_index f.0 0) = sym (ap items_at f.2 ∙ k.is.at) in
           let less : length vs ≡ n - 1 = omega arith in
           let either_in : InSpans (kinds_of_items Either) (slice_index f.0 0) = subst (InSpans (kinds_of_items Either)) (sym f.2) k.is.item in
           record {
             number = numbers_of (batch_head n);
-            front = spelling (batch_head n);
+            prefix = spelling (batch_head n);
             rest = b.rest;
             is_first = batch_reads n b.some b.few;
             is_next = (
               refl,
               record {
                 number = f.0;
-                front = front;
+                prefix = prefix;
                 rest = rest;
-                is_first = again side k.items Either f.0 front f.1 either_in;
+                is_first = again side k.items Either f.0 prefix f.1 either_in;
                 is_next = subst (λ (m : ℕ). ItemsOf side (items_at (slice_index f.0 0)) m tt rest) less (subst (λ (x : Items). ItemsOf side x (length vs) tt rest) items_is (items_from k.items b.one k.number k.is vs rest more));
                 both = both;
               },

@@ -22,7 +22,7 @@ use Rattle.link_frames.specs.Layout.{any_reference, between, kind_at, text_max, 
 use Rattle.link_frames.specs.Numbers.{Reads}
 use Rattle.exact_parts.specs.Taking.{AreSingle}
 use Rattle.link_frames.specs.Text.{IsText}
-use Rattle.exact_parts.proofs.CallerLemmas.{Followed, Same, behind_single, made_single}
+use Rattle.exact_parts.proofs.CallerLemmas.{Followed, Same, after_single, made_single}
 use Rattle.link_frames.proofs.HeadLemmas.{Allowed, IsHead, head_length, head_reads, head_same, in_any, in_between, in_kinds, in_zero, is_between, is_zero, kind_again, kind_small, kinds_in, number_in, read_head}
 use Rattle.link_frames.proofs.HeadLemmas as heads
 use Rattle.link_frames.proofs.NumbersLemmas.{reads_single}
@@ -85,9 +85,9 @@ call_allowed C.EnterEvent n t h r = record { detail = in_zero; flags = in_zero; 
 call_allowed C.EnterStep n t h r = record { detail = in_zero; flags = in_zero; reference = in_zero; first = in_zero; last = in_zero }
 call_allowed (C.DoStep at size) n t h r = record { detail = in_zero; flags = in_zero; reference = in_zero; first = in_any at r.first; last = in_any size r.last }
 call_allowed C.Update n t h r = record { detail = in_zero; flags = in_zero; reference = in_zero; first = in_zero; last = in_zero }
-call_allowed (C.Get kind reference) n t h r = record { detail = in_between 1 10 _ (type_in kind h).from (type_in kind h).upto; flags = in_zero; reference = reference_in reference r.reference; first = in_zero; last = in_zero }
+call_allowed (C.Get kind reference) n t h r = record { detail = in_between 1 10 _ (type_in kind h).from (type_in kind h).up_to; flags = in_zero; reference = reference_in reference r.reference; first = in_zero; last = in_zero }
 call_allowed (C.Set kind reference value) n t h r = record {
-  detail = in_between 1 10 _ (type_in kind h.0).from (type_in kind h.0).upto;
+  detail = in_between 1 10 _ (type_in kind h.0).from (type_in kind h.0).up_to;
   flags = in_zero;
   reference = reference_in reference r.reference;
   first = subst (λ (k : PortType). InSpans (words k) (word_of value)) (sym (type_again kind h.0)) (word_in kind value h.1);
@@ -113,8 +113,8 @@ detail_small C.EnterEvent n t h = omega arith
 detail_small C.EnterStep n t h = omega arith
 detail_small (C.DoStep at size) n t h = omega arith
 detail_small C.Update n t h = omega arith
-detail_small (C.Get kind reference) n t h = omega (arith, (type_in kind h).upto)
-detail_small (C.Set kind reference value) n t h = omega (arith, (type_in kind h.0).upto)
+detail_small (C.Get kind reference) n t h = omega (arith, (type_in kind h).up_to)
+detail_small (C.Set kind reference value) n t h = omega (arith, (type_in kind h.0).up_to)
 detail_small (C.GetClock reference) n t h = omega arith
 detail_small (C.SetClock reference) n t h = omega arith
 detail_small (C.GetInterval reference) n t h = omega arith
@@ -159,15 +159,15 @@ plain_again : (kind : Kind) (d f r a b : ℕ) → InSpans (between 0 0) d → In
 plain_again kind d f r a b hd hf hr ha hb = head_same _ _ _ _ _ _ _ _ _ _ _ _ refl (sym (is_zero d hd)) (sym (is_zero f hf)) (sym (is_zero r hr)) (sym (is_zero a ha)) (sym (is_zero b hb))
 
 says : (kind : Kind) (k d f r a b : ℕ) → Allowed OfCall kind (head k d f r a b) → Says kind d f r a b
-says K.Instantiate k d f r a b h = record { head_is = head_same _ 0 0 _ a b _ d f r a b refl (sym (is_zero d h.detail)) (sym (is_zero f h.flags)) (bits_again r (is_between 0 7 r h.reference).upto) refl refl; can_be_sent = ((is_between 1 text_max a h.first).from, (is_between 1 text_max a h.first).upto, (is_between 0 text_max b h.last).upto) }
+says K.Instantiate k d f r a b h = record { head_is = head_same _ 0 0 _ a b _ d f r a b refl (sym (is_zero d h.detail)) (sym (is_zero f h.flags)) (bits_again r (is_between 0 7 r h.reference).up_to) refl refl; can_be_sent = ((is_between 1 text_max a h.first).from, (is_between 1 text_max a h.first).up_to, (is_between 0 text_max b h.last).up_to) }
 says K.EnterInitialization k d f r a b h = record { head_is = head_same _ 0 0 0 a b _ d f r a b refl (sym (is_zero d h.detail)) (sym (is_zero f h.flags)) (sym (is_zero r h.reference)) refl refl; can_be_sent = tt }
 says K.ExitInitialization k d f r a b h = record { head_is = plain_again K.ExitInitialization d f r a b h.detail h.flags h.reference h.first h.last; can_be_sent = tt }
 says K.EnterEvent k d f r a b h = record { head_is = plain_again K.EnterEvent d f r a b h.detail h.flags h.reference h.first h.last; can_be_sent = tt }
 says K.EnterStep k d f r a b h = record { head_is = plain_again K.EnterStep d f r a b h.detail h.flags h.reference h.first h.last; can_be_sent = tt }
 says K.DoStep k d f r a b h = record { head_is = head_same _ 0 0 0 a b _ d f r a b refl (sym (is_zero d h.detail)) (sym (is_zero f h.flags)) (sym (is_zero r h.reference)) refl refl; can_be_sent = tt }
 says K.Update k d f r a b h = record { head_is = plain_again K.Update d f r a b h.detail h.flags h.reference h.first h.last; can_be_sent = tt }
-says K.Get k d f r a b h = record { head_is = head_same _ _ 0 r 0 0 _ d f r a b refl (types.number_again d (is_between 1 10 d h.detail).from (is_between 1 10 d h.detail).upto) (sym (is_zero f h.flags)) refl (sym (is_zero a h.first)) (sym (is_zero b h.last)); can_be_sent = no_clock d (is_between 1 10 d h.detail).from (is_between 1 10 d h.detail).upto }
-says K.Set k d f r a b h = record { head_is = head_same _ _ 0 r _ 0 _ d f r a b refl (types.number_again d (is_between 1 10 d h.detail).from (is_between 1 10 d h.detail).upto) (sym (is_zero f h.flags)) refl (valued (type_at d) a h.first).is (sym (is_zero b h.last)); can_be_sent = (no_clock d (is_between 1 10 d h.detail).from (is_between 1 10 d h.detail).upto, (valued (type_at d) a h.first).fits) }
+says K.Get k d f r a b h = record { head_is = head_same _ _ 0 r 0 0 _ d f r a b refl (types.number_again d (is_between 1 10 d h.detail).from (is_between 1 10 d h.detail).up_to) (sym (is_zero f h.flags)) refl (sym (is_zero a h.first)) (sym (is_zero b h.last)); can_be_sent = no_clock d (is_between 1 10 d h.detail).from (is_between 1 10 d h.detail).up_to }
+says K.Set k d f r a b h = record { head_is = head_same _ _ 0 r _ 0 _ d f r a b refl (types.number_again d (is_between 1 10 d h.detail).from (is_between 1 10 d h.detail).up_to) (sym (is_zero f h.flags)) refl (valued (type_at d) a h.first).is (sym (is_zero b h.last)); can_be_sent = (no_clock d (is_between 1 10 d h.detail).from (is_between 1 10 d h.detail).up_to, (valued (type_at d) a h.first).fits) }
 says K.GetClock k d f r a b h = record { head_is = head_same _ 0 0 r 0 0 _ d f r a b refl (sym (is_zero d h.detail)) (sym (is_zero f h.flags)) refl (sym (is_zero a h.first)) (sym (is_zero b h.last)); can_be_sent = tt }
 says K.SetClock k d f r a b h = record { head_is = head_same _ 0 0 r 0 0 _ d f r a b refl (sym (is_zero d h.detail)) (sym (is_zero f h.flags)) refl (sym (is_zero a h.first)) (sym (is_zero b h.last)); can_be_sent = tt }
 says K.GetInterval k d f r a b h = record { head_is = head_same _ 0 0 r 0 0 _ d f r a b refl (sym (is_zero d h.detail)) (sym (is_zero f h.flags)) refl (sym (is_zero a h.first)) (sym (is_zero b h.last)); can_be_sent = tt }
@@ -270,7 +270,7 @@ token_length C.Serialize token = refl
 token_length (C.Deserialize room point stop) token = refl
 
 text_most : (kind : Kind) (k d f r a b : ℕ) → Allowed OfCall kind (head k d f r a b) → (text_len kind a ≤ text_max) × (text_len kind b ≤ text_max)
-text_most K.Instantiate k d f r a b h = ((is_between 1 text_max a h.first).upto, (is_between 0 text_max b h.last).upto)
+text_most K.Instantiate k d f r a b h = ((is_between 1 text_max a h.first).up_to, (is_between 0 text_max b h.last).up_to)
 text_most K.EnterInitialization k d f r a b h = (omega arith, omega arith)
 text_most K.ExitInitialization k d f r a b h = (omega arith, omega arith)
 text_most K.EnterEvent k d f r a b h = (omega arith, omega arith)
@@ -339,15 +339,15 @@ frame_of_head h is name token bytes name_is token_is name_text token_text spelle
 
 parts_frame : (frame : CallFrame) (bytes : List ℕ) → PartsOf frame bytes → Told frame bytes
 parts_frame frame bytes p =
-    let r = read_head OfCall p.number p.front p.is_first in
+    let r = read_head OfCall p.number p.prefix p.is_first in
     let q = p.is_next in
     let last = q.is_next in
-    let name_is : length q.front ≡ name_len (numbers_of r.head) = q.is_first.size_is ∙ ap name_len r.all_is in
+    let name_is : length q.prefix ≡ name_len (numbers_of r.head) = q.is_first.size_is ∙ ap name_len r.all_is in
     let token_is : length q.rest ≡ token_len (numbers_of r.head) = last.1.size_is ∙ ap token_len r.all_is in
-    let spelled : bytes ≡ spelling r.head ++ (q.front ++ q.rest) = grouped bytes p.front q.front p.rest q.rest p.both q.both ∙ ap (λ (t : List ℕ). t ++ (q.front ++ q.rest)) r.spelled in
+    let spelled : bytes ≡ spelling r.head ++ (q.prefix ++ q.rest) = grouped bytes p.prefix q.prefix p.rest q.rest p.both q.both ∙ ap (λ (t : List ℕ). t ++ (q.prefix ++ q.rest)) r.spelled in
     let frame_is : frame ≡ frame_at (numbers_of r.head) = last.0 ∙ ap frame_at r.all_is in
     subst (λ (f : CallFrame). Told f bytes) (sym frame_is)
-    (frame_of_head r.head r.is q.front q.rest bytes name_is token_is q.is_first.text last.1.text spelled)
+    (frame_of_head r.head r.is q.prefix q.rest bytes name_is token_is q.is_first.text last.1.text spelled)
 
 frame_same : (call call' : Call) (name name' token token' : Range ℕ) → call ≡ call' → name ≡ name' → token ≡ token' → ◌≡◌ {A = CallFrame} (record { call = call; name = name; token = token }) (record { call = call'; name = name'; token = token' })
 frame_same call call' name name' token token' e1 e2 e3 = rw (e1, e2, e3) refl
@@ -366,12 +366,12 @@ frame_parts frame bytes f =
     let token_at : frame.token ≡ range (24 + name_len (numbers_of h)) (24 + name_len (numbers_of h) + token_len (numbers_of h)) = f.token_at ∙ rw (name_is, token_is) refl in
     record {
       number = numbers_of h;
-      front = spelling h;
+      prefix = spelling h;
       rest = sent frame.call f.name ++ sent frame.call f.token;
       is_first = head_reads OfCall h (call_head frame.call n t i.can_be_sent i.in_range);
       is_next = record {
         number = tt;
-        front = sent frame.call f.name;
+        prefix = sent frame.call f.name;
         rest = sent frame.call f.token;
         is_first = record { size_is = name_is; text = sent_text frame.call f.name i.name_text };
         is_next = (frame_same _ _ _ _ _ _ call_is name_at token_at, record { size_is = token_is; text = sent_text frame.call f.token i.token_text });
@@ -491,10 +491,10 @@ token_single : (numbers : List ℕ) → AreSingle (TokenOf numbers)
 token_single numbers v w xs more p q = (p.0 ∙ sym q.0, (text_single (token_len numbers) tt tt xs more p.1 q.1).1)
 
 texts_single : (numbers : List ℕ) → AreSingle (TextsOf numbers)
-texts_single numbers = behind_single (IsText (name_len numbers)) (λ (name : Unit {0}). TokenOf numbers) (text_single (name_len numbers)) (λ name. token_single numbers)
+texts_single numbers = after_single (IsText (name_len numbers)) (λ (name : Unit {0}). TokenOf numbers) (text_single (name_len numbers)) (λ name. token_single numbers)
 
 pub call_single : AreSingle IsCallFrame
-call_single = made_single PartsOf the_frame IsCallFrame call_same (behind_single (Reads OfCall 7 []) TextsOf (reads_single OfCall 7 []) texts_single)
+call_single = made_single PartsOf the_frame IsCallFrame call_same (after_single (Reads OfCall 7 []) TextsOf (reads_single OfCall 7 []) texts_single)
 
 pub token_followed : (numbers : List ℕ) → Followed {N = Unit {0}} {V = CallFrame} (λ (name : Unit {0}). TokenOf numbers)
 token_followed numbers =
@@ -505,7 +505,7 @@ pub texts_followed : Followed TextsOf
 texts_followed = record {
   value = frame_at;
   bytes = λ numbers. _;
-  spelled = λ numbers. record { number = tt; front = _; rest = _; is_first = fill_is_text (name_len numbers); is_next = (refl, fill_is_text (token_len numbers)); both = refl };
+  spelled = λ numbers. record { number = tt; prefix = _; rest = _; is_first = fill_is_text (name_len numbers); is_next = (refl, fill_is_text (token_len numbers)); both = refl };
 }
 
 -- ---- what is put is taken

@@ -58,32 +58,32 @@ four_bytes a b x y h1 h2 ok later last =
 
 -- ---- the bytes that a text begins with, where the first isn't ASCII
 
-pub record CharFront (bs : List ℕ) : Type 0 where
+pub record CharPrefix (bs : List ℕ) : Type 0 where
   pub room : has_room (get_or bs 0 0) (length bs) ≡ true
   pub second : second_ok (get_or bs 0 0) (get_or bs 1 0) ≡ true
   pub third : 0xE0 ≤ get_or bs 0 0 → later_ok (get_or bs 2 0) ≡ true
   pub fourth : 0xF0 ≤ get_or bs 0 0 → later_ok (get_or bs 3 0) ≡ true
 
-front_of_two : (c : ℕ) (more : List ℕ) → 128 ≤ c → c < 2048 → CharFront (encode_utf8 c ++ more)
+prefix_of_two : (c : ℕ) (more : List ℕ) → 128 ≤ c → c < 2048 → CharPrefix (encode_utf8 c ++ more)
 unfolding encode_utf8
-front_of_two c more low high =
+prefix_of_two c more low high =
     let is : encode_utf8 c ≡ (192 + c / 64) ∷ (128 + c % 64) ∷ [] = rw (ltb_false c 128 low, ltb_true c 2048 high) refl in
-    subst (λ (xs : List ℕ). CharFront (xs ++ more)) (sym is)
+    subst (λ (xs : List ℕ). CharPrefix (xs ++ more)) (sym is)
     (record { room = grind (arith, nat_tests); second = grind (arith, nat_tests); third = λ h. absurd (omega arith); fourth = λ h. absurd (omega arith) })
 
-front_of_three : (c : ℕ) (more : List ℕ) → IsScalar c → 2048 ≤ c → c < 65536 → CharFront (encode_utf8 c ++ more)
+prefix_of_three : (c : ℕ) (more : List ℕ) → IsScalar c → 2048 ≤ c → c < 65536 → CharPrefix (encode_utf8 c ++ more)
 unfolding encode_utf8
-front_of_three c more scalar low high =
+prefix_of_three c more scalar low high =
     let is : encode_utf8 c ≡ (224 + c / 4096) ∷ (128 + c / 64 % 64) ∷ (128 + c % 64) ∷ [] = rw (ltb_false c 128 (omega arith), ltb_false c 2048 low, ltb_true c 65536 high) refl in
-    subst (λ (xs : List ℕ). CharFront (xs ++ more)) (sym is)
+    subst (λ (xs : List ℕ). CharPrefix (xs ++ more)) (sym is)
     (record { room = grind (arith, nat_tests); second = grind (arith, nat_tests); third = λ h. grind (arith, nat_tests); fourth = λ h. absurd (omega arith) })
 
-front_of_four : (c : ℕ) (more : List ℕ) → IsScalar c → 65536 ≤ c → CharFront (encode_utf8 c ++ more)
+prefix_of_four : (c : ℕ) (more : List ℕ) → IsScalar c → 65536 ≤ c → CharPrefix (encode_utf8 c ++ more)
 unfolding encode_utf8
-front_of_four c more scalar low =
+prefix_of_four c more scalar low =
     let high : c < 1114112 = grind (arith, nat_tests) in
     let is : encode_utf8 c ≡ (240 + c / 262144) ∷ (128 + c / 4096 % 64) ∷ (128 + c / 64 % 64) ∷ (128 + c % 64) ∷ [] = rw (ltb_false c 128 (omega arith), ltb_false c 2048 (omega arith), ltb_false c 65536 low) refl in
-    subst (λ (xs : List ℕ). CharFront (xs ++ more)) (sym is)
+    subst (λ (xs : List ℕ). CharPrefix (xs ++ more)) (sym is)
     (record { room = grind (arith, nat_tests); second = grind (arith, nat_tests); third = λ h. grind (arith, nat_tests); fourth = λ h. grind (arith, nat_tests) })
 
 -- what a text begins with
@@ -105,16 +105,16 @@ pub first_char : (bs : List ℕ) → IsUtf8 bs → 0 < length bs → FirstChar b
 first_char bs text some = first_of bs text.0 text.1.0 text.1.1 some
 
 -- a text begins with an ASCII byte or with the bytes of a longer character
-pub char_front : (bs : List ℕ) → IsUtf8 bs → 0 < length bs → 128 ≤ get_or bs 0 0 → CharFront bs
-char_front bs text some high =
+pub char_prefix : (bs : List ℕ) → IsUtf8 bs → 0 < length bs → 128 ≤ get_or bs 0 0 → CharPrefix bs
+char_prefix bs text some high =
     let f = first_char bs text some in
-    subst CharFront (sym f.is)
+    subst CharPrefix (sym f.is)
     (elim (leb_tells 65536 f.char) [
-      | inl p ↦ front_of_four f.char f.rest f.scalar p.1
+      | inl p ↦ prefix_of_four f.char f.rest f.scalar p.1
       | inr p ↦ elim (leb_tells 2048 f.char) [
-        | inl q ↦ front_of_three f.char f.rest f.scalar q.1 p.1
+        | inl q ↦ prefix_of_three f.char f.rest f.scalar q.1 p.1
         | inr q ↦ elim (leb_tells 128 f.char) [
-          | inl r ↦ front_of_two f.char f.rest r.1 q.1
+          | inl r ↦ prefix_of_two f.char f.rest r.1 q.1
           | inr r ↦
               let ascii : encode_utf8 f.char ≡ f.char ∷ [] = encode_ascii f.char r.1 in
               let first : get_or bs 0 0 ≡ f.char = ap (λ (xs : List ℕ). get_or xs 0 0) (f.is ∙ ap (λ (xs : List ℕ). xs ++ f.rest) ascii) in

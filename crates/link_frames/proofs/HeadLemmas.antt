@@ -39,30 +39,30 @@ number_again K.Deserialize = refl
 
 pub record IsKindNumber (n : ℕ) : Type 0 where
   pub from : 1 ≤ n
-  pub upto : n ≤ 21
+  pub up_to : n ≤ 21
   pub named : n ≡ 19 → ⊥
 
 pub number_in : (kind : Kind) → IsKindNumber (facts_of kind).number
-number_in K.Instantiate = record { from = omega arith; upto = omega arith; named = λ e. absurd (omega (arith, e)) }
-number_in K.EnterInitialization = record { from = omega arith; upto = omega arith; named = λ e. absurd (omega (arith, e)) }
-number_in K.ExitInitialization = record { from = omega arith; upto = omega arith; named = λ e. absurd (omega (arith, e)) }
-number_in K.EnterEvent = record { from = omega arith; upto = omega arith; named = λ e. absurd (omega (arith, e)) }
-number_in K.EnterStep = record { from = omega arith; upto = omega arith; named = λ e. absurd (omega (arith, e)) }
-number_in K.DoStep = record { from = omega arith; upto = omega arith; named = λ e. absurd (omega (arith, e)) }
-number_in K.Update = record { from = omega arith; upto = omega arith; named = λ e. absurd (omega (arith, e)) }
-number_in K.Get = record { from = omega arith; upto = omega arith; named = λ e. absurd (omega (arith, e)) }
-number_in K.Set = record { from = omega arith; upto = omega arith; named = λ e. absurd (omega (arith, e)) }
-number_in K.GetClock = record { from = omega arith; upto = omega arith; named = λ e. absurd (omega (arith, e)) }
-number_in K.SetClock = record { from = omega arith; upto = omega arith; named = λ e. absurd (omega (arith, e)) }
-number_in K.GetInterval = record { from = omega arith; upto = omega arith; named = λ e. absurd (omega (arith, e)) }
-number_in K.GetShift = record { from = omega arith; upto = omega arith; named = λ e. absurd (omega (arith, e)) }
-number_in K.Save = record { from = omega arith; upto = omega arith; named = λ e. absurd (omega (arith, e)) }
-number_in K.Restore = record { from = omega arith; upto = omega arith; named = λ e. absurd (omega (arith, e)) }
-number_in K.Free = record { from = omega arith; upto = omega arith; named = λ e. absurd (omega (arith, e)) }
-number_in K.Terminate = record { from = omega arith; upto = omega arith; named = λ e. absurd (omega (arith, e)) }
-number_in K.FreeInstance = record { from = omega arith; upto = omega arith; named = λ e. absurd (omega (arith, e)) }
-number_in K.Serialize = record { from = omega arith; upto = omega arith; named = λ e. absurd (omega (arith, e)) }
-number_in K.Deserialize = record { from = omega arith; upto = omega arith; named = λ e. absurd (omega (arith, e)) }
+number_in K.Instantiate = record { from = omega arith; up_to = omega arith; named = λ e. absurd (omega (arith, e)) }
+number_in K.EnterInitialization = record { from = omega arith; up_to = omega arith; named = λ e. absurd (omega (arith, e)) }
+number_in K.ExitInitialization = record { from = omega arith; up_to = omega arith; named = λ e. absurd (omega (arith, e)) }
+number_in K.EnterEvent = record { from = omega arith; up_to = omega arith; named = λ e. absurd (omega (arith, e)) }
+number_in K.EnterStep = record { from = omega arith; up_to = omega arith; named = λ e. absurd (omega (arith, e)) }
+number_in K.DoStep = record { from = omega arith; up_to = omega arith; named = λ e. absurd (omega (arith, e)) }
+number_in K.Update = record { from = omega arith; up_to = omega arith; named = λ e. absurd (omega (arith, e)) }
+number_in K.Get = record { from = omega arith; up_to = omega arith; named = λ e. absurd (omega (arith, e)) }
+number_in K.Set = record { from = omega arith; up_to = omega arith; named = λ e. absurd (omega (arith, e)) }
+number_in K.GetClock = record { from = omega arith; up_to = omega arith; named = λ e. absurd (omega (arith, e)) }
+number_in K.SetClock = record { from = omega arith; up_to = omega arith; named = λ e. absurd (omega (arith, e)) }
+number_in K.GetInterval = record { from = omega arith; up_to = omega arith; named = λ e. absurd (omega (arith, e)) }
+number_in K.GetShift = record { from = omega arith; up_to = omega arith; named = λ e. absurd (omega (arith, e)) }
+number_in K.Save = record { from = omega arith; up_to = omega arith; named = λ e. absurd (omega (arith, e)) }
+number_in K.Restore = record { from = omega arith; up_to = omega arith; named = λ e. absurd (omega (arith, e)) }
+number_in K.Free = record { from = omega arith; up_to = omega arith; named = λ e. absurd (omega (arith, e)) }
+number_in K.Terminate = record { from = omega arith; up_to = omega arith; named = λ e. absurd (omega (arith, e)) }
+number_in K.FreeInstance = record { from = omega arith; up_to = omega arith; named = λ e. absurd (omega (arith, e)) }
+number_in K.Serialize = record { from = omega arith; up_to = omega arith; named = λ e. absurd (omega (arith, e)) }
+number_in K.Deserialize = record { from = omega arith; up_to = omega arith; named = λ e. absurd (omega (arith, e)) }
 
 pub kind_again : (n : ℕ) → IsKindNumber n → (facts_of (kind_at n)).number ≡ n
 kind_again zero h = absurd (omega (arith, h.from))
@@ -87,22 +87,22 @@ kind_again (suc (suc (suc (suc (suc (suc (suc (suc (suc (suc (suc (suc (suc (suc
 kind_again (suc (suc (suc (suc (suc (suc (suc (suc (suc (suc (suc (suc (suc (suc (suc (suc (suc (suc (suc zero))))))))))))))))))) h = absurd (h.named refl)
 kind_again (suc (suc (suc (suc (suc (suc (suc (suc (suc (suc (suc (suc (suc (suc (suc (suc (suc (suc (suc (suc zero)))))))))))))))))))) h = refl
 kind_again (suc (suc (suc (suc (suc (suc (suc (suc (suc (suc (suc (suc (suc (suc (suc (suc (suc (suc (suc (suc (suc zero))))))))))))))))))))) h = refl
-kind_again (suc (suc (suc (suc (suc (suc (suc (suc (suc (suc (suc (suc (suc (suc (suc (suc (suc (suc (suc (suc (suc (suc n)))))))))))))))))))))) h = absurd (omega (arith, h.upto))
+kind_again (suc (suc (suc (suc (suc (suc (suc (suc (suc (suc (suc (suc (suc (suc (suc (suc (suc (suc (suc (suc (suc (suc n)))))))))))))))))))))) h = absurd (omega (arith, h.up_to))
 
 -- ---- numbers in spans
 
 pub in_between : (low high n : ℕ) → low ≤ n → n ≤ high → InSpans (between low high) n
-in_between low high n le ge = inl (record { from = le; upto = ge })
+in_between low high n le ge = inl (record { from = le; up_to = ge })
 
 pub record IsBetween (low high n : ℕ) : Type 0 where
   pub from : low ≤ n
-  pub upto : n ≤ high
+  pub up_to : n ≤ high
 
 pub is_between : (low high n : ℕ) → InSpans (between low high) n → IsBetween low high n
 is_between low high n h =
     elim h [
-      | inl s ↦ record { from = s.from; upto = s.upto }
-      | inr s ↦ record { from = s.from; upto = s.upto }
+      | inl s ↦ record { from = s.from; up_to = s.up_to }
+      | inr s ↦ record { from = s.from; up_to = s.up_to }
     ]
 
 -- after 18 comes 20
@@ -115,22 +115,22 @@ twenty n late other = (elim (cases_lt n 20) [
 -- a kind's number lies in the spans, and what lies in them is one
 pub in_kinds : (n : ℕ) → IsKindNumber n → InSpans kind_numbers n
 in_kinds n h = (elim (cases_lt 18 n) [
-  | inl late ↦ inr (record { from = twenty n late h.named; upto = h.upto })
-  | inr early ↦ inl (record { from = h.from; upto = early })
+  | inl late ↦ inr (record { from = twenty n late h.named; up_to = h.up_to })
+  | inr early ↦ inl (record { from = h.from; up_to = early })
 ])
 
 pub kinds_in : (n : ℕ) → InSpans kind_numbers n → IsKindNumber n
 kinds_in n h =
     elim h [
-      | inl s ↦ let upto = s.upto in record { from = s.from; upto = omega (arith, upto); named = λ e. absurd (omega (arith, e, upto)) }
-      | inr s ↦ let from = s.from in record { from = omega (arith, from); upto = s.upto; named = λ e. absurd (omega (arith, e, from)) }
+      | inl s ↦ let up_to = s.up_to in record { from = s.from; up_to = omega (arith, up_to); named = λ e. absurd (omega (arith, e, up_to)) }
+      | inr s ↦ let from = s.from in record { from = omega (arith, from); up_to = s.up_to; named = λ e. absurd (omega (arith, e, from)) }
     ]
 
 pub kind_small : (kind : Kind) → (facts_of kind).number < 256
-kind_small kind = let k = number_in kind in omega (arith, k.upto)
+kind_small kind = let k = number_in kind in omega (arith, k.up_to)
 
 pub is_zero : (n : ℕ) → InSpans zero_only n → n ≡ 0
-is_zero n h = omega (arith, (is_between 0 0 n h).upto)
+is_zero n h = omega (arith, (is_between 0 0 n h).up_to)
 
 pub in_zero : InSpans zero_only 0
 in_zero = in_between 0 0 0 (omega arith) (omega arith)
@@ -169,43 +169,43 @@ head_reads form h is =
     let a = is.allowed in
     record {
       number = h.kind;
-      front = h.kind ∷ [];
+      prefix = h.kind ∷ [];
       rest = _;
       both = refl;
       is_first = field_1 (kinds_of form) h.kind is.small is.kind;
       is_next = record {
         number = h.detail;
-        front = h.detail ∷ [];
+        prefix = h.detail ∷ [];
         rest = _;
         both = refl;
         is_first = field_1 _ h.detail is.detail a.detail;
         is_next = record {
           number = h.flags;
-          front = h.flags ∷ [];
+          prefix = h.flags ∷ [];
           rest = _;
           both = refl;
           is_first = field_1 _ h.flags is.flags a.flags;
           is_next = record {
             number = 0;
-            front = 0 ∷ [];
+            prefix = 0 ∷ [];
             rest = _;
             both = refl;
             is_first = field_1 zero_only 0 (omega arith) in_zero;
             is_next = record {
               number = h.reference;
-              front = to_be_bytes w32 h.reference;
+              prefix = to_be_bytes w32 h.reference;
               rest = _;
               both = refl;
               is_first = field_4 _ h.reference is.in_range.reference a.reference;
               is_next = record {
                 number = h.first;
-                front = to_be_bytes w64 h.first;
+                prefix = to_be_bytes w64 h.first;
                 rest = _;
                 both = refl;
                 is_first = field_8 _ h.first is.in_range.first a.first;
                 is_next = record {
                   number = h.last;
-                  front = to_be_bytes w64 h.last;
+                  prefix = to_be_bytes w64 h.last;
                   rest = [];
                   both = sym (append-nil (to_be_bytes w64 h.last));
                   is_first = field_8 _ h.last is.in_range.last a.last;
@@ -240,13 +240,13 @@ read_head form all bytes p1 =
     let p7 = p6.is_next in
     let end = p7.is_next in
     let zero_is : p4.number ≡ 0 = is_zero p4.number p4.is_first.span in
-    let o1 = only_1 _ p1.number p1.front p1.is_first in
-    let o2 = only_1 _ p2.number p2.front p2.is_first in
-    let o3 = only_1 _ p3.number p3.front p3.is_first in
-    let o4 = only_1 _ p4.number p4.front p4.is_first in
-    let o5 = only_4 _ p5.number p5.front p5.is_first in
-    let o6 = only_8 _ p6.number p6.front p6.is_first in
-    let o7 = only_8 _ p7.number p7.front p7.is_first in
+    let o1 = only_1 _ p1.number p1.prefix p1.is_first in
+    let o2 = only_1 _ p2.number p2.prefix p2.is_first in
+    let o3 = only_1 _ p3.number p3.prefix p3.is_first in
+    let o4 = only_1 _ p4.number p4.prefix p4.is_first in
+    let o5 = only_4 _ p5.number p5.prefix p5.is_first in
+    let o6 = only_8 _ p6.number p6.prefix p6.is_first in
+    let o7 = only_8 _ p7.number p7.prefix p7.is_first in
     record {
       head = head p1.number p2.number p3.number p5.number p6.number p7.number;
       is = record {
@@ -258,6 +258,6 @@ read_head form all bytes p1 =
         allowed = record { detail = p2.is_first.span; flags = p3.is_first.span; reference = p5.is_first.span; first = p6.is_first.span; last = p7.is_first.span };
       };
       all_is = end.0 ∙ ap (λ (z : ℕ). p1.number ∷ p2.number ∷ p3.number ∷ z ∷ p5.number ∷ p6.number ∷ p7.number ∷ []) zero_is;
-      spelled = joined bytes p1.front p1.rest p2.front p2.rest p3.front p3.rest p4.front p4.rest p5.front p5.rest p6.front p6.rest p7.front p7.rest _ _ _ p1.number p2.number p3.number p4.number
+      spelled = joined bytes p1.prefix p1.rest p2.prefix p2.rest p3.prefix p3.rest p4.prefix p4.rest p5.prefix p5.rest p6.prefix p6.rest p7.prefix p7.rest _ _ _ p1.number p2.number p3.number p4.number
           p1.both p2.both p3.both p4.both p5.both p6.both p7.both end.1 o1.is o2.is o3.is o4.is zero_is o5.is o6.is o7.is;
     }

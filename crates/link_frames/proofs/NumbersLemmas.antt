@@ -7,8 +7,8 @@ use Rattle.exact_parts.specs.declared.taken.Taken.{Taken}
 use Rattle.exact_parts.specs.Field.{Field, IsSane}
 use Rattle.link_frames.specs.Layout.{size_at, spans_at}
 use Rattle.link_frames.specs.Numbers.{Reads}
-use Rattle.exact_parts.specs.Taking.{AreSingle, Behind, Breaks, Gets, IsFront, Takes, moved}
-use Rattle.exact_parts.proofs.CallerLemmas.{Followed, behind_single, field_filled, field_single, first_bad, first_more, next_takes}
+use Rattle.exact_parts.specs.Taking.{After, AreSingle, Breaks, Gets, IsPrefix, Takes, moved}
+use Rattle.exact_parts.proofs.CallerLemmas.{Followed, after_single, field_filled, field_single, first_bad, first_more, next_takes}
 use Rattle.link_frames.proofs.RowLemmas.{spans_sane}
 
 none_single : (before : List ℕ) → AreSingle (λ (all bytes : List ℕ). (all ≡ before) × (bytes ≡ []))
@@ -19,7 +19,7 @@ none_single before v w xs more p q =
 pub reads_single : (form : Form) (left : ℕ) (before : List ℕ) → AreSingle (Reads form left before)
 reads_single form zero before = none_single before
 reads_single form (suc left) before =
-    behind_single (Field (size_at (length before)) (spans_at form before)) (λ (n : ℕ). Reads form left (before ++ (n ∷ []))) (field_single (size_at (length before)) (spans_at form before)) (λ n. reads_single form left (before ++ (n ∷ [])))
+    after_single (Field (size_at (length before)) (spans_at form before)) (λ (n : ℕ). Reads form left (before ++ (n ∷ []))) (field_single (size_at (length before)) (spans_at form before)) (λ n. reads_single form left (before ++ (n ∷ [])))
 
 pub record Filled (form : Form) (left : ℕ) (before : List ℕ) : Type 0 where
   pub all : List ℕ
@@ -34,7 +34,7 @@ filled form (suc left) before e =
     let f = field_filled size spans (spans_sane form before (omega arith)) in
     let n = spans.one.low in
     let r = filled form left (before ++ (n ∷ [])) (omega (arith, length-append before (n ∷ []))) in
-    record { all = r.all; bytes = f.0 ++ r.bytes; reads = record { number = n; front = f.0; rest = r.bytes; is_first = f.1; is_next = r.reads; both = refl } }
+    record { all = r.all; bytes = f.0 ++ r.bytes; reads = record { number = n; prefix = f.0; rest = r.bytes; is_first = f.1; is_next = r.reads; both = refl } }
 
 pub filled_7 : (form : Form) → Filled form 7 []
 filled_7 form = filled form 7 [] refl
@@ -73,7 +73,7 @@ one_is form place numbers size spans lt len size_is spans_is =
     let size_so : size ≡ size_at (length (take place numbers)) = size_is ∙ ap size_at (sym (len_before place numbers lt len)) in
     rw (size_so, spans_is) refl
 
-from_is : (form : Form) (place : ℕ) (numbers : List ℕ) → place < 7 → ReadsFrom form place numbers ≡ Behind (One form (take place numbers)) (Others form (7 - (place + 1)) (take place numbers))
+from_is : (form : Form) (place : ℕ) (numbers : List ℕ) → place < 7 → ReadsFrom form place numbers ≡ After (One form (take place numbers)) (Others form (7 - (place + 1)) (take place numbers))
 from_is form place numbers lt =
     let left : 7 - place ≡ suc (7 - (place + 1)) = omega arith in
     ap (λ (n : ℕ). Reads form n (take place numbers)) left
@@ -89,18 +89,18 @@ pub from_next : (form : Form) (place : ℕ) (numbers : List ℕ) (size : ℕ) (s
 from_next form place numbers size spans bytes tail value m rest result lt len size_is spans_is got tail_is taken result_is =
     let before = take place numbers in
     let first : Gets (One form before) bytes value m = subst (λ (p : ℕ → List ℕ → Type 0). Gets p bytes value m) (one_is form place numbers size spans lt len size_is spans_is) got in
-    let behind : Takes (Others form (7 - (place + 1)) before value) tail rest = subst (λ (p : List ℕ → List ℕ → Type 0). Takes p tail rest) (next_is form place numbers value lt len) taken in
-    let there : Takes (Others form (7 - (place + 1)) before value) (drop m bytes) rest = subst (λ (t : List ℕ). Takes (Others form (7 - (place + 1)) before value) t rest) tail_is behind in
+    let after : Takes (Others form (7 - (place + 1)) before value) tail rest = subst (λ (p : List ℕ → List ℕ → Type 0). Takes p tail rest) (next_is form place numbers value lt len) taken in
+    let there : Takes (Others form (7 - (place + 1)) before value) (drop m bytes) rest = subst (λ (t : List ℕ). Takes (Others form (7 - (place + 1)) before value) t rest) tail_is after in
     let all = next_takes (One form before) (Others form (7 - (place + 1)) before) (field_single (size_at (length before)) (spans_at form before)) bytes value m rest first there in
     let moved_all : Takes (ReadsFrom form place numbers) bytes (moved m rest) = subst (λ (p : List ℕ → List ℕ → Type 0). Takes p bytes (moved m rest)) (sym (from_is form place numbers lt)) all in
     subst (λ (t : Taken (List ℕ)). Takes (ReadsFrom form place numbers) bytes t) (sym result_is) moved_all
 
 pub from_more : (form : Form) (place : ℕ) (numbers : List ℕ) (size : ℕ) (spans : Spans) (bytes : List ℕ) → place < 7 → length numbers ≡ 7
-    → size ≡ size_at place → spans ≡ spans_at form (take place numbers) → IsFront (Field size spans) bytes → IsFront (ReadsFrom form place numbers) bytes
-from_more form place numbers size spans bytes lt len size_is spans_is front =
+    → size ≡ size_at place → spans ≡ spans_at form (take place numbers) → IsPrefix (Field size spans) bytes → IsPrefix (ReadsFrom form place numbers) bytes
+from_more form place numbers size spans bytes lt len size_is spans_is prefix =
     let before = take place numbers in
-    let first : IsFront (One form before) bytes = subst (λ (p : ℕ → List ℕ → Type 0). IsFront p bytes) (one_is form place numbers size spans lt len size_is spans_is) front in
-    subst (λ (p : List ℕ → List ℕ → Type 0). IsFront p bytes) (sym (from_is form place numbers lt))
+    let first : IsPrefix (One form before) bytes = subst (λ (p : ℕ → List ℕ → Type 0). IsPrefix p bytes) (one_is form place numbers size spans lt len size_is spans_is) prefix in
+    subst (λ (p : List ℕ → List ℕ → Type 0). IsPrefix p bytes) (sym (from_is form place numbers lt))
     (first_more (One form before) (Others form (7 - (place + 1)) before) (followed form (7 - (place + 1)) before (omega (arith, len_before place numbers lt len))) bytes first)
 
 pub from_bad : (form : Form) (place : ℕ) (numbers : List ℕ) (size : ℕ) (spans : Spans) (bytes : List ℕ) (at : ℕ) → place < 7 → length numbers ≡ 7

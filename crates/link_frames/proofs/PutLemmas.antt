@@ -13,17 +13,17 @@ use Rattle.link_frames.specs.Reply.{CanBeTold, IsReplyFrame}
 use Rattle.link_frames.proofs.CallLemmas.{frame_taken}
 use Rattle.link_frames.proofs.ReplyLemmas.{item_told}
 
-pub frames_push : {V : Type 0} (frame : V → List ℕ → Type 0) (kind : V → Kind) (one : Kind) (vs : List V) (v : V) (bytes front : List ℕ) →
-    AreFrames frame kind one vs bytes → frame v front → kind v ≡ one → AreFrames frame kind one (vs ++ v ∷ []) (bytes ++ front)
-frames_push frame kind one [] v bytes front e is k = (front, [], ap (λ (b : List ℕ). b ++ front) e ∙ sym (append-nil front), is, k, refl)
-frames_push frame kind one (w ∷ vs) v bytes front (first, rest, both, is_w, k_w, more) is k =
-    (first, rest ++ front, ap (λ (b : List ℕ). b ++ front) both ∙ append_assoc first rest front, is_w, k_w, frames_push frame kind one vs v rest front more is k)
+pub frames_push : {V : Type 0} (frame : V → List ℕ → Type 0) (kind : V → Kind) (one : Kind) (vs : List V) (v : V) (bytes prefix : List ℕ) →
+    AreFrames frame kind one vs bytes → frame v prefix → kind v ≡ one → AreFrames frame kind one (vs ++ v ∷ []) (bytes ++ prefix)
+frames_push frame kind one [] v bytes prefix e is k = (prefix, [], ap (λ (b : List ℕ). b ++ prefix) e ∙ sym (append-nil prefix), is, k, refl)
+frames_push frame kind one (w ∷ vs) v bytes prefix (first, rest, both, is_w, k_w, more) is k =
+    (first, rest ++ prefix, ap (λ (b : List ℕ). b ++ prefix) both ∙ append_assoc first rest prefix, is_w, k_w, frames_push frame kind one vs v rest prefix more is k)
 
 -- one more of a list of values
-pub one_more_of : {V : Type 0} (frame : V → List ℕ → Type 0) (kind : V → Kind) (one : Kind) (vs : List V) (i : ℕ) (d : V) (bytes front : List ℕ) → i < length vs →
-    AreFrames frame kind one (take i vs) bytes → frame (get_or vs i d) front → kind (get_or vs i d) ≡ one → AreFrames frame kind one (take (i + 1) vs) (bytes ++ front)
-one_more_of {V} frame kind one vs i d bytes front lt are is k =
-    subst (λ (xs : List V). AreFrames frame kind one xs (bytes ++ front)) (sym (take_more vs i d lt)) (frames_push frame kind one (take i vs) (get_or vs i d) bytes front are is k)
+pub one_more_of : {V : Type 0} (frame : V → List ℕ → Type 0) (kind : V → Kind) (one : Kind) (vs : List V) (i : ℕ) (d : V) (bytes prefix : List ℕ) → i < length vs →
+    AreFrames frame kind one (take i vs) bytes → frame (get_or vs i d) prefix → kind (get_or vs i d) ≡ one → AreFrames frame kind one (take (i + 1) vs) (bytes ++ prefix)
+one_more_of {V} frame kind one vs i d bytes prefix lt are is k =
+    subst (λ (xs : List V). AreFrames frame kind one xs (bytes ++ prefix)) (sym (take_more vs i d lt)) (frames_push frame kind one (take i vs) (get_or vs i d) bytes prefix are is k)
 
 pub replies_put : (replies : List Reply) (bytes out : List ℕ) → CanAnswer replies → AreFrames IsReplyFrame kind_of_reply (kind_of_first_reply replies) replies bytes →
     out ≡ spelling (batch_head (length replies)) ++ bytes → IsBatch IsReplyFrame kind_of_reply replies out

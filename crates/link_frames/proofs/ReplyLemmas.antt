@@ -152,26 +152,26 @@ status_in K.Serialize status le = in_between 0 4 status (omega arith) le
 status_in K.Deserialize status le = in_between 0 4 status (omega arith) le
 
 status_most : (kind : Kind) (status : ℕ) → InSpans (done_row kind 0 0).detail status → status ≤ 4
-status_most K.Instantiate status h = (is_between 0 4 status h).upto
-status_most K.EnterInitialization status h = (is_between 0 4 status h).upto
-status_most K.ExitInitialization status h = (is_between 0 4 status h).upto
-status_most K.EnterEvent status h = (is_between 0 4 status h).upto
-status_most K.EnterStep status h = (is_between 0 4 status h).upto
-status_most K.DoStep status h = (is_between 0 4 status h).upto
-status_most K.Update status h = (is_between 0 4 status h).upto
-status_most K.Get status h = (is_between 0 4 status h).upto
-status_most K.Set status h = (is_between 0 4 status h).upto
-status_most K.GetClock status h = (is_between 0 4 status h).upto
-status_most K.SetClock status h = (is_between 0 4 status h).upto
-status_most K.GetInterval status h = (is_between 0 4 status h).upto
-status_most K.GetShift status h = (is_between 0 4 status h).upto
-status_most K.Save status h = (is_between 0 4 status h).upto
-status_most K.Restore status h = (is_between 0 4 status h).upto
-status_most K.Free status h = (is_between 0 4 status h).upto
-status_most K.Terminate status h = (is_between 0 4 status h).upto
-status_most K.FreeInstance status h = (is_between 0 4 status h).upto
-status_most K.Serialize status h = (is_between 0 4 status h).upto
-status_most K.Deserialize status h = (is_between 0 4 status h).upto
+status_most K.Instantiate status h = (is_between 0 4 status h).up_to
+status_most K.EnterInitialization status h = (is_between 0 4 status h).up_to
+status_most K.ExitInitialization status h = (is_between 0 4 status h).up_to
+status_most K.EnterEvent status h = (is_between 0 4 status h).up_to
+status_most K.EnterStep status h = (is_between 0 4 status h).up_to
+status_most K.DoStep status h = (is_between 0 4 status h).up_to
+status_most K.Update status h = (is_between 0 4 status h).up_to
+status_most K.Get status h = (is_between 0 4 status h).up_to
+status_most K.Set status h = (is_between 0 4 status h).up_to
+status_most K.GetClock status h = (is_between 0 4 status h).up_to
+status_most K.SetClock status h = (is_between 0 4 status h).up_to
+status_most K.GetInterval status h = (is_between 0 4 status h).up_to
+status_most K.GetShift status h = (is_between 0 4 status h).up_to
+status_most K.Save status h = (is_between 0 4 status h).up_to
+status_most K.Restore status h = (is_between 0 4 status h).up_to
+status_most K.Free status h = (is_between 0 4 status h).up_to
+status_most K.Terminate status h = (is_between 0 4 status h).up_to
+status_most K.FreeInstance status h = (is_between 0 4 status h).up_to
+status_most K.Serialize status h = (is_between 0 4 status h).up_to
+status_most K.Deserialize status h = (is_between 0 4 status h).up_to
 
 done_allowed : (w : Bool) (kind : Kind) (f q a b : ℕ) → Holds kind f q a b → Allowed OfReply kind (head (facts_of kind).number (flag w 1) f q a b)
 done_allowed true kind f q a b h = record { detail = status_in kind 1 (omega arith); flags = h.flags; reference = h.reference; first = h.first; last = h.last }
@@ -201,9 +201,9 @@ flags_small A.EnterInitialization = omega arith
 flags_small A.ExitInitialization = omega arith
 flags_small A.EnterEvent = omega arith
 flags_small A.EnterStep = omega arith
-flags_small (A.DoStep a b c end) = omega (arith, (is_between 0 7 _ (flags_in a b c)).upto)
-flags_small (A.Update a b (Some time)) = omega (arith, (is_between 0 7 _ (flags_in a b true)).upto)
-flags_small (A.Update a b None) = omega (arith, (is_between 0 7 _ (flags_in a b false)).upto)
+flags_small (A.DoStep a b c end) = omega (arith, (is_between 0 7 _ (flags_in a b c)).up_to)
+flags_small (A.Update a b (Some time)) = omega (arith, (is_between 0 7 _ (flags_in a b true)).up_to)
+flags_small (A.Update a b None) = omega (arith, (is_between 0 7 _ (flags_in a b false)).up_to)
 flags_small (A.Get word) = omega arith
 flags_small A.Set = omega arith
 flags_small (A.GetClock word) = omega arith
@@ -263,18 +263,18 @@ update_again s (suc (suc (suc (suc zero)))) q a b h = head_same _ _ 4 0 a 0 _ _ 
 update_again s (suc (suc (suc (suc (suc zero))))) q a b h = head_same _ _ 5 0 a 0 _ _ 5 q a b refl refl refl (sym (is_zero q h.reference)) refl (sym (is_zero b h.last))
 update_again s (suc (suc (suc (suc (suc (suc zero)))))) q a b h = head_same _ _ 6 0 a 0 _ _ 6 q a b refl refl refl (sym (is_zero q h.reference)) refl (sym (is_zero b h.last))
 update_again s (suc (suc (suc (suc (suc (suc (suc zero))))))) q a b h = head_same _ _ 7 0 a 0 _ _ 7 q a b refl refl refl (sym (is_zero q h.reference)) refl (sym (is_zero b h.last))
-update_again s (suc (suc (suc (suc (suc (suc (suc (suc f)))))))) q a b h = absurd (omega (arith, (is_between 0 7 _ h.flags).upto))
+update_again s (suc (suc (suc (suc (suc (suc (suc (suc f)))))))) q a b h = absurd (omega (arith, (is_between 0 7 _ h.flags).up_to))
 
 interval_again : (s f q a b : ℕ) → Holds K.GetInterval f q a b → head_of_content s (content_at K.GetInterval f q a b) ≡ head 12 s f q a b
 interval_again s f zero a b h = head_same _ _ 0 0 0 0 _ _ f 0 a b refl refl (sym (is_zero f h.flags)) refl (sym (is_zero a h.first)) (sym (is_zero b h.last))
 interval_again s f (suc zero) a b h = head_same _ _ 0 1 a b _ _ f 1 a b refl refl (sym (is_zero f h.flags)) refl refl refl
 interval_again s f (suc (suc zero)) a b h = head_same _ _ 0 2 a b _ _ f 2 a b refl refl (sym (is_zero f h.flags)) refl refl refl
-interval_again s f (suc (suc (suc q))) a b h = absurd (omega (arith, (is_between 0 2 _ h.reference).upto))
+interval_again s f (suc (suc (suc q))) a b h = absurd (omega (arith, (is_between 0 2 _ h.reference).up_to))
 
 agreed_again : (s f q a b : ℕ) → Holds K.Instantiate f q a b → head_of_content s (content_at K.Instantiate f q a b) ≡ head 1 s f q a b
 agreed_again s zero q a b h = head_same _ _ 0 0 0 0 _ _ 0 q a b refl refl refl (sym (is_zero q h.reference)) (sym (is_zero a h.first)) (sym (is_zero b h.last))
 agreed_again s (suc zero) q a b h = head_same _ _ 1 0 0 0 _ _ 1 q a b refl refl refl (sym (is_zero q h.reference)) (sym (is_zero a h.first)) (sym (is_zero b h.last))
-agreed_again s (suc (suc f)) q a b h = absurd (omega (arith, (is_between 0 1 _ h.flags).upto))
+agreed_again s (suc (suc f)) q a b h = absurd (omega (arith, (is_between 0 1 _ h.flags).up_to))
 
 content_head : (kind : Kind) (s f q a b : ℕ) → Holds kind f q a b → head_of_content s (content_at kind f q a b) ≡ head (facts_of kind).number s f q a b
 content_head K.Instantiate s f q a b h = agreed_again s f q a b h
@@ -282,7 +282,7 @@ content_head K.EnterInitialization s f q a b h = plain_again K.EnterInitializati
 content_head K.ExitInitialization s f q a b h = plain_again K.ExitInitialization s f q a b h.flags h.reference h.first h.last
 content_head K.EnterEvent s f q a b h = plain_again K.EnterEvent s f q a b h.flags h.reference h.first h.last
 content_head K.EnterStep s f q a b h = plain_again K.EnterStep s f q a b h.flags h.reference h.first h.last
-content_head K.DoStep s f q a b h = head_same _ _ _ 0 a 0 _ _ f q a b refl refl (bits_again f (is_between 0 7 _ h.flags).upto) (sym (is_zero q h.reference)) refl (sym (is_zero b h.last))
+content_head K.DoStep s f q a b h = head_same _ _ _ 0 a 0 _ _ f q a b refl refl (bits_again f (is_between 0 7 _ h.flags).up_to) (sym (is_zero q h.reference)) refl (sym (is_zero b h.last))
 content_head K.Update s f q a b h = update_again s f q a b h
 content_head K.Get s f q a b h = head_same _ _ 0 0 a 0 _ _ f q a b refl refl (sym (is_zero f h.flags)) (sym (is_zero q h.reference)) refl (sym (is_zero b h.last))
 content_head K.Set s f q a b h = plain_again K.Set s f q a b h.flags h.reference h.first h.last
@@ -315,7 +315,7 @@ head_again h is =
 
 -- a length that is read is one that can be told
 content_told : (kind : Kind) (w : Bool) (f q a b : ℕ) → InSpans (done_row kind f 0).reference q → CanBeTold (Done w (content_at kind f q a b))
-content_told K.Serialize w f q a b h = (is_between 0 state_max q h).upto
+content_told K.Serialize w f q a b h = (is_between 0 state_max q h).up_to
 content_told K.Instantiate w f q a b h = tt
 content_told K.EnterInitialization w f q a b h = tt
 content_told K.ExitInitialization w f q a b h = tt

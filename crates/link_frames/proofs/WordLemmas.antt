@@ -1,16 +1,15 @@
 -- The words of a type's values are those of its spans.
-use Rattle.std.proofs.Common.{◌≡◌, ◌≢◌, ℕ, zero, suc, ◌-◌, ◌<◌, ◌≤◌, ◌^◌, inl, inr, ℤ, pos, negsuc, true, refl, sym, ap, ◌∙◌, arith}
-use Rattle.std.specs.Int.{w64, cast_signed}
-use Rattle.std.specs.Prelude.{FitsSigned, int_le, ◌≤ℤ◌}
+use Rattle.std.proofs.Common.{◌≡◌, ◌≢◌, ℕ, zero, suc, ◌-◌, ◌<◌, ◌≤◌, ◌^◌, inl, inr, ℤ, pos, negsuc, refl, sym, ap, ◌∙◌, arith}
 use Rattle.std.proofs.lemmas.Bool.{cases_lt}
-use Rattle.std.proofs.lemmas.Int.{ints, to_z-of_z}
+use Rattle.std.proofs.lemmas.Int.{ints}
 use Rattle.exact_parts.specs.Field.{InSpans}
 use Rattle.link_frames.specs.Layout.{type_at, type_number, words}
 use Rattle.link_frames.specs.Call.{value_at}
 use Rattle.link_frames.proofs.HeadLemmas.{is_between, IsBetween}
 use Rattle.value_types.specs.declared.values.PortType.{PortType}
 use Rattle.value_types.specs.declared.values.PortType.TheVariants.{Int8, UInt8, Int16, UInt16, Int32, UInt32, Int64, UInt64, Boolean, Enumeration, Clock}
-use Rattle.value_types.specs.Values.{Fits, greatest_of, is_fitting, least_of, number_of, word_of}
+use Rattle.value_types.proofs.CallerLemmas.{fitting, number_of_word}
+use Rattle.value_types.specs.Values.{Fits, word_of}
 
 -- ---- numbers of types
 
@@ -28,16 +27,16 @@ type_again Enumeration h = refl
 type_again Clock h = absurd (h refl)
 
 pub type_in : (kind : PortType) → kind ≢ Clock → IsBetween 1 10 (type_number kind)
-type_in Int8 h = record { from = omega arith; upto = omega arith }
-type_in UInt8 h = record { from = omega arith; upto = omega arith }
-type_in Int16 h = record { from = omega arith; upto = omega arith }
-type_in UInt16 h = record { from = omega arith; upto = omega arith }
-type_in Int32 h = record { from = omega arith; upto = omega arith }
-type_in UInt32 h = record { from = omega arith; upto = omega arith }
-type_in Int64 h = record { from = omega arith; upto = omega arith }
-type_in UInt64 h = record { from = omega arith; upto = omega arith }
-type_in Boolean h = record { from = omega arith; upto = omega arith }
-type_in Enumeration h = record { from = omega arith; upto = omega arith }
+type_in Int8 h = record { from = omega arith; up_to = omega arith }
+type_in UInt8 h = record { from = omega arith; up_to = omega arith }
+type_in Int16 h = record { from = omega arith; up_to = omega arith }
+type_in UInt16 h = record { from = omega arith; up_to = omega arith }
+type_in Int32 h = record { from = omega arith; up_to = omega arith }
+type_in UInt32 h = record { from = omega arith; up_to = omega arith }
+type_in Int64 h = record { from = omega arith; up_to = omega arith }
+type_in UInt64 h = record { from = omega arith; up_to = omega arith }
+type_in Boolean h = record { from = omega arith; up_to = omega arith }
+type_in Enumeration h = record { from = omega arith; up_to = omega arith }
 type_in Clock h = absurd (h refl)
 
 pub number_again : (n : ℕ) → 1 ≤ n → n ≤ 10 → type_number (type_at n) ≡ n
@@ -71,27 +70,27 @@ no_clock (suc (suc (suc (suc (suc (suc (suc (suc (suc (suc (suc n))))))))))) h k
 -- ---- words
 
 pub word_in : (kind : PortType) (value : ℤ) → Fits kind value → InSpans (words kind) (word_of value)
-word_in Int8 (pos n) h = inl (record { from = omega arith; upto = omega (arith, ints, h.1) })
-word_in Int8 (negsuc n) h = inr (record { from = omega (arith, ints, h.0); upto = omega arith })
-word_in UInt8 (pos n) h = inl (record { from = omega arith; upto = omega (arith, ints, h.1) })
+word_in Int8 (pos n) h = inl (record { from = omega arith; up_to = omega (arith, ints, h.1) })
+word_in Int8 (negsuc n) h = inr (record { from = omega (arith, ints, h.0); up_to = omega arith })
+word_in UInt8 (pos n) h = inl (record { from = omega arith; up_to = omega (arith, ints, h.1) })
 word_in UInt8 (negsuc n) h = absurd (omega (arith, ints, h.0))
-word_in Int16 (pos n) h = inl (record { from = omega arith; upto = omega (arith, ints, h.1) })
-word_in Int16 (negsuc n) h = inr (record { from = omega (arith, ints, h.0); upto = omega arith })
-word_in UInt16 (pos n) h = inl (record { from = omega arith; upto = omega (arith, ints, h.1) })
+word_in Int16 (pos n) h = inl (record { from = omega arith; up_to = omega (arith, ints, h.1) })
+word_in Int16 (negsuc n) h = inr (record { from = omega (arith, ints, h.0); up_to = omega arith })
+word_in UInt16 (pos n) h = inl (record { from = omega arith; up_to = omega (arith, ints, h.1) })
 word_in UInt16 (negsuc n) h = absurd (omega (arith, ints, h.0))
-word_in Int32 (pos n) h = inl (record { from = omega arith; upto = omega (arith, ints, h.1) })
-word_in Int32 (negsuc n) h = inr (record { from = omega (arith, ints, h.0); upto = omega arith })
-word_in UInt32 (pos n) h = inl (record { from = omega arith; upto = omega (arith, ints, h.1) })
+word_in Int32 (pos n) h = inl (record { from = omega arith; up_to = omega (arith, ints, h.1) })
+word_in Int32 (negsuc n) h = inr (record { from = omega (arith, ints, h.0); up_to = omega arith })
+word_in UInt32 (pos n) h = inl (record { from = omega arith; up_to = omega (arith, ints, h.1) })
 word_in UInt32 (negsuc n) h = absurd (omega (arith, ints, h.0))
-word_in Int64 (pos n) h = inl (record { from = omega arith; upto = omega (arith, ints, h.1) })
-word_in Int64 (negsuc n) h = inl (record { from = omega arith; upto = omega arith })
-word_in UInt64 (pos n) h = inl (record { from = omega arith; upto = omega (arith, ints, h.1) })
+word_in Int64 (pos n) h = inl (record { from = omega arith; up_to = omega (arith, ints, h.1) })
+word_in Int64 (negsuc n) h = inl (record { from = omega arith; up_to = omega arith })
+word_in UInt64 (pos n) h = inl (record { from = omega arith; up_to = omega (arith, ints, h.1) })
 word_in UInt64 (negsuc n) h = absurd (omega (arith, ints, h.0))
-word_in Boolean (pos n) h = inl (record { from = omega arith; upto = omega (arith, ints, h.1) })
+word_in Boolean (pos n) h = inl (record { from = omega arith; up_to = omega (arith, ints, h.1) })
 word_in Boolean (negsuc n) h = absurd (omega (arith, ints, h.0))
-word_in Enumeration (pos n) h = inl (record { from = omega arith; upto = omega (arith, ints, h.1) })
-word_in Enumeration (negsuc n) h = inl (record { from = omega arith; upto = omega arith })
-word_in Clock (pos n) h = inl (record { from = omega arith; upto = omega (arith, ints, h.1) })
+word_in Enumeration (pos n) h = inl (record { from = omega arith; up_to = omega (arith, ints, h.1) })
+word_in Enumeration (negsuc n) h = inl (record { from = omega arith; up_to = omega arith })
+word_in Clock (pos n) h = inl (record { from = omega arith; up_to = omega (arith, ints, h.1) })
 word_in Clock (negsuc n) h = absurd (omega (arith, ints, h.0))
 
 record WordOf (kind : PortType) (word : ℕ) : Type 0 where
@@ -109,55 +108,23 @@ wide : (kind : PortType) (word : ℕ) → word < 2 ^ 64 → (word < 2 ^ 63 → F
 wide kind word lt low high = elim (cases_lt word (2 ^ 63)) [ inl l ↦ positive kind word (low l) | inr g ↦ negative kind word lt (high g) ]
 
 word_of_span : (kind : PortType) (word : ℕ) → InSpans (words kind) word → WordOf kind word
-word_of_span Int8 word (inl s) = positive Int8 word (omega (arith, ints, s.upto), omega (arith, ints, s.upto))
-word_of_span Int8 word (inr s) = negative Int8 word (omega (arith, s.upto)) (omega (arith, ints, s.from, s.upto), omega (arith, ints, s.from, s.upto))
-word_of_span UInt8 word h = let s = is_between 0 (2 ^ 8 - 1) word h in positive UInt8 word (omega (arith, ints, s.upto), omega (arith, ints, s.upto))
-word_of_span Int16 word (inl s) = positive Int16 word (omega (arith, ints, s.upto), omega (arith, ints, s.upto))
-word_of_span Int16 word (inr s) = negative Int16 word (omega (arith, s.upto)) (omega (arith, ints, s.from, s.upto), omega (arith, ints, s.from, s.upto))
-word_of_span UInt16 word h = let s = is_between 0 (2 ^ 16 - 1) word h in positive UInt16 word (omega (arith, ints, s.upto), omega (arith, ints, s.upto))
-word_of_span Int32 word (inl s) = positive Int32 word (omega (arith, ints, s.upto), omega (arith, ints, s.upto))
-word_of_span Int32 word (inr s) = negative Int32 word (omega (arith, s.upto)) (omega (arith, ints, s.from, s.upto), omega (arith, ints, s.from, s.upto))
-word_of_span UInt32 word h = let s = is_between 0 (2 ^ 32 - 1) word h in positive UInt32 word (omega (arith, ints, s.upto), omega (arith, ints, s.upto))
-word_of_span Int64 word h = let s = is_between 0 (2 ^ 64 - 1) word h in wide Int64 word (omega (arith, s.upto)) (λ l. (omega (arith, ints, l), omega (arith, ints, l))) (λ g. (omega (arith, ints, g, s.upto), omega (arith, ints, g, s.upto)))
-word_of_span UInt64 word h = let s = is_between 0 (2 ^ 64 - 1) word h in positive UInt64 word (omega (arith, ints, s.upto), omega (arith, ints, s.upto))
-word_of_span Boolean word h = let s = is_between 0 1 word h in positive Boolean word (omega (arith, ints, s.upto), omega (arith, ints, s.upto))
-word_of_span Enumeration word h = let s = is_between 0 (2 ^ 64 - 1) word h in wide Enumeration word (omega (arith, s.upto)) (λ l. (omega (arith, ints, l), omega (arith, ints, l))) (λ g. (omega (arith, ints, g, s.upto), omega (arith, ints, g, s.upto)))
-word_of_span Clock word h = let s = is_between 0 1 word h in positive Clock word (omega (arith, ints, s.upto), omega (arith, ints, s.upto))
-
--- the word of a number of 64 bits with a sign
-signed_again : (value : ℤ) → FitsSigned w64 value → cast_signed w64 (word_of value) ≡ value
-signed_again (pos n) h = to_z-of_z w64 (pos n) h
-signed_again (negsuc n) h =
-    let same : 2 ^ 64 - 1 - n ≡ 2 ^ 64 - suc n = omega arith in
-    ap (cast_signed w64) same ∙ to_z-of_z w64 (negsuc n) h
-
-number_is : (kind : PortType) (value : ℤ) → Fits kind value → number_of kind (word_of value) ≡ value
-number_is Int8 value h = signed_again value (omega (arith, ints, h.0, h.1))
-number_is UInt8 (pos n) h = refl
-number_is UInt8 (negsuc n) h = absurd (omega (arith, ints, h.0))
-number_is Int16 value h = signed_again value (omega (arith, ints, h.0, h.1))
-number_is UInt16 (pos n) h = refl
-number_is UInt16 (negsuc n) h = absurd (omega (arith, ints, h.0))
-number_is Int32 value h = signed_again value (omega (arith, ints, h.0, h.1))
-number_is UInt32 (pos n) h = refl
-number_is UInt32 (negsuc n) h = absurd (omega (arith, ints, h.0))
-number_is Int64 value h = signed_again value (omega (arith, ints, h.0, h.1))
-number_is UInt64 (pos n) h = refl
-number_is UInt64 (negsuc n) h = absurd (omega (arith, ints, h.0))
-number_is Boolean (pos n) h = refl
-number_is Boolean (negsuc n) h = absurd (omega (arith, ints, h.0))
-number_is Enumeration value h = signed_again value (omega (arith, ints, h.0, h.1))
-number_is Clock (pos n) h = refl
-number_is Clock (negsuc n) h = absurd (omega (arith, ints, h.0))
-
-int_le_true : (a b : ℤ) → a ≤ℤ b → int_le a b ≡ true
-int_le_true a b h = grind (arith, ints)
-
-fitting : (kind : PortType) (value : ℤ) → Fits kind value → is_fitting kind value ≡ true
-fitting kind value h = rw (int_le_true (least_of kind) value h.0, int_le_true value (greatest_of kind) h.1) refl
+word_of_span Int8 word (inl s) = positive Int8 word (omega (arith, ints, s.up_to), omega (arith, ints, s.up_to))
+word_of_span Int8 word (inr s) = negative Int8 word (omega (arith, s.up_to)) (omega (arith, ints, s.from, s.up_to), omega (arith, ints, s.from, s.up_to))
+word_of_span UInt8 word h = let s = is_between 0 (2 ^ 8 - 1) word h in positive UInt8 word (omega (arith, ints, s.up_to), omega (arith, ints, s.up_to))
+word_of_span Int16 word (inl s) = positive Int16 word (omega (arith, ints, s.up_to), omega (arith, ints, s.up_to))
+word_of_span Int16 word (inr s) = negative Int16 word (omega (arith, s.up_to)) (omega (arith, ints, s.from, s.up_to), omega (arith, ints, s.from, s.up_to))
+word_of_span UInt16 word h = let s = is_between 0 (2 ^ 16 - 1) word h in positive UInt16 word (omega (arith, ints, s.up_to), omega (arith, ints, s.up_to))
+word_of_span Int32 word (inl s) = positive Int32 word (omega (arith, ints, s.up_to), omega (arith, ints, s.up_to))
+word_of_span Int32 word (inr s) = negative Int32 word (omega (arith, s.up_to)) (omega (arith, ints, s.from, s.up_to), omega (arith, ints, s.from, s.up_to))
+word_of_span UInt32 word h = let s = is_between 0 (2 ^ 32 - 1) word h in positive UInt32 word (omega (arith, ints, s.up_to), omega (arith, ints, s.up_to))
+word_of_span Int64 word h = let s = is_between 0 (2 ^ 64 - 1) word h in wide Int64 word (omega (arith, s.up_to)) (λ l. (omega (arith, ints, l), omega (arith, ints, l))) (λ g. (omega (arith, ints, g, s.up_to), omega (arith, ints, g, s.up_to)))
+word_of_span UInt64 word h = let s = is_between 0 (2 ^ 64 - 1) word h in positive UInt64 word (omega (arith, ints, s.up_to), omega (arith, ints, s.up_to))
+word_of_span Boolean word h = let s = is_between 0 1 word h in positive Boolean word (omega (arith, ints, s.up_to), omega (arith, ints, s.up_to))
+word_of_span Enumeration word h = let s = is_between 0 (2 ^ 64 - 1) word h in wide Enumeration word (omega (arith, s.up_to)) (λ l. (omega (arith, ints, l), omega (arith, ints, l))) (λ g. (omega (arith, ints, g, s.up_to), omega (arith, ints, g, s.up_to)))
+word_of_span Clock word h = let s = is_between 0 1 word h in positive Clock word (omega (arith, ints, s.up_to), omega (arith, ints, s.up_to))
 
 pub value_again : (kind : PortType) (value : ℤ) → Fits kind value → value_at kind (word_of value) ≡ value
-value_again kind value h = rw (number_is kind value h, fitting kind value h) refl
+value_again kind value h = rw (number_of_word kind value h, fitting kind value h) refl
 
 pub record Valued (kind : PortType) (word : ℕ) : Type 0 where
   pub fits : Fits kind (value_at kind word)

@@ -17,7 +17,7 @@ use Rattle.link_frames.specs.Call.{CanBeSent, IsCallFrame, frame_with}
 use Rattle.link_frames.specs.Head.{head, spelling}
 use Rattle.link_frames.specs.Numbers.{Reads}
 use Rattle.link_frames.specs.Reply.{IsReplyFrame}
-use Rattle.exact_parts.specs.Taking.{Behind}
+use Rattle.exact_parts.specs.Taking.{After}
 
 -- the head of a batch of so many: kind 19, and the number where a call has its reference and a reply its qualifier
 abbrev pub batch_head : ℕ → Head
@@ -28,7 +28,7 @@ abbrev pub AreFrames : {V : Type 0} → (V → List ℕ → Type 0) → (V → K
     List ℕ → Type 0
 AreFrames frame kind one [] bytes = bytes ≡ []
 AreFrames frame kind one (v ∷ vs) bytes =
-    (front : List ℕ) × (rest : List ℕ) × (bytes ≡ front ++ rest) × frame v front ×
+    (prefix : List ℕ) × (rest : List ℕ) × (bytes ≡ prefix ++ rest) × frame v prefix ×
     (kind v ≡ one) × AreFrames frame kind one vs rest
 
 -- from 1 to 64 values, all of the kind of Get or all of the kind of Set, and the bytes of their batch
@@ -127,12 +127,12 @@ item_form Replies items = ReplyItem items
 abbrev pub ItemsOf : Side → Items → ℕ → Unit {0} → List ℕ → Type 0
 ItemsOf side items zero v bytes = bytes ≡ []
 ItemsOf side items (suc left) v bytes =
-    Behind (Reads (item_form side items) 7 []) (λ (ns : List ℕ). ItemsOf side items left) v bytes
+    After (Reads (item_form side items) 7 []) (λ (ns : List ℕ). ItemsOf side items left) v bytes
 
 -- the first, and after it the others, which are as it is
 abbrev pub FirstOf : Side → ℕ → Unit {0} → List ℕ → Type 0
 FirstOf side count =
-    Behind (Reads (item_form side Either) 7 []) (λ (ns : List ℕ).
+    After (Reads (item_form side Either) 7 []) (λ (ns : List ℕ).
     ItemsOf side (items_at (slice_index ns 0)) (count - 1))
 
 -- as many as the head tells
@@ -142,4 +142,4 @@ CountOf side numbers count bytes =
 
 -- the head, and after it the items
 abbrev pub BatchParts : Side → ℕ → List ℕ → Type 0
-BatchParts side = Behind (Reads OfBatch 7 []) (CountOf side)
+BatchParts side = After (Reads OfBatch 7 []) (CountOf side)

@@ -17,7 +17,7 @@ use Rattle.link_frames.specs.declared.layout.Form.TheVariants.{OfCall}
 use Rattle.link_frames.specs.Head.{InRange, flag, head, spelling}
 use Rattle.link_frames.specs.Layout.{kind_at, text_max, type_at, type_number}
 use Rattle.link_frames.specs.Numbers.{Reads}
-use Rattle.exact_parts.specs.Taking.{Behind}
+use Rattle.exact_parts.specs.Taking.{After}
 use Rattle.link_frames.specs.Text.{IsText}
 
 -- ---- from a call to its numbers
@@ -183,8 +183,8 @@ TokenOf numbers frame bytes = (frame ≡ frame_at numbers) × IsText (token_len 
 
 -- the name, and after it the token
 abbrev pub TextsOf : List ℕ → CallFrame → List ℕ → Type 0
-TextsOf numbers = Behind (IsText (name_len numbers)) (λ (name : Unit {0}). TokenOf numbers)
+TextsOf numbers = After (IsText (name_len numbers)) (λ (name : Unit {0}). TokenOf numbers)
 
 -- the numbers, and after them the texts
 abbrev pub PartsOf : CallFrame → List ℕ → Type 0
-PartsOf = Behind (Reads OfCall 7 []) TextsOf
+PartsOf = After (Reads OfCall 7 []) TextsOf

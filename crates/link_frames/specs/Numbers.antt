@@ -3,13 +3,13 @@ use Rattle.std.specs.Prelude.{ℕ, zero, suc, List, [], ◌∷◌, ◌++◌, len
 use Rattle.link_frames.specs.declared.layout.Form.{Form}
 use Rattle.exact_parts.specs.Field.{Field, InSpans, number}
 use Rattle.link_frames.specs.Layout.{kinds_of, row_of, size_at, spans_at, zero_only}
-use Rattle.exact_parts.specs.Taking.{Behind}
+use Rattle.exact_parts.specs.Taking.{After}
 
 -- all the numbers, where so many stand after those before, and the bytes of these
 abbrev pub Reads : Form → ℕ → List ℕ → List ℕ → List ℕ → Type 0
 Reads form zero before all bytes = (all ≡ before) × (bytes ≡ [])
 Reads form (suc left) before all bytes =
-    Behind (Field (size_at (length before)) (spans_at form before)) (λ (n : ℕ).
+    After (Field (size_at (length before)) (spans_at form before)) (λ (n : ℕ).
     Reads form left (before ++ (n ∷ []))) all bytes
 
 -- the numbers of these sizes, one after another

@@ -14,7 +14,7 @@ use crate::head::{Head, spell};
 use crate::layout::{Form, Items};
 use crate::numbers::{Numbers, take_numbers};
 use crate::reply::put_reply;
-use exact_parts::{Taken, behind};
+use exact_parts::{Taken, after};
 use fmi_calls::{Call, Reply};
 
 /// Whether a batch is one of calls or one of replies.
@@ -56,7 +56,7 @@ fn take_items(side: Side, items: Items, left: usize, bytes: &[u8]) -> Taken<()>
     match take_numbers(item_form(side, items), bytes) {
         Taken::Got { value: _, length } => {
             let rest = take_items(side, items, left - 1, &bytes[length..]);
-            behind(length, rest)
+            after(length, rest)
         }
         Taken::NeedMore => Taken::NeedMore,
         Taken::Bad { at } => Taken::Bad { at },
@@ -71,7 +71,7 @@ fn take_first(side: Side, count: usize, bytes: &[u8]) -> Taken<()>
     match take_numbers(item_form(side, Items::Either), bytes) {
         Taken::Got { value, length } => {
             let rest = take_items(side, items_at(value[0]), count - 1, &bytes[length..]);
-            behind(length, rest)
+            after(length, rest)
         }
         Taken::NeedMore => Taken::NeedMore,
         Taken::Bad { at } => Taken::Bad { at },
@@ -99,7 +99,7 @@ fn take_parts(side: Side, bytes: &[u8]) -> Taken<u32>
 {
     match take_numbers(Form::OfBatch, bytes) {
         Taken::Got { value, length } => {
-            behind(length, take_counted(side, &value, &bytes[length..]))
+            after(length, take_counted(side, &value, &bytes[length..]))
         }
         Taken::NeedMore => Taken::NeedMore,
         Taken::Bad { at } => Taken::Bad { at },

@@ -7,7 +7,7 @@ use crate::head::{Head, spell};
 use crate::layout::{Form, kind_at, type_at, type_number};
 use crate::numbers::{Numbers, take_numbers};
 use crate::text::take_text;
-use exact_parts::{Taken, behind};
+use exact_parts::{Taken, after};
 use fmi_calls::{Call, Kind};
 use std::ops::Range;
 use value_types::{PortType, fits, from_word, to_word};
@@ -203,7 +203,7 @@ fn frame_at(numbers: &Numbers) -> CallFrame
 // Puts bytes at a place.
 pub(crate) fn put_at(out: &mut [u8], place: usize, bytes: &[u8])
     requires { place + length bytes.now ≤ length out.old }
-    ensures front { take (place + length bytes.now) out.new ≡ take place out.old ++ bytes.now }
+    ensures prefix { take (place + length bytes.now) out.new ≡ take place out.old ++ bytes.now }
     ensures rest { drop (place + length bytes.now) out.new ≡ drop
         (place + length bytes.now) out.old }
 {
@@ -275,7 +275,7 @@ fn take_texts(numbers: &Numbers, bytes: &[u8]) -> Taken<CallFrame>
     ensures { Takes (TextsOf numbers.now) bytes.now result }
 {
     match take_text(bytes, name_len(numbers)) {
-        Taken::Got { value: (), length } => behind(length, take_token(numbers, &bytes[length..])),
+        Taken::Got { value: (), length } => after(length, take_token(numbers, &bytes[length..])),
         Taken::NeedMore => Taken::NeedMore,
         Taken::Bad { at } => Taken::Bad { at },
     }
@@ -290,7 +290,7 @@ pub fn take_call(bytes: &[u8]) -> Taken<CallFrame>
         result ≡ other }
 {
     match take_numbers(Form::OfCall, bytes) {
-        Taken::Got { value, length } => behind(length, take_texts(&value, &bytes[length..])),
+        Taken::Got { value, length } => after(length, take_texts(&value, &bytes[length..])),
         Taken::NeedMore => Taken::NeedMore,
         Taken::Bad { at } => Taken::Bad { at },
     }

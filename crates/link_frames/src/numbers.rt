@@ -3,7 +3,7 @@ ghost use Rattle.link_frames.specs.Numbers.{AreInSpans, Reads, numbers_in};
 ghost use Rattle.exact_parts.specs.Taking.{Takes};
 
 use crate::layout::{Form, kinds_of, row_of, size_at, spans_at, zero_only};
-use exact_parts::{Taken, behind, is_in, number_of, take_number};
+use exact_parts::{Taken, after, is_in, number_of, take_number};
 
 /// The numbers that a frame begins with: kind; type or status; flags; 0; reference or qualifier; two more.
 pub(crate) type Numbers = [u64; 7];
@@ -24,7 +24,7 @@ fn take_from(form: Form, place: usize, numbers: Numbers, bytes: &[u8]) -> Taken<
             let mut more = numbers;
             more[place] = value;
             let rest = take_from(form, place + 1, more, &bytes[length..]);
-            behind(length, rest)
+            after(length, rest)
         }
         Taken::NeedMore => Taken::NeedMore,
         Taken::Bad { at } => Taken::Bad { at },

@@ -21,7 +21,7 @@ use Rattle.run_model.specs.Stepping.{Departs, Next, departing, kept_at, step_to,
 use Rattle.run_model.specs.Trace.{LeadsBy}
 use Rattle.run_model.proofs.CallerLemmas.{each-get}
 use Rattle.event_iteration.proofs.ByLog.{got}
-use Rattle.machine_courses.specs.Fronts.{AtFirst, CameTo, Onward}
+use Rattle.machine_courses.specs.Prefixes.{AtFirst, CameTo, Onward}
 
 -- none of these has one
 abbrev pub AreBare : List MachineState → Type 0

@@ -100,11 +100,11 @@ module _ (r : Run) (steps : StepsWithin r) where
       let rest = parted.0 in
       let whole : is ≡ held.before ++ (instant_of held.s held.values ∷ rest) =
       parted.1 ∙ ap (λ (l : List Instant). l ++ rest) held.instants ∙ append_assoc held.before (instant_of held.s held.values ∷ []) rest in
-      let behind : AllAt at end (instant_of held.s held.values ∷ rest) =
+      let beyond : AllAt at end (instant_of held.s held.values ∷ rest) =
       all_back (λ (i : Instant). at ≤ i.t → i.t ≡ end) held.before (instant_of held.s held.values ∷ rest) (subst (AllAt at end) whole all) in
       let same : z.t ≡ held.s.t = ap (λ (u : Situation). u.t) held.stands in
-      let here : held.s.t ≡ end = head_at at end held.s held.values rest (instant_of held.s held.values ∷ rest) (let reached = h.reached in omega (arith, reached, same)) refl behind in
-      by rest parted.2 (All-tail (λ (i : Instant). at ≤ i.t → i.t ≡ end) (instant_of held.s held.values) rest behind) (sym here ∙ sym same)
+      let here : held.s.t ≡ end = head_at at end held.s held.values rest (instant_of held.s held.values ∷ rest) (let reached = h.reached in omega (arith, reached, same)) refl beyond in
+      by rest parted.2 (All-tail (λ (i : Instant). at ≤ i.t → i.t ≡ end) (instant_of held.s held.values) rest beyond) (sym here ∙ sym same)
     where
       by : (rest : List Instant) → Rest r (at_step r z) rest kind end → AllAt at end rest → end ≡ z.t → ⊥
       by rest (NoneLeft departs none) all here = no_end z (P.Ends kind end) kind end (held_departed h.held) h.held.early other here ((two r z (P.Ends kind end)).1 departs) refl
@@ -150,9 +150,9 @@ module _ (splits : Splits) (two : StepsInTwo) (r : Run) (steps : StepsWithin r) 
     by (Well p end log is course ends may) replies before =
         ended end p ends may is (first_at r.system r.bound r.plan at p log is course)
         (trace_at r sound plan machines ignore end p ends is (states_by r (I.instantiated r) log) (stood r sound plan machines ignore at p log is course replies))
-    by (Badly p bad front more is course falls) replies before = absurd (true_false (sym before))
-  none_held _ _ _ (BadlyHeld s bad front more is comes stops) replies before = absurd (true_false (sym before))
-  none_held _ _ _ (WellHeld s front entered keeping is comes into keeps can) replies before = absurd (true_false (sym before))
+    by (Badly p bad prefix more is course falls) replies before = absurd (true_false (sym before))
+  none_held _ _ _ (BadlyHeld s bad prefix more is comes stops) replies before = absurd (true_false (sym before))
+  none_held _ _ _ (WellHeld s prefix entered keeping is comes into keeps can) replies before = absurd (true_false (sym before))
 
 pub early_has_none : Splits → StepsInTwo → EarlyHasNone
 early_has_none splits two r at made log end piece steps c before =

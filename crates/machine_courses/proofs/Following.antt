@@ -14,7 +14,7 @@ use Rattle.run_model.specs.Stepping.{Next}
 use Rattle.run_model.specs.Trace.{Leads, LeadsBy, instant_of}
 use Rattle.run_model.proofs.CallerLemmas.{situation_reached}
 use Rattle.calling_sequence.specs.Course.{Spot}
-use Rattle.machine_courses.specs.Fronts.{AtFirst, CameTo, Onward}
+use Rattle.machine_courses.specs.Prefixes.{AtFirst, CameTo, Onward}
 
 -- what follows, by whether an Update asks for the end, whether another instant is asked for, and whether the instants have reached their limit
 abbrev pub by_answers : (asked again limited : Bool) → Following

@@ -34,15 +34,15 @@ use Rattle.event_iteration.proofs.ByLog.{made_all, replies_first, stage_states, 
 use Rattle.calling_sequence.specs.declared.run_end.RunEnd.{RunEnd}
 use Rattle.calling_sequence.specs.declared.run_end.RunEnd.TheVariants as E
 use Rattle.calling_sequence.specs.Calls as Calls
-use Rattle.calling_sequence.specs.Course.{Again, Agreed, Agreeing, Arrives, Binds, CourseIn, Departing, Enters, Exits, Finds, Frees, GoesOn, IsWithin, LeadsTo, Leaves, Leaving, Left, Place, Reads, Rearming, Restored, Resumes, Saved, Saves, Seen, Sets, Short, Spot, Stopping, Times, Updates, UpToHeld, part_at, shown}
+use Rattle.calling_sequence.specs.Course.{Again, Agreed, Agreeing, Arrives, Binds, CourseIn, Departing, Enters, Exits, Finds, Frees, GoesOn, IsWithin, LeadsTo, Leaves, Leaving, Left, Place, Reads, Rearming, Restored, Resumes, Saved, Saves, InstantDone, Sets, Short, Spot, Stopping, Times, Updates, UpToHeld, part_at, shown}
 use Rattle.calling_sequence.specs.Ends.{AtLimit, AtShort, AtStop, Badly, ByStep, ByUpdate, EndsAt, FinishesIn, LostAtFirst, LostThere, Unfit, UnfitAtFirst, Well, header_of, kind_of_end, point_of}
 use Rattle.calling_sequence.specs.Holding.{ComesToHold, arming_of, by_port, kept_at, times_of}
 use Rattle.calling_sequence.specs.Parts.{Does}
-use Rattle.calling_sequence.proofs.Along.{along}
-use Rattle.machine_courses.specs.Fronts.{AtFirst, CameTo, Onward}
+use Rattle.calling_sequence.proofs.CourseInduction.{along}
+use Rattle.machine_courses.specs.Prefixes.{AtFirst, CameTo, Onward}
 use Rattle.machine_courses.specs.Held.{BadlyHeld, Early, EndsEarly, HoldsBy, HoldsRun, KeepsRun, WellHeld, checkpoint_of, experiment_of, packings_of, spot_of}
 use Rattle.machine_courses.specs.Laws.{HeldByLog}
-use Rattle.machine_courses.proofs.Fronts.{stands_in}
+use Rattle.machine_courses.proofs.Prefixes.{stands_in}
 use Rattle.machine_courses.proofs.Places.{At, Says, over}
 use Rattle.machine_courses.proofs.Rows.{follows}
 use Rattle.machine_courses.proofs.RunLaw.{lacks_at, loses_at_first, loses_there, made_replies, short_at, trace_at}
@@ -80,31 +80,31 @@ module _ (system : System) (bound : Bound) (plan : Plan) (at : ℕ) where
       subst (AllAt at u) (sym (append-nil is))
       (All-weaker (λ (i : Instant). at ≤ i.t → i.t ≡ t) (λ (i : Instant). at ≤ i.t → i.t ≡ u) (λ i one from. absurd (let there = one from in omega (arith, there, from, below))) is all)
 
-  first_on : (p q : Place) (values : List (Option ℤ)) (front more : List Sent) (is : List Instant) → CourseIn system bound plan (UpToHeld at) p front is → IsFirst plan at p is → Does system (part_at system bound plan p) values more → LeadsTo system plan p values more q → IsWithin (UpToHeld at) q → IsFirst plan at q (is ++ shown q)
-  first_on _ _ values front more is course f does (Binds v l) within = record { all = still plan.start plan.start is refl f.all; below = tt }
-  first_on _ _ values front more is course f does (Enters v l) within = record { all = still plan.start plan.start is refl f.all; below = tt }
-  first_on _ _ values front more is course f does (Finds v l) within = record { all = still plan.start plan.start is refl f.all; below = tt }
-  first_on _ _ values front more is course f does (Times found v l timers none are) within = record { all = still plan.start plan.start is refl f.all; below = tt }
-  first_on _ _ values front more is course f does (Exits timers v l s ticks is_is begins) within = record { all = still plan.start s.t is (sym (ap (λ (u : Spot). u.t) is_is)) f.all; below = tt }
-  first_on _ _ values front more is course f does (Reads s ticks v l len) within = record { all = still s.t s.t is refl f.all; below = tt }
-  first_on _ _ values front more is course f does (Rearming s v next l none rearms) within = record { all = still s.t s.t is refl f.all; below = tt }
-  first_on _ _ values front more is course f does (Updates s v l events again asked are goes asks) within = record {
+  first_on : (p q : Place) (values : List (Option ℤ)) (prefix more : List Sent) (is : List Instant) → CourseIn system bound plan (UpToHeld at) p prefix is → IsFirst plan at p is → Does system (part_at system bound plan p) values more → LeadsTo system plan p values more q → IsWithin (UpToHeld at) q → IsFirst plan at q (is ++ shown q)
+  first_on _ _ values prefix more is course f does (Binds v l) within = record { all = still plan.start plan.start is refl f.all; below = tt }
+  first_on _ _ values prefix more is course f does (Enters v l) within = record { all = still plan.start plan.start is refl f.all; below = tt }
+  first_on _ _ values prefix more is course f does (Finds v l) within = record { all = still plan.start plan.start is refl f.all; below = tt }
+  first_on _ _ values prefix more is course f does (Times found v l timers none are) within = record { all = still plan.start plan.start is refl f.all; below = tt }
+  first_on _ _ values prefix more is course f does (Exits timers v l s ticks is_is begins) within = record { all = still plan.start s.t is (sym (ap (λ (u : Spot). u.t) is_is)) f.all; below = tt }
+  first_on _ _ values prefix more is course f does (Reads s ticks v l len) within = record { all = still s.t s.t is refl f.all; below = tt }
+  first_on _ _ values prefix more is course f does (Rearming s v next l none rearms) within = record { all = still s.t s.t is refl f.all; below = tt }
+  first_on _ _ values prefix more is course f does (Updates s v l events again asked are goes asks) within = record {
     all =
         let i : Instant = record { t = s.t; n = s.n; values = s.values } in
         let P : Instant → Type 0 = λ (j : Instant). at ≤ j.t → j.t ≡ s.t in
         All-append P is (i ∷ []) f.all (All-cons P i [] (λ from. refl) (All-nil P));
     below = tt;
   }
-  first_on _ _ values front more is course f does (Again s v l ticks other begins) within = record { all = still s.t s.t is refl f.all; below = tt }
-  first_on _ _ values front more is course f does (GoesOn w v l step) within = record { all = still w.s.t w.s.t is refl f.all; below = within }
-  first_on _ _ values front more is course f does (Leaves w v l) within = record { all = still w.s.t w.s.t is refl f.all; below = f.below }
-  first_on _ _ values front more is course f does (Sets w v l) within = record { all = still w.s.t w.s.t is refl f.all; below = f.below }
-  first_on _ _ values front more is course f does (Saves w v l) within = record { all = still w.s.t w.s.t is refl f.all; below = f.below }
-  first_on _ _ values front more is course f does (Agreeing w v l point asked agrees asks) within = record { all = still w.s.t w.s.t is refl f.all; below = f.below }
-  first_on _ _ values front more is course f does (Stopping w v l component end agrees) within = record { all = still w.s.t w.s.t is refl f.all; below = f.below }
-  first_on _ _ values front more is course f does (Frees w point asked v l) within = record { all = past w.s.t point is f.below f.all; below = tt }
-  first_on _ _ values front more is course f does (Arrives s v l ticks begins) within = record { all = still s.t s.t is refl f.all; below = tt }
-  first_on _ _ values front more is course f does (Resumes w v l step) within = record { all = still w.s.t w.s.t is refl f.all; below = f.below }
+  first_on _ _ values prefix more is course f does (Again s v l ticks other begins) within = record { all = still s.t s.t is refl f.all; below = tt }
+  first_on _ _ values prefix more is course f does (GoesOn w v l step) within = record { all = still w.s.t w.s.t is refl f.all; below = within }
+  first_on _ _ values prefix more is course f does (Leaves w v l) within = record { all = still w.s.t w.s.t is refl f.all; below = f.below }
+  first_on _ _ values prefix more is course f does (Sets w v l) within = record { all = still w.s.t w.s.t is refl f.all; below = f.below }
+  first_on _ _ values prefix more is course f does (Saves w v l) within = record { all = still w.s.t w.s.t is refl f.all; below = f.below }
+  first_on _ _ values prefix more is course f does (Agreeing w v l point asked agrees asks) within = record { all = still w.s.t w.s.t is refl f.all; below = f.below }
+  first_on _ _ values prefix more is course f does (Stopping w v l component end agrees) within = record { all = still w.s.t w.s.t is refl f.all; below = f.below }
+  first_on _ _ values prefix more is course f does (Frees w point asked v l) within = record { all = past w.s.t point is f.below f.all; below = tt }
+  first_on _ _ values prefix more is course f does (Arrives s v l ticks begins) within = record { all = still s.t s.t is refl f.all; below = tt }
+  first_on _ _ values prefix more is course f does (Resumes w v l step) within = record { all = still w.s.t w.s.t is refl f.all; below = f.below }
 
   pub first_at : (p : Place) (log : List Sent) (is : List Instant) → CourseIn system bound plan (UpToHeld at) p log is → IsFirst plan at p is
   first_at = along system bound plan (UpToHeld at) (λ p log is. IsFirst plan at p is) (record { all = All-nil (λ (i : Instant). at ≤ i.t → i.t ≡ plan.start); below = tt }) first_on
@@ -122,9 +122,9 @@ module _ (r : Run) (sound : IsSound r.system) (plan : IsPlan r.plan) (machines :
   pub stood : (p : Place) (log : List Sent) (is : List Instant) → CourseIn r.system r.bound r.plan (UpToHeld at) p log is → AreReplies r base log → At r p is (states_by r base log)
   stood p log is course replies = (stands_in r sound plan machines ignore (UpToHeld at) [] base (made_all r machines) (refl, refl) p log is course replies).at
 
-  module _ (s : Spot) (front : List Sent) (is : List Instant) (comes : ComesToHold (experiment_of r) at s front is) (replies : AreReplies r base front) where
-    says : Says r s false false is (states_by r base front)
-    says = stood (Seen s false false) front is comes.course replies
+  module _ (s : Spot) (prefix : List Sent) (is : List Instant) (comes : ComesToHold (experiment_of r) at s prefix is) (replies : AreReplies r base prefix) where
+    says : Says r s false false is (states_by r base prefix)
+    says = stood (InstantDone s false false) prefix is comes.course replies
 
     abbrev z : Situation
     z = over r s is says.sees
@@ -137,14 +137,14 @@ module _ (r : Run) (sound : IsSound r.system) (plan : IsPlan r.plan) (machines :
         values = s.values;
         comes = comes_of r says.sees.z says.sees.earlier says.sees.at.came;
         solves = says.sees.solves;
-        done = follows r sound plan machines ignore s false false is (states_by r base front) says;
+        done = follows r sound plan machines ignore s false false is (states_by r base prefix) says;
         stands = refl;
         early = (let point = says.sees.at.point in let early = comes.early in omega (arith, point, early));
         instants = says.sees.is_is;
       };
       reached = (let point = says.sees.at.point in let reached = comes.reached in omega (arith, point, reached));
       first = All-weaker (λ (i : Instant). at ≤ i.t → i.t ≡ s.t) (λ (i : Instant). at ≤ i.t → i.t ≡ z.t) (λ i one from. one from ∙ sym says.sees.at.point) is
-          (first_at r.system r.bound r.plan at (Seen s false false) front is comes.course).all;
+          (first_at r.system r.bound r.plan at (InstantDone s false false) prefix is comes.course).all;
     }
 
     -- what is kept of it is the checkpoint
@@ -169,14 +169,14 @@ module _ (r : Run) (sound : IsSound r.system) (plan : IsPlan r.plan) (machines :
         ∙ ap₂ (λ (armings : List Arming) (events : List (Option ℕ)). make z.t (by_port times_of ports z.timers) armings events states)
         (sym (armings_alike stop ports z.timers s.timers says.sees.timers)) (sym (same_alike (time_up_to stop) z.events s.events says.sees.events))
 
-    into : (entered : List Sent) → IsAnswered (shapes_of r.system) (Calls.entering_step r.system) entered → states_by r base (front ++ entered) ≡ entering_step r z
+    into : (entered : List Sent) → IsAnswered (shapes_of r.system) (Calls.entering_step r.system) entered → states_by r base (prefix ++ entered) ≡ entering_step r z
     into entered answered =
-        states_on r base front entered
+        states_on r base prefix entered
         ∙ ap (λ (ss : List MachineState). states_by r ss entered) says.states
         ∙ stage_states r z.states has_events (λ (shape : Shape). C.EnterStep) entered answered
 
     abbrev at_log : List Sent → Snapshot
-    at_log entered = kept_at (experiment_of r) s (packed (packings_of r) (map kept (states_by r base (front ++ entered))))
+    at_log entered = kept_at (experiment_of r) s (packed (packings_of r) (map kept (states_by r base (prefix ++ entered))))
 
     kept_is : (entered : List Sent) → IsAnswered (shapes_of r.system) (Calls.entering_step r.system) entered → at_log entered ≡ checkpoint_of r z
     kept_is entered answered =
@@ -200,10 +200,10 @@ module _ (r : Run) (sound : IsSound r.system) (plan : IsPlan r.plan) (machines :
   early_at end p ends is ss x = record { is = is; trace = trace_at r sound plan machines ignore end p ends is ss x; put = refl }
 
   early : (end : RunEnd) (p : Place) → (ends : EndsAt r.system r.plan end p) → (is : List Instant) (ss : List MachineState) → At r p is ss → HoldsRun r at end (end_text (kind_of_end end) (point_of r.plan p))
-  early _ _ (AtStop s at_stop) is ss x = subst (λ (t : ℕ). EndsEarly r K.Stop t (end_text K.Stop s.t)) at_stop (early_at E.Stop (Seen s false false) (AtStop s at_stop) is ss x)
-  early _ _ (ByUpdate s again) is ss x = early_at (E.Asked s.t) (Seen s again true) (ByUpdate s again) is ss x
+  early _ _ (AtStop s at_stop) is ss x = subst (λ (t : ℕ). EndsEarly r K.Stop t (end_text K.Stop s.t)) at_stop (early_at E.Stop (InstantDone s false false) (AtStop s at_stop) is ss x)
+  early _ _ (ByUpdate s again) is ss x = early_at (E.Asked s.t) (InstantDone s again true) (ByUpdate s again) is ss x
   early end p (ByStep s) is ss x = early_at end p (ByStep s) is ss x
-  early _ _ (AtLimit s limit) is ss x = early_at (E.EventLimit s.t) (Seen s true false) (AtLimit s limit) is ss x
+  early _ _ (AtLimit s limit) is ss x = early_at (E.EventLimit s.t) (InstantDone s true false) (AtLimit s limit) is ss x
   early end p (Unfit s component to bound unfit) is ss x =
       (early_at end p (Unfit s component to bound unfit) is ss x, lacks_at r sound plan machines ignore s is x.sees (follows r sound plan machines ignore s false false is ss x) component.0 to bound unfit)
   early end p (UnfitAtFirst s component to bound unfit) is ss x =
@@ -214,13 +214,13 @@ module _ (r : Run) (sound : IsSound r.system) (plan : IsPlan r.plan) (machines :
 
   finished : (end : RunEnd) (point : ℕ) (log : List Sent) (is : List Instant) → FinishesIn r.system r.bound r.plan (UpToHeld at) end point log is → AreReplies r base log → HoldsRun r at end (end_text (kind_of_end end) point)
   finished _ _ _ _ (Well p end log is course ends may) replies = early end p ends is (states_by r base log) (stood p log is course replies)
-  finished _ _ _ _ (Badly p bad front more is course falls) replies = (point_of r.plan p, refl)
+  finished _ _ _ _ (Badly p bad prefix more is course falls) replies = (point_of r.plan p, refl)
 
   holds : (end : RunEnd) (log : List Sent) (piece : List ℕ) → HoldsBy r at end log piece → AreReplies r base log → HoldsRun r at end piece
   holds _ _ _ (Early end point log is f) replies = finished end point log is f replies
-  holds _ _ _ (BadlyHeld s bad front more is comes stops) replies = (s.t, refl)
-  holds _ _ _ (WellHeld s front entered keeping is comes into_step answered can) replies =
-      keeps_run s front is comes (replies_first r base front entered (replies_first r base (front ++ entered) keeping replies)) entered into_step can
+  holds _ _ _ (BadlyHeld s bad prefix more is comes stops) replies = (s.t, refl)
+  holds _ _ _ (WellHeld s prefix entered keeping is comes into_step answered can) replies =
+      keeps_run s prefix is comes (replies_first r base prefix entered (replies_first r base (prefix ++ entered) keeping replies)) entered into_step can
 
 pub held_by_log : HeldByLog
 held_by_log r at made log end piece c = holds r c.sound c.plan c.machines c.ignore at end log piece c.holds (made_replies r made log c.making c.replies)

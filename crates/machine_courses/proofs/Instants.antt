@@ -15,7 +15,7 @@ use Rattle.system_model.specs.declared.system.Port.{Port}
 use Rattle.system_model.specs.declared.system.Role.{Role}
 use Rattle.system_model.specs.declared.system.Role.TheVariants.{Input, Output, ClockInput, ClockOutput, TimeClock}
 use Rattle.system_model.specs.Needs.{ByFeed, Needs}
-use Rattle.system_model.specs.Ports.{is_clock_role, is_output_role, numbers, source_of}
+use Rattle.system_model.specs.Ports.{is_clock_role, is_output_role, port_numbers, source_of}
 use Rattle.system_model.specs.Sound.{IsSound}
 use Rattle.system_model.proofs.CallerLemmas.{events_of, place_of}
 use Rattle.run_model.specs.AfterInstant as F
@@ -37,7 +37,7 @@ use Rattle.event_iteration.specs.Instants.{asks_in_instant, in_instant, is_read_
 use Rattle.event_iteration.specs.Intervals.{intervals}
 use Rattle.event_iteration.specs.Settings.{port_order}
 use Rattle.event_iteration.specs.Updates.{updating}
-use Rattle.event_iteration.specs.WalkCalls.{Front, has_events_at, instant_span}
+use Rattle.event_iteration.specs.WalkCalls.{Prefix, has_events_at, instant_span}
 use Rattle.event_iteration.proofs.ByLog.{InstantSoFar, IsAsked, asked_interval, each_call_once, fmu_on, instant_so_far, intervals_read, reads_part, replies_first, states_all, written_all}
 use Rattle.machine_courses.specs.Outcomes.{IsLost}
 use Rattle.machine_courses.proofs.Lost.{lost_stops, lost_walk}
@@ -56,7 +56,7 @@ module _ (r : Run) (sound : IsSound r.system) (machines : AreMachines r) (well :
 
   -- ---- a call that finds a value
 
-  module _ (ticks : ℕ → Bool) (are_ticks : AreTicks r.system r.plan.start s.timers s.t s.n ticks) (values : List (Option ℤ)) (u : ExplainsUntil r.system (in_instant ticks (s.n == 0)) s.before (numbers r.system.instant_order) bad values log) (replies : AreReplies r s.states log) where
+  module _ (ticks : ℕ → Bool) (are_ticks : AreTicks r.system r.plan.start s.timers s.t s.n ticks) (values : List (Option ℤ)) (u : ExplainsUntil r.system (in_instant ticks (s.n == 0)) s.before (port_numbers r.system.instant_order) bad values log) (replies : AreReplies r s.states log) where
     abbrev port : Port
     port = u.stops.port
 
@@ -72,8 +72,8 @@ module _ (r : Run) (sound : IsSound r.system) (machines : AreMachines r) (well :
     abbrev solved : Solves r s W
     solved = (solution r sound machines s reached).1
 
-    so_far : InstantSoFar r s W u.taken values u.front
-    so_far = instant_so_far r sound machines s situation ticks are_ticks W solved u.taken (u.p ∷ u.rest) u.order_is values u.front u.told (replies_first r s.states u.front (u.last ∷ []) (subst (AreReplies r s.states) u.log_is replies))
+    so_far : InstantSoFar r s W u.taken values u.prefix
+    so_far = instant_so_far r sound machines s situation ticks are_ticks W solved u.taken (u.p ∷ u.rest) u.order_is values u.prefix u.told (replies_first r s.states u.prefix (u.last ∷ []) (subst (AreReplies r s.states) u.log_is replies))
 
     -- what the port needs was taken
     needed : (q : ℕ) → Needs r.system u.p q → Contains u.taken q
@@ -84,13 +84,13 @@ module _ (r : Run) (sound : IsSound r.system) (machines : AreMachines r) (well :
 
     module _ (m : Machine) (z : MachineState) (fmu : IsFmu r s.states port.component.0 c m z) where
       abbrev there : MachineState
-      there = state_by m z (part port.component.0 u.front)
+      there = state_by m z (part port.component.0 u.prefix)
 
       own : BehavesInInstant r s W port.component.0
       own = (well port.component.0).in_instants s W reached solved
 
       like : IsLike z there
-      like = like_walk (instant_span (s.n == 0) (has_events_at r.system port.component.0)) port.component.0 log u.front u.last u.log_is ((each_call_once r.system sound).instant ticks (s.n == 0) s.before log (Front bad values log u) port.component.0) m z
+      like = like_walk (instant_span (s.n == 0) (has_events_at r.system port.component.0)) port.component.0 log u.prefix u.last u.log_is ((each_call_once r.system sound).instant ticks (s.n == 0) s.before log (Prefix bad values log u) port.component.0) m z
 
       set_well : (feed : Feed) → port.role ≡ Input (Some feed) → events ≡ true → (x : ℤ) → fed port.kind feed values ≡ Some x → IsAnsweredWell c.shape m there (C.Set port.kind port.reference x)
       set_well feed same with_events x from =
@@ -157,7 +157,7 @@ module _ (r : Run) (sound : IsSound r.system) (machines : AreMachines r) (well :
 
     pub lost_found : IsLost count log bad.why
     lost_found =
-        lost_walk r s.states (states_all r machines s situation) bad log replies (in_instant ticks (s.n == 0)) s.before (numbers r.system.instant_order) values u (λ m z fmu. call_well m z fmu port.role refl u.last.exchange.call u.stops.asks)
+        lost_walk r s.states (states_all r machines s situation) bad log replies (in_instant ticks (s.n == 0)) s.before (port_numbers r.system.instant_order) values u (λ m z fmu. call_well m z fmu port.role refl u.last.exchange.call u.stops.asks)
 
   module _ (V : List (Option ℤ)) (solves : Solves r s V) (replies : AreReplies r (F.written r s V) log) where
     -- a question for an interval
@@ -169,7 +169,7 @@ module _ (r : Run) (sound : IsSound r.system) (machines : AreMachines r) (well :
         let answers : AnswersWell r there port.component.0 (λ shape. C.GetInterval port.reference) =
         by port asks.0 (((well port.component.0).in_instants s V reached solves).ports u.p port u.stops.is refl) in
         lost_walk r there (written_all r machines s situation V) bad log replies (intervals V) V (port_order r.system) values u
-        (λ m z fmu. subst (λ (y : MachineState). IsAnsweredWell u.stops.component.shape m y u.last.exchange.call) (sym (reads_part port.component.0 m z u.front (intervals_read r.system V V values u.taken u.front u.told)))
+        (λ m z fmu. subst (λ (y : MachineState). IsAnsweredWell u.stops.component.shape m y u.last.exchange.call) (sym (reads_part port.component.0 m z u.prefix (intervals_read r.system V V values u.taken u.prefix u.told)))
         (subst (IsAnsweredWell u.stops.component.shape m z) (sym asks.1) (answers u.stops.component m z fmu))) where
           by : (port : Port) → IsAsked port.role (value V u.p) → AnswersAt port.role r s V u.p port → AnswersWell r (F.written r s V) port.component.0 (λ shape. C.GetInterval port.reference)
           by port (inl down) answers = subst (λ (x : Role). AnswersAt x r s V u.p port) down answers

@@ -18,7 +18,7 @@ use Rattle.run_model.specs.Inputs.{state_with}
 use Rattle.run_model.specs.Run.{IsFmu, Run, Situation}
 use Rattle.run_rest.specs.Parted.{entering_step}
 use Rattle.slot_calls.specs.declared.bad_answer.BadAnswer.{BadAnswer}
-use Rattle.slot_calls.specs.Log.{Asking, Sent, askings, part}
+use Rattle.slot_calls.specs.Log.{ComponentCall, Sent, component_calls, part}
 use Rattle.slot_calls.specs.Replies.{AreReplies, state_by}
 use Rattle.slot_calls.specs.Stage.{StopsAt, has_events, shapes_of}
 use Rattle.slot_calls.proofs.CallerLemmas.{first_same, rest_same, same}
@@ -108,8 +108,8 @@ module _ (r : Run) (well : WellBehaved r) (z : Situation) (departed : Departed r
     abbrev left : List Call
     left = own k stops.left
 
-    are : holding r.system ≡ askings (stops.front ++ stops.last ∷ []) ++ stops.left
-    are = stops.calls_are ∙ ap (λ (l : List Sent). askings l ++ stops.left) stops.log_is
+    are : holding r.system ≡ component_calls (stops.prefix ++ stops.last ∷ []) ++ stops.left
+    are = stops.calls_are ∙ ap (λ (l : List Sent). component_calls l ++ stops.left) stops.log_is
 
     len : length (shapes_of r.system) ≡ length r.system.components
     len = length-map r.system.components (λ (c : Component). c.shape)
@@ -117,19 +117,19 @@ module _ (r : Run) (well : WellBehaved r) (z : Situation) (departed : Departed r
     within : k < length r.system.components
     within =
         let n = length (shapes_of r.system) in
-        let inside = amid n stops.front stops.last [] stops.left (subst (All (IsToOne n)) are
+        let inside = amid n stops.prefix stops.last [] stops.left (subst (All (IsToOne n)) are
         (All-append (IsToOne n) (Calls.entering_step r.system) (Calls.keeping r.system) (to_ones has_events (λ (shape : Shape). C.EnterStep) n 0 (shapes_of r.system) (omega arith)) (keeping_to r.system))) in
         let same_len = len in
         omega (arith, inside, same_len)
 
     -- the calls to the FMU whose answer isn't good
-    calls_are : (c : Component) → slice_get r.system.components k ≡ Some c → calls_in (part k stops.front) ++ stops.last.exchange.call ∷ left ≡ calls_to c.shape.has_event_mode
+    calls_are : (c : Component) → slice_get r.system.components k ≡ Some c → calls_in (part k stops.prefix) ++ stops.last.exchange.call ∷ left ≡ calls_to c.shape.has_event_mode
     calls_are c at =
-        ap (λ (cs : List Call). cs ++ stops.last.exchange.call ∷ left) (own_calls k stops.front)
-        ∙ ap (λ (cs : List Call). own k (askings stops.front) ++ cs) (sym (ap (λ (b : Bool). (if b then stops.last.exchange.call ∷ [] else []) ++ left) (same k k refl)))
-        ∙ sym (append_assoc (own k (askings stops.front)) (own k (askings (stops.last ∷ []))) left)
-        ∙ ap (λ (cs : List Call). cs ++ left) (sym (own_log k stops.front (stops.last ∷ [])))
-        ∙ sym (own_append k (askings (stops.front ++ stops.last ∷ [])) stops.left)
+        ap (λ (cs : List Call). cs ++ stops.last.exchange.call ∷ left) (own_calls k stops.prefix)
+        ∙ ap (λ (cs : List Call). own k (component_calls stops.prefix) ++ cs) (sym (ap (λ (b : Bool). (if b then stops.last.exchange.call ∷ [] else []) ++ left) (same k k refl)))
+        ∙ sym (append_assoc (own k (component_calls stops.prefix)) (own k (component_calls (stops.last ∷ []))) left)
+        ∙ ap (λ (cs : List Call). cs ++ left) (sym (own_log k stops.prefix (stops.last ∷ [])))
+        ∙ sym (own_append k (component_calls (stops.prefix ++ stops.last ∷ [])) stops.left)
         ∙ sym (ap (own k) are)
         ∙ own_append k (Calls.entering_step r.system) (Calls.keeping r.system)
         ∙ ap₂ ◌++◌ (own_there has_events (λ (shape : Shape). C.EnterStep) r.system k c at) (own_keeping r.system k within)
@@ -137,5 +137,5 @@ module _ (r : Run) (well : WellBehaved r) (z : Situation) (departed : Departed r
     pub lost_holding : IsLost (length r.system.components) log bad.why
     lost_holding =
         subst (λ (l : List Sent). IsLost (length r.system.components) l bad.why) (sym stops.log_is)
-        (lost_at r z.states all stops.front stops.last [] bad.why (subst (AreReplies r z.states) stops.log_is replies) stops.first.good stops.first.why within
-        (λ c m y fmu. each_well k c m y fmu (puts k) c.shape.has_event_mode refl (part k stops.front) stops.last.exchange.call left (calls_are c fmu.component)))
+        (lost_at r z.states all stops.prefix stops.last [] bad.why (subst (AreReplies r z.states) stops.log_is replies) stops.first.good stops.first.why within
+        (λ c m y fmu. each_well k c m y fmu (puts k) c.shape.has_event_mode refl (part k stops.prefix) stops.last.exchange.call left (calls_are c fmu.component)))

@@ -6,7 +6,7 @@ pub mod Following
 pub mod Losing
 pub mod Parameters
 pub mod Rows
-pub mod Fronts
+pub mod Prefixes
 pub mod RunLaw
 pub mod Lost
 pub mod Settings

@@ -21,7 +21,7 @@ use Rattle.system_model.specs.declared.system.Component.{Component}
 use Rattle.run_model.specs.Behaved.{IsAnsweredWell}
 use Rattle.run_model.specs.Run.{IsFmu, Run}
 use Rattle.slot_calls.specs.declared.bad_answer.BadAnswer.{BadAnswer}
-use Rattle.slot_calls.specs.Log.{Asking, Sent, askings, part}
+use Rattle.slot_calls.specs.Log.{ComponentCall, Sent, component_calls, part}
 use Rattle.slot_calls.specs.Stage.{FailsIn, IsGoodOf, StopsAt, shapes_of, to_those}
 use Rattle.slot_calls.proofs.CallerLemmas.{same, takes}
 use Rattle.slot_calls.specs.Replies.{AreReplies, RepliesBy, state_by}
@@ -34,13 +34,13 @@ use Rattle.machine_courses.specs.Outcomes.{IsLost}
 -- ---- a call that failed
 
 -- after another log
-pub lost_behind : (n : ℕ) (before log : List Sent) (why : Why) → IsLost n log why → IsLost n (before ++ log) why
-lost_behind n before log why l = record {
+pub lost_after : (n : ℕ) (before log : List Sent) (why : Why) → IsLost n log why → IsLost n (before ++ log) why
+lost_after n before log why l = record {
   link = l.link;
-  front = before ++ l.front;
+  prefix = before ++ l.prefix;
   last = l.last;
   back = l.back;
-  is = ap (λ (x : List Sent). before ++ x) l.is ∙ sym (append_assoc before l.front (l.last ∷ l.back));
+  is = ap (λ (x : List Sent). before ++ x) l.is ∙ sym (append_assoc before l.prefix (l.last ∷ l.back));
   within = l.within;
   unanswered = l.unanswered;
 }
@@ -69,27 +69,27 @@ abbrev pub AnswerWell : Run → List MachineState → (Shape → Bool) → (Shap
 AnswerWell r ss test call = (i : ℕ) (c : Component) (m : Machine) (s : MachineState) → IsFmu r ss i c m s → test c.shape ≡ true → IsAnsweredWell c.shape m s (call c.shape)
 
 module _ (r : Run) (ss : List MachineState) (all : AreAll r ss) where
-  module _ (front : List Sent) (last : Sent) (back : List Sent) (why : Why) (replies : AreReplies r ss (front ++ last ∷ back)) (good : All (IsGoodOf (shapes_of r.system)) front)
+  module _ (prefix : List Sent) (last : Sent) (back : List Sent) (why : Why) (replies : AreReplies r ss (prefix ++ last ∷ back)) (good : All (IsGoodOf (shapes_of r.system)) prefix)
       (is : (d : Shape) → IsWhy (get_or (shapes_of r.system) last.component d) why last.exchange) where
     -- a bad answer to a call that its FMU answers well in its state there
     pub lost_at : last.component < length r.system.components →
-        ((c : Component) (m : Machine) (z : MachineState) → IsFmu r ss last.component c m z → IsAnsweredWell c.shape m (state_by m z (part last.component front)) last.exchange.call) → IsLost (length r.system.components) (front ++ last ∷ back) why
+        ((c : Component) (m : Machine) (z : MachineState) → IsFmu r ss last.component c m z → IsAnsweredWell c.shape m (state_by m z (part last.component prefix)) last.exchange.call) → IsLost (length r.system.components) (prefix ++ last ∷ back) why
     lost_at within well =
         let k = last.component in
         let c = got r.system.components k within in
         let x = fmu_of r ss all k c.0 c.1 in
-        let there : MachineState = state_by x.0 x.1 (part k front) in
+        let there : MachineState = state_by x.0 x.1 (part k prefix) in
         let own : RepliesBy x.0 there (last.exchange ∷ part k back) =
-        subst (RepliesBy x.0 there) (takes (k == k) last.exchange (part k back) (same k k refl)) (replies_then r ss front (last ∷ back) good replies k c.0 x.0 there (fmu_on r ss (λ j d n z. state_by n z (part j front)) k c.0 x.0 x.1 x.2)) in
+        subst (RepliesBy x.0 there) (takes (k == k) last.exchange (part k back) (same k k refl)) (replies_then r ss prefix (last ∷ back) good replies k c.0 x.0 there (fmu_on r ss (λ j d n z. state_by n z (part j prefix)) k c.0 x.0 x.1 x.2)) in
         let here : IsWhy c.0.shape why last.exchange = subst (λ (h : Shape). IsWhy h why last.exchange) (sym (shape_of_component r.system k c.0 c.1 c.0.shape)) (is c.0.shape) in
         let link = only_link x.0 c.0.shape there last.exchange (part k back) why own (well c.0 x.0 x.1 x.2) here in
-        record { link = link; front = front; last = last; back = back; is = refl; within = within; unanswered = link_lost c.0.shape why last.exchange link here }
+        record { link = link; prefix = prefix; last = last; back = back; is = refl; within = within; unanswered = link_lost c.0.shape why last.exchange link here }
 
     -- in one call to some, that each of them answers well
-    pub lost_in_stage : (test : Shape → Bool) (call : Shape → Call) (left : List Asking) → to_those test call (shapes_of r.system) ≡ askings (front ++ last ∷ back) ++ left → AnswerWell r ss test call →
-        IsLost (length r.system.components) (front ++ last ∷ back) why
+    pub lost_in_stage : (test : Shape → Bool) (call : Shape → Call) (left : List ComponentCall) → to_those test call (shapes_of r.system) ≡ component_calls (prefix ++ last ∷ back) ++ left → AnswerWell r ss test call →
+        IsLost (length r.system.components) (prefix ++ last ∷ back) why
     lost_in_stage test call left calls well =
-        let t = turn test call last back left 0 (shapes_of r.system) front calls in
+        let t = turn test call last back left 0 (shapes_of r.system) prefix calls in
         let at = t.to.at in
         let within = slice_get_within (shapes_of r.system) t.to.place t.to.one t.to.is in
         let len = length-map r.system.components (λ (c : Component). c.shape) in
@@ -107,26 +107,26 @@ module _ (r : Run) (ss : List MachineState) (all : AreAll r ss) (bad : BadAnswer
   pub lost_stops : (test : Shape → Bool) (call : Shape → Call) → StopsAt (shapes_of r.system) (to_those test call (shapes_of r.system)) bad log → AnswerWell r ss test call → IsLost (length r.system.components) log bad.why
   lost_stops test call s well =
       subst (λ (l : List Sent). IsLost (length r.system.components) l bad.why) (sym s.log_is)
-      (lost_in_stage r ss all s.front s.last [] bad.why (subst (AreReplies r ss) s.log_is replies) s.first.good s.first.why test call s.left (s.calls_are ∙ ap (λ (l : List Sent). askings l ++ s.left) s.log_is) well)
+      (lost_in_stage r ss all s.prefix s.last [] bad.why (subst (AreReplies r ss) s.log_is replies) s.first.good s.first.why test call s.left (s.calls_are ∙ ap (λ (l : List Sent). component_calls l ++ s.left) s.log_is) well)
 
   pub lost_fails : (test : Shape → Bool) (call : Shape → Call) → FailsIn (shapes_of r.system) (to_those test call (shapes_of r.system)) bad log → AnswerWell r ss test call → IsLost (length r.system.components) log bad.why
   lost_fails test call f well =
       subst (λ (l : List Sent). IsLost (length r.system.components) l bad.why) (sym f.log_is)
-      (lost_in_stage r ss all f.front f.last f.back bad.why (subst (AreReplies r ss) f.log_is replies) f.first.good f.first.why test call []
-      (sym f.calls_are ∙ ap askings f.log_is ∙ sym (append-nil (askings (f.front ++ f.last ∷ f.back)))) well)
+      (lost_in_stage r ss all f.prefix f.last f.back bad.why (subst (AreReplies r ss) f.log_is replies) f.first.good f.first.why test call []
+      (sym f.calls_are ∙ ap component_calls f.log_is ∙ sym (append-nil (component_calls (f.prefix ++ f.last ∷ f.back)))) well)
 
   -- in a walk, at a call that its FMU answers well in its state there
   pub lost_walk : (rules : Rules) (before : List (Option ℤ)) (order : List ℕ) (values : List (Option ℤ)) (u : ExplainsUntil r.system rules before order bad values log) →
-      ((m : Machine) (z : MachineState) → IsFmu r ss u.stops.port.component.0 u.stops.component m z → IsAnsweredWell u.stops.component.shape m (state_by m z (part u.stops.port.component.0 u.front)) u.last.exchange.call) → IsLost (length r.system.components) log bad.why
+      ((m : Machine) (z : MachineState) → IsFmu r ss u.stops.port.component.0 u.stops.component m z → IsAnsweredWell u.stops.component.shape m (state_by m z (part u.stops.port.component.0 u.prefix)) u.last.exchange.call) → IsLost (length r.system.components) log bad.why
   lost_walk rules before order values u well =
       let s = u.stops in
       let k = s.port.component.0 in
-      let At : ℕ → Type 0 = λ i. (c : Component) (m : Machine) (z : MachineState) → IsFmu r ss i c m z → IsAnsweredWell c.shape m (state_by m z (part i u.front)) u.last.exchange.call in
+      let At : ℕ → Type 0 = λ i. (c : Component) (m : Machine) (z : MachineState) → IsFmu r ss i c m z → IsAnsweredWell c.shape m (state_by m z (part i u.prefix)) u.last.exchange.call in
       let at_own : At k = λ c m z fmu.
       let its : s.component ≡ c = same_Some _ _ (sym s.of ∙ fmu.component) in
-      subst (λ (d : Component). IsAnsweredWell d.shape m (state_by m z (part k u.front)) u.last.exchange.call) its (well m z (record { component = s.of; machine = fmu.machine; state = fmu.state })) in
+      subst (λ (d : Component). IsAnsweredWell d.shape m (state_by m z (part k u.prefix)) u.last.exchange.call) its (well m z (record { component = s.of; machine = fmu.machine; state = fmu.state })) in
       subst (λ (l : List Sent). IsLost (length r.system.components) l bad.why) (sym u.log_is)
-      (lost_at r ss all u.front u.last [] bad.why (subst (AreReplies r ss) u.log_is replies) ((last_alone_is_bad r.system rules before u.taken values u.front).good u.told)
+      (lost_at r ss all u.prefix u.last [] bad.why (subst (AreReplies r ss) u.log_is replies) ((last_alone_is_bad r.system rules before u.taken values u.prefix).good u.told)
       (λ d. subst (λ (h : Shape). IsWhy h bad.why u.last.exchange) (shape_of_component r.system k s.component s.of d ∙ ap (λ (n : ℕ). get_or (shapes_of r.system) n d) (sym s.sent_to)) s.why)
       (let a = s.sent_to in let b = slice_get_within r.system.components k s.component s.of in omega (arith, a, b))
       (subst At (sym s.sent_to) at_own))

@@ -13,7 +13,7 @@ use Rattle.run_model.specs.Run.{Never, Run, Timer}
 use Rattle.run_model.specs.Timers.{rearmed}
 use Rattle.slot_calls.specs.Log.{Sent}
 use Rattle.event_iteration.specs.Clocks.{AreTicks}
-use Rattle.event_iteration.specs.Intervals.{Rearms, interval_by, timer_behind, timers_behind, timers_behind_from}
+use Rattle.event_iteration.specs.Intervals.{Rearms, interval_by, timer_after, timers_after, timers_after_from}
 use Rattle.calling_sequence.specs.Calls.{IsBoundOf, IsStep}
 use Rattle.run_rest.specs.Snapshot.{time_up_to, up_to}
 use Rattle.run_rest.proofs.CallerLemmas.{Alike, alike_refl, alike_sym, answered_across, bound_across, due_across, rearmed_across, timer_across}
@@ -35,25 +35,25 @@ module _ (plan : Plan) (xs ys : List Timer) (alike : Alike (up_to plan.stop) xs 
 
 -- ---- after an instant
 
-behind_one : (stop : ℕ) (role : Role) (per_second t : ℕ) (v : Option ℤ) (reply : Option Reply) (a b : Timer) → up_to stop a ≡ up_to stop b → up_to stop (timer_behind role per_second t v reply a) ≡ up_to stop (timer_behind role per_second t v reply b)
-behind_one stop (TimeClock Countdown) per_second t v reply a b same =
+after_one : (stop : ℕ) (role : Role) (per_second t : ℕ) (v : Option ℤ) (reply : Option Reply) (a b : Timer) → up_to stop a ≡ up_to stop b → up_to stop (timer_after role per_second t v reply a) ≡ up_to stop (timer_after role per_second t v reply b)
+after_one stop (TimeClock Countdown) per_second t v reply a b same =
     answered_across stop per_second t (interval_by reply) (if is_active v then Never else a) (if is_active v then Never else b) (rearmed_across stop (is_active v) Never a b same)
-behind_one stop (TimeClock Changing) per_second t v reply a b same = rearmed_across stop (is_active v) (rearmed per_second t (interval_by reply)) a b same
-behind_one stop (TimeClock (Periodic interval shift)) per_second t v reply a b same = same
-behind_one stop (TimeClock Answered) per_second t v reply a b same = same
-behind_one stop (Input feed) per_second t v reply a b same = same
-behind_one stop Output per_second t v reply a b same = same
-behind_one stop (ClockInput feed) per_second t v reply a b same = same
-behind_one stop ClockOutput per_second t v reply a b same = same
+after_one stop (TimeClock Changing) per_second t v reply a b same = rearmed_across stop (is_active v) (rearmed per_second t (interval_by reply)) a b same
+after_one stop (TimeClock (Periodic interval shift)) per_second t v reply a b same = same
+after_one stop (TimeClock Answered) per_second t v reply a b same = same
+after_one stop (Input feed) per_second t v reply a b same = same
+after_one stop Output per_second t v reply a b same = same
+after_one stop (ClockInput feed) per_second t v reply a b same = same
+after_one stop ClockOutput per_second t v reply a b same = same
 
-behind_all : (stop per_second t : ℕ) (values : List (Option ℤ)) (replies : ℕ → Option Reply) (p : ℕ) (ports : List Port) (xs ys : List Timer) → Alike (up_to stop) xs ys →
-    Alike (up_to stop) (timers_behind_from per_second t values replies p ports xs) (timers_behind_from per_second t values replies p ports ys)
-behind_all stop per_second t values replies p [] xs ys alike = tt
-behind_all stop per_second t values replies p (port ∷ ports) [] [] alike = tt
-behind_all stop per_second t values replies p (port ∷ ports) (a ∷ xs) (b ∷ ys) alike =
-    (behind_one stop port.role per_second t (value values p) (replies p) a b alike.0, behind_all stop per_second t values replies (suc p) ports xs ys alike.1)
-behind_all stop per_second t values replies p (port ∷ ports) [] (b ∷ ys) alike = absurd alike
-behind_all stop per_second t values replies p (port ∷ ports) (a ∷ xs) [] alike = absurd alike
+after_all : (stop per_second t : ℕ) (values : List (Option ℤ)) (replies : ℕ → Option Reply) (p : ℕ) (ports : List Port) (xs ys : List Timer) → Alike (up_to stop) xs ys →
+    Alike (up_to stop) (timers_after_from per_second t values replies p ports xs) (timers_after_from per_second t values replies p ports ys)
+after_all stop per_second t values replies p [] xs ys alike = tt
+after_all stop per_second t values replies p (port ∷ ports) [] [] alike = tt
+after_all stop per_second t values replies p (port ∷ ports) (a ∷ xs) (b ∷ ys) alike =
+    (after_one stop port.role per_second t (value values p) (replies p) a b alike.0, after_all stop per_second t values replies (suc p) ports xs ys alike.1)
+after_all stop per_second t values replies p (port ∷ ports) [] (b ∷ ys) alike = absurd alike
+after_all stop per_second t values replies p (port ∷ ports) (a ∷ xs) [] alike = absurd alike
 
 -- the same answers lead such timers to such
 pub record Rearmed (system : System) (stop per_second t : ℕ) (values : List (Option ℤ)) (xs nexts : List Timer) (log : List Sent) : Type 0 where
@@ -63,11 +63,11 @@ pub record Rearmed (system : System) (stop per_second t : ℕ) (values : List (O
 
 pub rearms_across : (system : System) (stop per_second t : ℕ) (values : List (Option ℤ)) (xs ys nexts : List Timer) (log : List Sent) → Alike (up_to stop) xs ys → Rearms system per_second t values ys nexts log → Rearmed system stop per_second t values xs nexts log
 rearms_across system stop per_second t values xs ys nexts log alike r =
-    let others : List Timer = timers_behind per_second t system values r.explains.replies xs in
+    let others : List Timer = timers_after per_second t system values r.explains.replies xs in
     record {
       others = others;
       rearms = record { explains = r.explains; timers_are = refl };
-      alike = subst (λ (ts : List Timer). Alike (up_to stop) others ts) (sym r.timers_are) (behind_all stop per_second t values r.explains.replies 0 system.ports xs ys alike);
+      alike = subst (λ (ts : List Timer). Alike (up_to stop) others ts) (sym r.timers_are) (after_all stop per_second t values r.explains.replies 0 system.ports xs ys alike);
     }
 
 -- ---- a step

@@ -12,7 +12,7 @@ use Rattle.system_model.specs.Bounds.{AreParameterValues, BindsParameters, IsPar
 use Rattle.run_model.specs.Initial as I
 use Rattle.run_model.specs.Initial.{set_call, with_bound}
 use Rattle.run_model.specs.Run.{Run}
-use Rattle.slot_calls.specs.Log.{Asking, Sent, asking_of, askings, part}
+use Rattle.slot_calls.specs.Log.{ComponentCall, Sent, component_call, component_calls, part}
 use Rattle.slot_calls.specs.Replies.{state_by, states_by}
 use Rattle.slot_calls.specs.Stage.{IsAnswered, shapes_of}
 use Rattle.slot_calls.proofs.CallerLemmas.{first_same, other, rest_same, same, skips, takes}
@@ -20,31 +20,31 @@ use Rattle.event_iteration.proofs.ByLog.{each_same}
 use Rattle.calling_sequence.specs.Calls.{binding, binding_from, sets_of}
 
 module _ (m : Machine) (k : ℕ) where
-  abbrev Led : Bool → List BoundValue → List Asking → List Sent → MachineState → Type 0
-  Led own values rest log z = (more : List Sent) × (askings more ≡ rest) × (state_by m z (part k log) ≡ state_by m (if own then with_bound m values z else z) (part k more))
+  abbrev Led : Bool → List BoundValue → List ComponentCall → List Sent → MachineState → Type 0
+  Led own values rest log z = (more : List Sent) × (component_calls more ≡ rest) × (state_by m z (part k log) ≡ state_by m (if own then with_bound m values z else z) (part k more))
 
   -- the Sets of one component's values lead its machine on, and no other
-  bound_on : (own : Bool) (i : ℕ) → (i == k) ≡ own → (values : List BoundValue) (rest : List Asking) (log : List Sent) (z : MachineState) → askings log ≡ sets_of i values ++ rest → Led own values rest log z
+  bound_on : (own : Bool) (i : ℕ) → (i == k) ≡ own → (values : List BoundValue) (rest : List ComponentCall) (log : List Sent) (z : MachineState) → component_calls log ≡ sets_of i values ++ rest → Led own values rest log z
   bound_on true i e [] rest log z is = (log, is, refl)
   bound_on false i e [] rest log z is = (log, is, refl)
   bound_on own i e (b ∷ bs) rest [] z is = absurd (cc)
   bound_on true i e (b ∷ bs) rest (s ∷ log) z is =
-      let first = first_same (asking_of s) (record { component = i; call = set_call b }) (askings log) (sets_of i bs ++ rest) is in
-      let more = bound_on true i e bs rest log (after m z (set_call b)) (rest_same (asking_of s) (record { component = i; call = set_call b }) (askings log) (sets_of i bs ++ rest) is) in
-      (more.0, more.1, ap (state_by m z) (takes (s.component == k) s.exchange (part k log) (ap (λ (a : Asking). a.component == k) first ∙ e)) ∙ ap (λ (a : Asking). state_by m (after m z a.call) (part k log)) first ∙ more.2)
+      let first = first_same (component_call s) (record { component = i; call = set_call b }) (component_calls log) (sets_of i bs ++ rest) is in
+      let more = bound_on true i e bs rest log (after m z (set_call b)) (rest_same (component_call s) (record { component = i; call = set_call b }) (component_calls log) (sets_of i bs ++ rest) is) in
+      (more.0, more.1, ap (state_by m z) (takes (s.component == k) s.exchange (part k log) (ap (λ (a : ComponentCall). a.component == k) first ∙ e)) ∙ ap (λ (a : ComponentCall). state_by m (after m z a.call) (part k log)) first ∙ more.2)
   bound_on false i e (b ∷ bs) rest (s ∷ log) z is =
-      let first = first_same (asking_of s) (record { component = i; call = set_call b }) (askings log) (sets_of i bs ++ rest) is in
-      let more = bound_on false i e bs rest log z (rest_same (asking_of s) (record { component = i; call = set_call b }) (askings log) (sets_of i bs ++ rest) is) in
-      (more.0, more.1, ap (state_by m z) (skips (s.component == k) s.exchange (part k log) (ap (λ (a : Asking). a.component == k) first ∙ e)) ∙ more.2)
+      let first = first_same (component_call s) (record { component = i; call = set_call b }) (component_calls log) (sets_of i bs ++ rest) is in
+      let more = bound_on false i e bs rest log z (rest_same (component_call s) (record { component = i; call = set_call b }) (component_calls log) (sets_of i bs ++ rest) is) in
+      (more.0, more.1, ap (state_by m z) (skips (s.component == k) s.exchange (part k log) (ap (λ (a : ComponentCall). a.component == k) first ∙ e)) ∙ more.2)
 
-  none_from : (i : ℕ) (lists : List (List BoundValue)) (log : List Sent) (z : MachineState) → askings log ≡ binding_from i lists → k < i → state_by m z (part k log) ≡ z
+  none_from : (i : ℕ) (lists : List (List BoundValue)) (log : List Sent) (z : MachineState) → component_calls log ≡ binding_from i lists → k < i → state_by m z (part k log) ≡ z
   none_from i [] [] z is before = refl
   none_from i [] (s ∷ log) z is before = absurd (cc)
   none_from i (values ∷ lists) log z is before =
       let one = bound_on false i (other i k (λ e. absurd (omega (arith, e, before)))) values (binding_from (i + 1) lists) log z is in
       one.2 ∙ none_from (i + 1) lists one.0 z one.1 (omega (arith, before))
 
-  pub bound_from : (i d : ℕ) (lists : List (List BoundValue)) (log : List Sent) (z : MachineState) → askings log ≡ binding_from i lists → i + d ≡ k → state_by m z (part k log) ≡ with_bound m (get_or lists d []) z
+  pub bound_from : (i d : ℕ) (lists : List (List BoundValue)) (log : List Sent) (z : MachineState) → component_calls log ≡ binding_from i lists → i + d ≡ k → state_by m z (part k log) ≡ with_bound m (get_or lists d []) z
   bound_from i d [] [] z is at = refl
   bound_from i d [] (s ∷ log) z is at = absurd (cc)
   bound_from i zero (values ∷ lists) log z is at =
@@ -61,7 +61,7 @@ configured_states r log answered =
 
 -- ---- which calls these are
 
-module _ (P : Asking → Type 0) where
+module _ (P : ComponentCall → Type 0) where
   all_sets : (i : ℕ) (values : List BoundValue) → All (λ (b : BoundValue). P (record { component = i; call = set_call b })) values → All P (sets_of i values)
   all_sets i [] all = All-nil P
   all_sets i (b ∷ bs) all =
@@ -69,7 +69,7 @@ module _ (P : Asking → Type 0) where
       (all_sets i bs (All-tail (λ (x : BoundValue). P (record { component = i; call = set_call x })) b bs all))
 
 -- a Set of a parameter of one of these components
-pub record IsParameterSet (k : ℕ) (cs : List Component) (a : Asking) : Type 0 where
+pub record IsParameterSet (k : ℕ) (cs : List Component) (a : ComponentCall) : Type 0 where
   pub value : BoundValue
   pub place : ℕ
   pub component : Component
@@ -78,7 +78,7 @@ pub record IsParameterSet (k : ℕ) (cs : List Component) (a : Asking) : Type 0 
   pub of : slice_get cs place ≡ Some component
   pub is : IsParameterValue component.shape value
 
-one_later : (k : ℕ) (c : Component) (cs : List Component) (a : Asking) → IsParameterSet (k + 1) cs a → IsParameterSet k (c ∷ cs) a
+one_later : (k : ℕ) (c : Component) (cs : List Component) (a : ComponentCall) → IsParameterSet (k + 1) cs a → IsParameterSet k (c ∷ cs) a
 one_later k c cs a h = record {
   value = h.value;
   place = suc h.place;
@@ -112,9 +112,9 @@ pub binding_all : (system : System) (bound : Bound) → BindsParameters system b
 binding_all system bound binds = all_from 0 system.components bound.components binds
 
 -- what holds of calls that go on after a log holds of one of its calls and of those before it
-pub amid_all : (P : Asking → Type 0) (front : List Sent) (last : Sent) (back : List Sent) (left : List Asking) → All P (askings (front ++ last ∷ back) ++ left) →
-    P (asking_of last) × All (λ (s : Sent). P (asking_of s)) front
-amid_all P [] last back left all = (all 0 (asking_of last) (omega arith), All-nil (λ (s : Sent). P (asking_of s)))
-amid_all P (f ∷ front) last back left all =
-    let more = amid_all P front last back left (All-tail P (asking_of f) (askings (front ++ last ∷ back) ++ left) all) in
-    (more.0, All-cons (λ (s : Sent). P (asking_of s)) f front (all 0 (asking_of f) (omega arith)) more.1)
+pub amid_all : (P : ComponentCall → Type 0) (prefix : List Sent) (last : Sent) (back : List Sent) (left : List ComponentCall) → All P (component_calls (prefix ++ last ∷ back) ++ left) →
+    P (component_call last) × All (λ (s : Sent). P (component_call s)) prefix
+amid_all P [] last back left all = (all 0 (component_call last) (omega arith), All-nil (λ (s : Sent). P (component_call s)))
+amid_all P (f ∷ prefix) last back left all =
+    let more = amid_all P prefix last back left (All-tail P (component_call f) (component_calls (prefix ++ last ∷ back) ++ left) all) in
+    (more.0, All-cons (λ (s : Sent). P (component_call s)) f prefix (all 0 (component_call f) (omega arith)) more.1)

@@ -14,10 +14,10 @@ use Rattle.run_model.specs.Stepping.{asks_to_end, departing}
 use Rattle.run_model.specs.Trace.{instant_of}
 use Rattle.event_iteration.specs.Settings.{entered_step}
 use Rattle.calling_sequence.specs.Calls.{IsStep}
-use Rattle.calling_sequence.specs.Course.{Agreed, Before, Begins, Configured, Departing, Entered, Found, Left, Leaving, Made, Place, Read, Rearmed, Restored, Saved, Seen, Short, Spot, Stepped, Timed, Way}
+use Rattle.calling_sequence.specs.Course.{Agreed, Before, Begins, Configured, Departing, Entered, Found, Left, Leaving, Made, Place, Read, Rearmed, Restored, Saved, InstantDone, Short, Spot, Stepped, Timed, Way}
 use Rattle.run_rest.specs.Snapshot.{time_up_to, up_to}
 use Rattle.run_rest.proofs.CallerLemmas.{Alike}
-use Rattle.machine_courses.specs.Fronts.{CameTo}
+use Rattle.machine_courses.specs.Prefixes.{CameTo}
 use Rattle.machine_courses.proofs.Steps.{after_step, agreed, saved}
 
 -- a point between start and stop, and an instant below the limit of those there
@@ -138,7 +138,7 @@ module _ (r : Run) where
   At (Before s ticks) is ss = Comes s ticks is ss
   At (Read s) is ss = (f : Finds s is ss) × CountAs f.z.timers s.timers
   At (Rearmed s) is ss = (f : Finds s is ss) × (list_any (is_bad s.values) r.system.ports ≡ false) × CountAs (next_timers r f.z s.values) s.timers
-  At (Seen s again asked) is ss = Says s again asked is ss
+  At (InstantDone s again asked) is ss = Says s again asked is ss
   At (Leaving w) is ss = (g : Goes w is) × (ss ≡ (gone w is g).states)
   At (Left w) is ss = (g : Goes w is) × (ss ≡ entered_step r (gone w is g))
   At (Departing w) is ss = (g : Goes w is) × (ss ≡ departing r (gone w is g))

@@ -28,7 +28,7 @@ use Rattle.calling_sequence.specs.Calls.{IsBoundOf}
 use Rattle.system_model.specs.Plans.{IsPlan}
 use Rattle.machine_courses.proofs.Bounds.{bound_exists}
 use Rattle.machine_courses.proofs.Following.{by_answers, following_by, following_lost, leads_by, reached_by}
-use Rattle.machine_courses.proofs.Fronts.{Ahead, Front, Nowhere, Past, traced_on}
+use Rattle.machine_courses.proofs.Prefixes.{Ahead, Nowhere, Past, Prefix, traced_on}
 use Rattle.machine_courses.proofs.Instants.{solution}
 use Rattle.machine_courses.proofs.Places.{IsWithin}
 use Rattle.machine_courses.proofs.Rows.{below_more}
@@ -142,11 +142,11 @@ module _ (r : Run) (sound : IsSound r.system) (plan : IsPlan r.plan) (machines :
       goes_again r.plan.limit z (omega arith) (λ y later there inside W solved. goes_on left y (omega (arith, enough, later)) there inside W solved) reached within V solves
 
   -- a trace after these instants
-  pub record Whole (front : List Instant) : Type 0 where
+  pub record Whole (prefix : List Instant) : Type 0 where
     pub kind : EndKind
     pub point : ℕ
     pub rest : List Instant
-    pub trace : IsTrace r (front ++ rest) kind point
+    pub trace : IsTrace r (prefix ++ rest) kind point
 
   -- from its beginning
   from_start : (is : List Instant) → is ≡ [] → (W : List (Option ℤ)) → I.SolvesInitially r W → (b : Bool) → list_any (I.is_bad_initially r.system W) r.system.ports ≡ b → Whole is
@@ -159,7 +159,7 @@ module _ (r : Run) (sound : IsSound r.system) (plan : IsPlan r.plan) (machines :
       let more = goes_on r.plan.stop z (omega arith) there (record { begun = omega arith; ended = plan.ordered; below = plan.limit_above }) V.0 V.1 in
       record { kind = more.kind; point = more.end; rest = more.is; trace = subst (λ (xs : List Instant). IsTrace r (xs ++ more.is) more.kind more.end) (sym none) (Runs W solves kept more.on) }
 
-  pub whole : (is : List Instant) → Front r is → Whole is
+  pub whole : (is : List Instant) → Prefix r is → Whole is
   whole is (Nowhere none) =
       let W = solvable_initially r sound machines in
       from_start is none W.0 W.1 (list_any (I.is_bad_initially r.system W.0) r.system.ports) refl

@@ -35,11 +35,11 @@ use Rattle.calling_sequence.specs.declared.run_end.RunEnd.TheVariants as E
 use Rattle.calling_sequence.specs.Course.{CourseIn, Extent, FromHeld, Place, Restored, Spot, shown}
 use Rattle.calling_sequence.specs.Ends.{AwaitsIn, Badly, EndLine, EndsIn, FinishesIn, Header, Shown, Well, kind_of_end, pieces_in, text_of}
 use Rattle.calling_sequence.specs.Holding.{spot_in}
-use Rattle.calling_sequence.specs.Puts.{CutsPiece, with_pieces}
-use Rattle.machine_courses.specs.Fronts.{AtFirst, CameTo, Onward}
+use Rattle.calling_sequence.specs.Puts.{PutsPrefixOf, with_pieces}
+use Rattle.machine_courses.specs.Prefixes.{AtFirst, CameTo, Onward}
 use Rattle.machine_courses.specs.Held.{GoesAs, IsRestOf, StandsAs, checkpoint_of}
 use Rattle.machine_courses.specs.Laws.{RestByLog, RestWellByLog, SnapshotsStand}
-use Rattle.machine_courses.specs.Outcomes.{CutsFrontIn, CutsTraceIn, IsLost, Output, PutsRunIn, Stretch, TracesWellIn, pieces_with_end, rest_behind}
+use Rattle.machine_courses.specs.Outcomes.{IsLost, Output, PutsPrefixOfRunIn, PutsPrefixOfTraceIn, PutsRunIn, Stretch, TracesWellIn, pieces_with_end, rest_after}
 use Rattle.machine_courses.proofs.Following.{reached_by}
 use Rattle.machine_courses.proofs.Places.{At, Resumes, Sees}
 use Rattle.machine_courses.proofs.Rows.{below_more}
@@ -100,7 +100,7 @@ module _ (r : Run) (sound : IsSound r.system) (plan : IsPlan r.plan) (machines :
   below_comes _ _ (R.AtFirst s is initial solves kept begins none) = subst (λ (u : Situation). u.n < r.plan.limit) (sym begins) plan.limit_above
   below_comes _ _ (R.Onward is s values js next comes solves leads js_is) = below_leads (F.following r s values) s values next refl (below_comes is s comes) leads
 
-  module _ (front : List Instant) (z : Situation) (held : Held r front z) where
+  module _ (prefix : List Instant) (z : Situation) (held : Held r prefix z) where
     abbrev here : Situation
     here = F.updated r held.s held.values
 
@@ -113,8 +113,8 @@ module _ (r : Run) (sound : IsSound r.system) (plan : IsPlan r.plan) (machines :
         (all_on r here.states (updated_all r machines held.s (situation_reached sound machines (reached_by r held.s held.before came)) held.values) _)
 
     module _ (begun : r.plan.start ≤ z.t) where
-      at_values : (s : Spot) → StandsAs r z s → (values : List (Option ℤ)) → held.values ≡ values → At r (Restored (record s { values = values })) front (entering_step r z)
-      at_values s stands values same = subst (λ (V : List (Option ℤ)). At r (Restored (record s { values = V })) front (entering_step r z)) same (record {
+      at_values : (s : Spot) → StandsAs r z s → (values : List (Option ℤ)) → held.values ≡ values → At r (Restored (record s { values = values })) prefix (entering_step r z)
+      at_values s stands values same = subst (λ (V : List (Option ℤ)). At r (Restored (record s { values = V })) prefix (entering_step r z)) same (record {
         n = held.s.n;
         sees = record {
           z = held.s;
@@ -141,7 +141,7 @@ module _ (r : Run) (sound : IsSound r.system) (plan : IsPlan r.plan) (machines :
         there : held.s.t ≡ s.t
         there = ap (λ (u : Situation). u.t) (sym held.stands) ∙ stands.point
 
-      pub restored_at : (s : Spot) → StandsAs r z s → At r (Restored s) front (entering_step r z)
+      pub restored_at : (s : Spot) → StandsAs r z s → At r (Restored s) prefix (entering_step r z)
       restored_at s stands = at_values s stands s.values (ap (λ (u : Situation). u.before) (sym held.stands) ∙ stands.values)
 
     -- and so does the spot of its checkpoint
@@ -159,34 +159,34 @@ module _ (r : Run) (sound : IsSound r.system) (plan : IsPlan r.plan) (machines :
 
 -- ---- what it puts
 
-module _ (r : Run) (front : List Instant) (z : Situation) (s : Spot) (bound : Bound) (own : Plan) (same : GoesAs own r.plan) (o : Output) (sound : IsSound r.system) (plan : IsPlan r.plan) (machines : AreMachines r) (ignore : IgnoreSlots r) (held : Held r front z) (begun : r.plan.start ≤ z.t) (stands : StandsAs r z s) where
+module _ (r : Run) (prefix : List Instant) (z : Situation) (s : Spot) (bound : Bound) (own : Plan) (same : GoesAs own r.plan) (o : Output) (sound : IsSound r.system) (plan : IsPlan r.plan) (machines : AreMachines r) (ignore : IgnoreSlots r) (held : Held r prefix z) (begun : r.plan.start ≤ z.t) (stands : StandsAs r z s) where
   abbrev part : Stretch
-  part = rest_behind front
+  part = rest_after prefix
 
   abbrev base : List MachineState
   base = entering_step r z
 
   all : AreAll r base
-  all = entering_all_held r sound plan machines front z held
+  all = entering_all_held r sound plan machines prefix z held
 
-  begins : At r (Restored s) front base
-  begins = restored_at r sound plan machines front z held begun s stands
+  begins : At r (Restored s) prefix base
+  begins = restored_at r sound plan machines prefix z held begun s stands
 
   puts : (end : RunEnd) (point : ℕ) (log : List Sent) (is : List Instant) → FinishesIn r.system bound own (FromHeld s) end point log is → AreReplies r base log → o.counted ≡ length is →
       o.after ≡ with_pieces o.before (pieces_with_end part is (kind_of_end end) point) → PutsRunIn r part o end
   puts end point log is finishes = puts_whole r sound plan machines ignore part o (FromHeld s) base all begins end point log is (same_finish r.system bound r.bound own r.plan same s end point log is finishes)
 
   cut_by : (x : Extent) (log : List Sent) (is : List Instant) (pieces : List (List ℕ)) (piece : List ℕ) → x ≡ FromHeld s → AwaitsIn r.system bound own x log is pieces piece → AreReplies r base log → o.counted ≡ length is →
-      CutsPiece (with_pieces o.before pieces) piece o.after → CutsFrontIn r part o
+      PutsPrefixOf (with_pieces o.before pieces) piece o.after → PutsPrefixOfRunIn r part o
   cut_by _ _ _ _ _ from Header replies counted cut = absurd (cc)
   cut_by _ _ _ _ _ from (Shown x p log is i puts_them shows course) replies counted cut =
       L.cut_shown r sound plan machines ignore part o (FromHeld s) base all begins p log is i
       (same_course r.system bound r.bound own r.plan same s p log (is ++ i ∷ []) (subst (λ (y : Extent). CourseIn r.system bound own y p log (is ++ i ∷ [])) from course)) replies counted
-      (subst (λ (y : Extent). CutsPiece (with_pieces o.before (pieces_in r.system own y is)) (text_of i) o.after) from cut)
+      (subst (λ (y : Extent). PutsPrefixOf (with_pieces o.before (pieces_in r.system own y is)) (text_of i) o.after) from cut)
   cut_by _ _ _ _ _ from (EndLine x end point log is finishes) replies counted cut =
       L.cut_end r sound plan machines ignore part o (FromHeld s) base all begins end point log is
       (same_finish r.system bound r.bound own r.plan same s end point log is (subst (λ (y : Extent). FinishesIn r.system bound own y end point log is) from finishes)) replies counted
-      (subst (λ (y : Extent). CutsPiece (with_pieces o.before (pieces_in r.system own y is)) (end_text (kind_of_end end) point) o.after) from cut)
+      (subst (λ (y : Extent). PutsPrefixOf (with_pieces o.before (pieces_in r.system own y is)) (end_text (kind_of_end end) point) o.after) from cut)
 
   puts_rest : (end : RunEnd) (log : List Sent) (is : List Instant) → EndsIn r.system bound own (FromHeld s) log is end o.before o.after → AreReplies r base log → o.counted ≡ length is → PutsRunIn r part o end
   puts_rest E.Stop log is (point, f, put) replies counted = puts E.Stop point log is f replies counted put
@@ -208,16 +208,16 @@ module _ (r : Run) (front : List Instant) (z : Situation) (s : Spot) (bound : Bo
     lost_rest bad point log is finishes = T.lost_end r sound plan machines ignore binds well part (FromHeld s) base all begins bad point log is (same_finish r.system bound r.bound own r.plan same s (E.Bad bad) point log is finishes)
 
     cut_well : (x : Extent) (log : List Sent) (is : List Instant) (pieces : List (List ℕ)) (piece : List ℕ) → x ≡ FromHeld s → AwaitsIn r.system bound own x log is pieces piece → AreReplies r base log →
-        CutsPiece (with_pieces o.before pieces) piece o.after → ((why : Why) × Lost log why) ⊎ CutsTraceIn r part o
+        PutsPrefixOf (with_pieces o.before pieces) piece o.after → ((why : Why) × Lost log why) ⊎ PutsPrefixOfTraceIn r part o
     cut_well _ _ _ _ _ from Header replies cut = absurd (cc)
     cut_well _ _ _ _ _ from (Shown x p log is i puts_them shows course) replies cut =
         T.cut_shown r sound plan machines ignore binds well part (FromHeld s) base all begins o p log is i
         (same_course r.system bound r.bound own r.plan same s p log (is ++ i ∷ []) (subst (λ (y : Extent). CourseIn r.system bound own y p log (is ++ i ∷ [])) from course)) replies
-        (subst (λ (y : Extent). CutsPiece (with_pieces o.before (pieces_in r.system own y is)) (text_of i) o.after) from cut)
+        (subst (λ (y : Extent). PutsPrefixOf (with_pieces o.before (pieces_in r.system own y is)) (text_of i) o.after) from cut)
     cut_well _ _ _ _ _ from (EndLine x end point log is finishes) replies cut =
         T.cut_end r sound plan machines ignore binds well part (FromHeld s) base all begins o end point log is
         (same_finish r.system bound r.bound own r.plan same s end point log is (subst (λ (y : Extent). FinishesIn r.system bound own y end point log is) from finishes)) replies
-        (subst (λ (y : Extent). CutsPiece (with_pieces o.before (pieces_in r.system own y is)) (end_text (kind_of_end end) point) o.after) from cut)
+        (subst (λ (y : Extent). PutsPrefixOf (with_pieces o.before (pieces_in r.system own y is)) (end_text (kind_of_end end) point) o.after) from cut)
 
     rests_well : (end : RunEnd) (log : List Sent) (is : List Instant) → EndsIn r.system bound own (FromHeld s) log is end o.before o.after → AreReplies r base log → PutsRunIn r part o end → TracesWellIn r part log o end
     rests_well E.Stop log is ends replies puts = puts
@@ -230,11 +230,11 @@ module _ (r : Run) (front : List Instant) (z : Situation) (s : Spot) (bound : Bo
     rests_well E.WriteFault log is x replies puts = cut_well (FromHeld s) log is x.pieces x.piece refl x.awaits replies x.cuts
 
 pub rest_by_log : RestByLog
-rest_by_log r front z s bound own log is end o c = puts_rest r front z s bound own c.same o c.sound c.plan c.machines c.ignore c.held c.begun c.stands end log is c.ends c.replies c.counted
+rest_by_log r prefix z s bound own log is end o c = puts_rest r prefix z s bound own c.same o c.sound c.plan c.machines c.ignore c.held c.begun c.stands end log is c.ends c.replies c.counted
 
 pub rest_well_by_log : RestWellByLog
-rest_well_by_log r front z s bound own log is end o binds well c =
-    rests_well r front z s bound own c.same o c.sound c.plan c.machines c.ignore c.held c.begun c.stands binds well end log is c.ends c.replies (rest_by_log r front z s bound own log is end o c)
+rest_well_by_log r prefix z s bound own log is end o binds well c =
+    rests_well r prefix z s bound own c.same o c.sound c.plan c.machines c.ignore c.held c.begun c.stands binds well end log is c.ends c.replies (rest_by_log r prefix z s bound own log is end o c)
 
 pub snapshots_stand : SnapshotsStand
-snapshots_stand r sound plan machines front z held = stands_there r sound plan machines front z held
+snapshots_stand r sound plan machines prefix z held = stands_there r sound plan machines prefix z held

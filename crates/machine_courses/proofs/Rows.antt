@@ -6,7 +6,7 @@ use Rattle.value_types.specs.declared.shape.Shape.{Shape}
 use Rattle.fmi_calls.specs.declared.call.Call.{Call}
 use Rattle.fmi_calls.specs.declared.call.Call.TheVariants as C
 use Rattle.fmu_peer.specs.Machine.{MachineState, after}
-use Rattle.system_model.specs.Ports.{numbers}
+use Rattle.system_model.specs.Ports.{port_numbers}
 use Rattle.system_model.specs.Sound.{IsSound}
 use Rattle.system_model.specs.Text.{Instant}
 use Rattle.run_model.specs.AfterInstant.{Again as Repeats, Done, following, goes_again, next_timers, updated, written}
@@ -17,7 +17,7 @@ use Rattle.run_model.specs.Stepping as P
 use Rattle.run_model.specs.Stepping.{departing, stepped}
 use Rattle.run_model.specs.Steps.{OnStop}
 use Rattle.run_model.specs.Trace.{Leads}
-use Rattle.slot_calls.specs.Log.{Sent, askings}
+use Rattle.slot_calls.specs.Log.{Sent, component_calls}
 use Rattle.slot_calls.specs.Replies.{AreReplies, states_by}
 use Rattle.slot_calls.specs.Stage.{IsAnswered, everyone, has_events, shapes_of, to_those}
 use Rattle.step_agreement.specs.Agreement.{Meets, Outcome, Unfit}
@@ -35,7 +35,7 @@ use Rattle.calling_sequence.specs.Parts.{AllAgree, Does}
 use Rattle.system_model.specs.Plans.{IsPlan}
 use Rattle.run_rest.specs.Snapshot.{time_up_to, up_to}
 use Rattle.run_rest.proofs.CallerLemmas.{any_across}
-use Rattle.machine_courses.specs.Fronts.{AtFirst, CameTo, Onward}
+use Rattle.machine_courses.specs.Prefixes.{AtFirst, CameTo, Onward}
 use Rattle.machine_courses.proofs.Bare.{AreBare, bare_at, bare_updated}
 use Rattle.machine_courses.proofs.Following.{by_answers, following_by, leads_by, same_instant, situation_by}
 use Rattle.machine_courses.proofs.Losing.{all_bad_same}
@@ -50,14 +50,14 @@ below_more n limit below other = by (λ same. absurd (let wrong = other in grind
   by : (suc n ≡ limit → ⊥) → suc n < limit
   by h = omega (arith, below, h)
 
-none_sent : (log : List Sent) → askings log ≡ [] → log ≡ []
+none_sent : (log : List Sent) → component_calls log ≡ [] → log ≡ []
 none_sent [] e = refl
 none_sent (s ∷ log) e = absurd (cc)
 
 module _ (r : Run) (more : List Sent) where
   -- where a part leads from states that are these
-  behind : (ss xs ys : List MachineState) → ss ≡ xs → states_by r xs more ≡ ys → states_by r ss more ≡ ys
-  behind ss xs ys is leads = ap (λ (zs : List MachineState). states_by r zs more) is ∙ leads
+  beyond : (ss xs ys : List MachineState) → ss ≡ xs → states_by r xs more ≡ ys → states_by r ss more ≡ ys
+  beyond ss xs ys is leads = ap (λ (zs : List MachineState). states_by r zs more) is ∙ leads
 
   pub inside : (ss xs : List MachineState) → ss ≡ xs → AreReplies r ss more → AreReplies r xs more
   inside ss xs is replies = subst (λ (zs : List MachineState). AreReplies r zs more) is replies
@@ -69,7 +69,7 @@ module _ (r : Run) (more : List Sent) where
   -- one call to those
   sends : (ss xs : List MachineState) → ss ≡ xs → (test : Shape → Bool) (call : Shape → Call) → IsAnswered (shapes_of r.system) (to_those test call (shapes_of r.system)) more →
       states_by r ss more ≡ each r xs (λ i c m s. if test c.shape then after m s (call c.shape) else s)
-  sends ss xs is test call answered = behind ss xs _ is (stage_states r xs test call more answered)
+  sends ss xs is test call answered = beyond ss xs _ is (stage_states r xs test call more answered)
 
 -- the spot of a situation before an instant
 module _ (r : Run) (s : Spot) (ticks : ℕ → Bool) (is : List Instant) (ss : List MachineState) (c : Comes r s ticks is ss) where
@@ -133,14 +133,14 @@ module _ (r : Run) (sound : IsSound r.system) (plan : IsPlan r.plan) (machines :
   -- a row a part
   pub row : (p q : Place) (values : List (Option ℤ)) (more : List Sent) → LeadsTo r.system r.plan p values more q → (is : List Instant) (ss : List MachineState) → At r p is ss → Does r.system (part_at r.system r.bound r.plan p) values more → AreReplies r ss more →
       At r q (is ++ shown q) (states_by r ss more)
-  row _ _ _ _ (Binds values more) is ss (none, at) does replies = (append-nil is ∙ none, behind r more ss (I.instantiated r) (I.configured r) at (configured_states r more does))
+  row _ _ _ _ (Binds values more) is ss (none, at) does replies = (append-nil is ∙ none, beyond r more ss (I.instantiated r) (I.configured r) at (configured_states r more does))
   row _ _ _ _ (Enters values more) is ss (none, at) does replies = (append-nil is ∙ none, sends r more ss (I.configured r) at everyone (λ (shape : Shape). C.EnterInitialization r.plan.start r.plan.stop) does)
   row _ _ _ _ (Finds values more) is ss (none, at) does replies =
       let found = initial_by_log r values more sound machines does (inside r more ss (I.initializing r) at replies) in
-      (append-nil is ∙ none, (record { initial = found.initial; solves = found.solves; states = behind r more ss (I.initializing r) (I.initialized r found.initial) at found.states }, found.same))
+      (append-nil is ∙ none, (record { initial = found.initial; solves = found.solves; states = beyond r more ss (I.initializing r) (I.initialized r found.initial) at found.states }, found.same))
   row _ _ _ _ (Times found values more timers kept timers_are) is ss (none, (at, same)) does replies =
       let told = fixed_by_log r at.initial more sound machines does (inside r more ss (I.initialized r at.initial) at.states replies) in
-      (append-nil is ∙ none, (record { initial = at.initial; solves = at.solves; states = behind r more ss (I.initialized r at.initial) (I.initialized r at.initial) at.states told.0 }, sym (all_bad_same r.system found at.initial same r.system.ports) ∙ kept), timers_are ∙ told.1)
+      (append-nil is ∙ none, (record { initial = at.initial; solves = at.solves; states = beyond r more ss (I.initialized r at.initial) (I.initialized r at.initial) at.states told.0 }, sym (all_bad_same r.system found at.initial same r.system.ports) ∙ kept), timers_are ∙ told.1)
   row _ _ _ _ (Exits timers values more s ticks s_is begins) is ss (none, (at, kept), timers_are) does replies =
       subst (λ (x : Spot). Comes r x ticks (is ++ []) (states_by r ss more)) (sym s_is) (record {
         z = I.beginning r at.initial;
@@ -152,12 +152,12 @@ module _ (r : Run) (sound : IsSound r.system) (plan : IsPlan r.plan) (machines :
       })
   row _ _ _ _ (Reads s ticks values more places) is ss c does replies =
       let told = instant_by_log r c.z ticks values more sound machines (situation_by r sound machines c.z is c.at.came) (ticks_at r s ticks is ss c) places
-      (walk_at r s ticks is ss c (λ n before. Explains r.system (in_instant ticks (n == 0)) before (numbers r.system.instant_order) values more) does) (inside r more ss c.z.states c.states replies) in (
+      (walk_at r s ticks is ss c (λ n before. Explains r.system (in_instant ticks (n == 0)) before (port_numbers r.system.instant_order) values more) does) (inside r more ss c.z.states c.states replies) in (
         record {
           z = c.z;
           at = record { came = subst (CameTo r c.z) (sym (append-nil is)) c.at.came; point = c.at.point; number = c.at.number; within = c.at.within };
           solves = told.0;
-          states = behind r more ss c.z.states (written r c.z values) c.states told.1;
+          states = beyond r more ss c.z.states (written r c.z values) c.states told.1;
         },
         c.timers,
       )
@@ -170,7 +170,7 @@ module _ (r : Run) (sound : IsSound r.system) (plan : IsPlan r.plan) (machines :
           z = z;
           at = record { came = subst (CameTo r z) (sym (append-nil is)) f.at.came; point = f.at.point; number = f.at.number; within = f.at.within };
           solves = f.solves;
-          states = behind r more ss (written r z s.values) (written r z s.values) f.states told.0;
+          states = beyond r more ss (written r z s.values) (written r z s.values) f.states told.0;
         },
         kept,
         subst (λ (ts : List Timer). CountAs r ts next) told.1 near.alike,
@@ -185,7 +185,7 @@ module _ (r : Run) (sound : IsSound r.system) (plan : IsPlan r.plan) (machines :
         sees = record { z = z; earlier = is; at = record { came = f.at.came; point = f.at.point; number = f.at.number; within = f.at.within }; solves = f.solves; timers = timers; events = alike_same (time_up_to r.plan.stop) _ _ (sym (events_are ∙ ap (λ (k : ℕ). events_told k (shapes_of r.system) more) (sym f.at.point) ∙ told.3)); kept = kept; is_is = ap (λ (i : Instant). is ++ i ∷ []) (same_instant s z f.at.point f.at.number) };
         again_is = again_is ∙ ap₂ ◌||◌ told.1 (ap (λ (k : ℕ). is_some_armed k s.timers) (sym f.at.point) ∙ sym (any_across r.plan.stop z.t (next_timers r z s.values) s.timers within timers));
         asked_is = asked_is ∙ told.2;
-        states = behind r more ss (written r z s.values) (updated r z s.values).states f.states told.0;
+        states = beyond r more ss (written r z s.values) (updated r z s.values).states f.states told.0;
       }
   row _ _ _ _ (Again s values more ticks below begins) is ss x does replies =
       let z = over r s is x.sees in
@@ -196,7 +196,7 @@ module _ (r : Run) (sound : IsSound r.system) (plan : IsPlan r.plan) (machines :
         values = refl;
         timers = x.sees.timers;
         begins = begins;
-        states = behind r more ss z.states z.states x.states (stays r more z.states (over_all s is x.sees) does);
+        states = beyond r more ss z.states z.states x.states (stays r more z.states (over_all s is x.sees) does);
       }
   row _ _ _ _ (GoesOn w values more step) is ss x does replies =
       let z = over r w.s is x.sees in
@@ -204,23 +204,23 @@ module _ (r : Run) (sound : IsSound r.system) (plan : IsPlan r.plan) (machines :
       step_near r z.timers w.s.timers z.events w.s.events x.sees.timers x.sees.events z.t w.to
       (subst (λ (k : ℕ). IsStep r.system r.plan w.s.timers w.s.events k w.to) (sym x.sees.at.point) step) in
       subst (λ (js : List Instant). At r (Leaving w) js (states_by r ss more)) (sym (append-nil is))
-      (record { n = w.s.n; sees = x.sees; done = follows w.s false false is ss x; step = own }, behind r more ss z.states z.states x.states (stays r more z.states (over_all w.s is x.sees) does))
+      (record { n = w.s.n; sees = x.sees; done = follows w.s false false is ss x; step = own }, beyond r more ss z.states z.states x.states (stays r more z.states (over_all w.s is x.sees) does))
   row _ _ _ _ (Leaves w values more) is ss (g, at) does replies =
       subst (λ (js : List Instant). At r (Left w) js (states_by r ss more)) (sym (append-nil is))
       (g, sends r more ss (u w is g).states at has_events (λ (shape : Shape). C.EnterStep) does)
   row _ _ _ _ (Sets w values more) is ss (g, at) does replies =
       subst (λ (js : List Instant). At r (Departing w) js (states_by r ss more)) (sym (append-nil is))
-      (g, behind r more ss (entered_step r (u w is g)) (departing r (u w is g)) at (sets_by_log r (u w is g) values more sound g.sees.solves.places does))
+      (g, beyond r more ss (entered_step r (u w is g)) (departing r (u w is g)) at (sets_by_log r (u w is g) values more sound g.sees.solves.places does))
   row _ _ _ _ (Saves w values more) is ss (g, at) does replies =
       let z = u w is g in
       subst (λ (js : List Instant). At r (Saved w) js (states_by r ss more)) (sym (append-nil is))
-      (g, behind r more ss (departing r z) (saved r z) at (saved_by_log r z (goes_all w is g) (goes_bare w is g) more does))
+      (g, beyond r more ss (departing r z) (saved r z) at (saved_by_log r z (goes_all w is g) (goes_bare w is g) more does))
   row _ _ _ _ (Agreeing w values more point asked agrees asked_is) is ss (g, at) does replies =
       let z = u w is g in
       let l = lands r z (goes_all w is g) w.to g.step.bound ignore more (inside r more ss (saved r z) at replies) point (agrees_here w is g more (Meets point) agrees) in
       subst (λ (js : List Instant). At r (Agreed w point asked) js (states_by r ss more)) (sym (append-nil is)) (
         record { goes = g; asks = l.asks; made = l.made; later = l.later; within = l.within; asked_is = asked_is ∙ l.asked },
-        behind r more ss (saved r z) (agreed r z l.asks) at l.states,
+        beyond r more ss (saved r z) (agreed r z l.asks) at l.states,
       )
   row _ _ _ _ (Stopping w values more component end agrees) is ss (g, at) does replies =
       let z = u w is g in
@@ -233,7 +233,7 @@ module _ (r : Run) (sound : IsSound r.system) (plan : IsPlan r.plan) (machines :
         lands = l;
         values = refl;
         timers = refl;
-        states = behind r more ss (agreed r z l.asks) (after_step r z l.asks) at (freed_by_log r z (goes_all w is l.goes) (goes_bare w is l.goes) l.asks more does);
+        states = beyond r more ss (agreed r z l.asks) (after_step r z l.asks) at (freed_by_log r z (goes_all w is l.goes) (goes_bare w is l.goes) l.asks more does);
       })
   row _ _ _ _ (Arrives s values more ticks begins) is ss x does replies =
       let g = x.lands.goes in
@@ -256,5 +256,5 @@ module _ (r : Run) (sound : IsSound r.system) (plan : IsPlan r.plan) (machines :
       (subst (λ (k : ℕ). IsStep r.system r.plan w.s.timers w.s.events k w.to) (sym x.sees.at.point) step) in
       subst (λ (js : List Instant). At r (Left w) js (states_by r ss more)) (sym (append-nil is)) (
         record { n = x.n; sees = x.sees; done = x.done; step = own },
-        behind r more ss (entered_step r z) (entered_step r z) x.states (stays r more (entered_step r z) (entering_all r z (over_all s is x.sees)) does),
+        beyond r more ss (entered_step r z) (entered_step r z) x.states (stays r more (entered_step r z) (entering_all r z (over_all s is x.sees)) does),
       )

@@ -24,18 +24,18 @@ use Rattle.event_iteration.proofs.ByLog.{AreAll, made_all, replies_first, replie
 use Rattle.calling_sequence.specs.declared.run_end.RunEnd.{RunEnd}
 use Rattle.calling_sequence.specs.declared.run_end.RunEnd.TheVariants as E
 use Rattle.calling_sequence.specs.Calls.{IsBoundOf, first_unfit, making}
-use Rattle.calling_sequence.specs.Course.{CourseIn, Extent, Made, Place, Seen, Spot, Stepped, Way, Whole, first_of}
+use Rattle.calling_sequence.specs.Course.{CourseIn, Extent, InstantDone, Made, Place, Spot, Stepped, Way, Whole, first_of}
 use Rattle.calling_sequence.specs.Ends.{AtLimit as Limited, AtShort, AtStop, AwaitsIn, LostAtFirst, LostThere, Badly, ByStep, ByUpdate, EndLine, EndsAt, EndsBy, Finishes, FinishesIn, Header, Shown, Unfit, UnfitAtFirst, Well, kind_of_end, pieces_in, point_of, text_of}
 use Rattle.system_model.specs.Plans.{IsPlan}
-use Rattle.calling_sequence.specs.Puts.{CutsPiece, with_pieces}
+use Rattle.calling_sequence.specs.Puts.{PutsPrefixOf, with_pieces}
 use Rattle.event_iteration.specs.Lost.{IsFirstLost}
 use Rattle.event_iteration.specs.declared.lost.LostValue.{LostValue}
-use Rattle.machine_courses.specs.Fronts.{AtTheStart, InInstant, IsFront, LacksStepAt, LosesAt}
+use Rattle.machine_courses.specs.Prefixes.{AtTheStart, InInstant, IsPrefix, LacksStepAt, LosesAt}
 use Rattle.machine_courses.proofs.Losing.{first_same, some_lost}
 use Rattle.machine_courses.specs.Laws.{RunByLog}
-use Rattle.machine_courses.specs.Outcomes.{CutsFrontIn, Output, PutsRun, PutsRunIn, PutsTraceIn, Stretch, pieces_up_to, pieces_with_end, whole_of}
+use Rattle.machine_courses.specs.Outcomes.{Output, PutsPrefixOfRunIn, PutsRun, PutsRunIn, PutsTraceIn, Stretch, pieces_up_to, pieces_with_end, whole_of}
 use Rattle.machine_courses.proofs.Following.{by_answers, following_lost, leads_by, reached_by}
-use Rattle.machine_courses.proofs.Fronts.{Front, front_at, front_before, is_front, none, stands_in, trace_seen, trace_lost}
+use Rattle.machine_courses.proofs.Prefixes.{Prefix, prefix_at, prefix_before, is_prefix, none, stands_in, trace_seen, trace_lost}
 use Rattle.machine_courses.proofs.Near.{bound_near}
 use Rattle.machine_courses.proofs.Places.{At, Goes, Says, Sees, gone, over, AreFound, Finds}
 use Rattle.machine_courses.proofs.Rows.{follows, over_all}
@@ -145,17 +145,17 @@ module _ (r : Run) (sound : IsSound r.system) (plan : IsPlan r.plan) (machines :
       abbrev Put : EndKind → ℕ → Type 0
       Put kind point = o.after ≡ with_pieces o.before (pieces_with_end part is kind point)
 
-      puts : (kind : EndKind) (point : ℕ) → Put kind point → IsTrace r (part.behind ++ is) kind point → PutsTraceIn r part o kind point
+      puts : (kind : EndKind) (point : ℕ) → Put kind point → IsTrace r (part.after ++ is) kind point → PutsTraceIn r part o kind point
       puts kind point put trace = record { is = is; trace = trace; text = record { counted = counted; put = put } }
 
       abbrev all : List Instant
-      all = part.behind ++ is
+      all = part.after ++ is
 
       puts_at : (end : RunEnd) (p : Place) → EndsAt r.system r.plan end p → (ss : List MachineState) → At r p all ss → Put (kind_of_end end) (point_of r.plan p) → PutsRunIn r part o end
-      puts_at _ _ (AtStop s at) ss x put = subst (PutsTraceIn r part o K.Stop) at (puts K.Stop s.t put (trace_at E.Stop (Seen s false false) (AtStop s at) all ss x))
-      puts_at _ _ (ByUpdate s again) ss x put = puts K.Asked s.t put (trace_at (E.Asked s.t) (Seen s again true) (ByUpdate s again) all ss x)
+      puts_at _ _ (AtStop s at) ss x put = subst (PutsTraceIn r part o K.Stop) at (puts K.Stop s.t put (trace_at E.Stop (InstantDone s false false) (AtStop s at) all ss x))
+      puts_at _ _ (ByUpdate s again) ss x put = puts K.Asked s.t put (trace_at (E.Asked s.t) (InstantDone s again true) (ByUpdate s again) all ss x)
       puts_at _ _ (ByStep s) ss x put = puts K.Asked s.t put (trace_at (E.Asked s.t) (Stepped s true) (ByStep s) all ss x)
-      puts_at _ _ (Limited s limit) ss x put = puts K.Limit s.t put (trace_at (E.EventLimit s.t) (Seen s true false) (Limited s limit) all ss x)
+      puts_at _ _ (Limited s limit) ss x put = puts K.Limit s.t put (trace_at (E.EventLimit s.t) (InstantDone s true false) (Limited s limit) all ss x)
       puts_at _ _ (Unfit s component end bound unfit) ss x put =
           let done = follows r sound plan machines ignore s false false all ss x in
           (puts K.Fixed s.t put (fixed_trace s all x.sees done component.0 end bound unfit), lacks_at s all x.sees done component.0 end bound unfit)
@@ -167,40 +167,40 @@ module _ (r : Run) (sound : IsSound r.system) (plan : IsPlan r.plan) (machines :
       puts_at _ _ (AtShort w component end) ss (g, lacking) put = (puts K.Fixed w.s.t put (short_trace w all g component.0 end lacking), short_at w all g component.0 end lacking)
 
     -- along a course from its first place on, whose log leads the machines from these states
-    module _ (extent : Extent) (base : List MachineState) (all_base : AreAll r base) (begins : At r (first_of extent) part.behind base) where
-      stood : (p : Place) (log : List Sent) (is : List Instant) → CourseIn r.system r.bound r.plan extent p log is → AreReplies r base log → At r p (part.behind ++ is) (states_by r base log)
-      stood p log is course replies = (stands_in r sound plan machines ignore extent part.behind base all_base begins p log is course replies).at
+    module _ (extent : Extent) (base : List MachineState) (all_base : AreAll r base) (begins : At r (first_of extent) part.after base) where
+      stood : (p : Place) (log : List Sent) (is : List Instant) → CourseIn r.system r.bound r.plan extent p log is → AreReplies r base log → At r p (part.after ++ is) (states_by r base log)
+      stood p log is course replies = (stands_in r sound plan machines ignore extent part.after base all_base begins p log is course replies).at
 
-      front_of : (p : Place) (log : List Sent) (is : List Instant) → CourseIn r.system r.bound r.plan extent p log is → AreReplies r base log → Front r (part.behind ++ is)
-      front_of p log is course replies = front_at r sound plan machines ignore p (part.behind ++ is) (states_by r base log) (stood p log is course replies)
+      prefix_of : (p : Place) (log : List Sent) (is : List Instant) → CourseIn r.system r.bound r.plan extent p log is → AreReplies r base log → Prefix r (part.after ++ is)
+      prefix_of p log is course replies = prefix_at r sound plan machines ignore p (part.after ++ is) (states_by r base log) (stood p log is course replies)
 
       -- the instants so far
-      pub front_finish : (end : RunEnd) (point : ℕ) (log : List Sent) (is : List Instant) → FinishesIn r.system r.bound r.plan extent end point log is → AreReplies r base log → Front r (part.behind ++ is)
-      front_finish _ _ _ _ (Well p end log is course ends may) replies = front_of p log is course replies
-      front_finish _ _ _ _ (Badly p bad front more is course falls) replies = front_of p front is course (replies_first r base front more replies)
+      pub prefix_finish : (end : RunEnd) (point : ℕ) (log : List Sent) (is : List Instant) → FinishesIn r.system r.bound r.plan extent end point log is → AreReplies r base log → Prefix r (part.after ++ is)
+      prefix_finish _ _ _ _ (Well p end log is course ends may) replies = prefix_of p log is course replies
+      prefix_finish _ _ _ _ (Badly p bad prefix more is course falls) replies = prefix_of p prefix is course (replies_first r base prefix more replies)
 
       pub puts_whole : (end : RunEnd) (point : ℕ) (log : List Sent) (is : List Instant) → FinishesIn r.system r.bound r.plan extent end point log is → AreReplies r base log → o.counted ≡ length is →
           o.after ≡ with_pieces o.before (pieces_with_end part is (kind_of_end end) point) → PutsRunIn r part o end
       puts_whole _ _ _ _ (Well p end log is course ends may) replies counted put = puts_at is counted end p ends (states_by r base log) (stood p log is course replies) put
-      puts_whole _ _ _ _ (Badly p bad front more is course falls) replies counted put = record {
+      puts_whole _ _ _ _ (Badly p bad prefix more is course falls) replies counted put = record {
         is = is;
         point = point_of r.plan p;
-        front = is_front r (part.behind ++ is) (front_finish (E.Bad bad) (point_of r.plan p) (front ++ more) is (Badly p bad front more is course falls) replies);
+        prefix = is_prefix r (part.after ++ is) (prefix_finish (E.Bad bad) (point_of r.plan p) (prefix ++ more) is (Badly p bad prefix more is course falls) replies);
         text = record { counted = counted; put = put };
       }
 
       -- where a put failed: the header's, that of an instant, or that of the end line
       pub cut_shown : (p : Place) (log : List Sent) (is : List Instant) (i : Instant) → CourseIn r.system r.bound r.plan extent p log (is ++ i ∷ []) → AreReplies r base log → o.counted ≡ length is →
-          CutsPiece (with_pieces o.before (pieces_up_to part is)) (text_of i) o.after → CutsFrontIn r part o
+          PutsPrefixOf (with_pieces o.before (pieces_up_to part is)) (text_of i) o.after → PutsPrefixOfRunIn r part o
       cut_shown p log is i course replies counted cut =
-          let all = subst (IsFront r) (sym (append_assoc part.behind is (i ∷ []))) (is_front r (part.behind ++ (is ++ i ∷ [])) (front_of p log (is ++ i ∷ []) course replies)) in
-          record { is = is; front = front_before r (part.behind ++ is) i all; counted = counted; cut = inr (text_of i, inl (i, all, refl), cut) }
+          let all = subst (IsPrefix r) (sym (append_assoc part.after is (i ∷ []))) (is_prefix r (part.after ++ (is ++ i ∷ [])) (prefix_of p log (is ++ i ∷ []) course replies)) in
+          record { is = is; prefix = prefix_before r (part.after ++ is) i all; counted = counted; cut = inr (text_of i, inl (i, all, refl), cut) }
 
       pub cut_end : (end : RunEnd) (point : ℕ) (log : List Sent) (is : List Instant) → FinishesIn r.system r.bound r.plan extent end point log is → AreReplies r base log → o.counted ≡ length is →
-          CutsPiece (with_pieces o.before (pieces_up_to part is)) (end_text (kind_of_end end) point) o.after → CutsFrontIn r part o
+          PutsPrefixOf (with_pieces o.before (pieces_up_to part is)) (end_text (kind_of_end end) point) o.after → PutsPrefixOfRunIn r part o
       cut_end end point log is finishes replies counted cut = record {
         is = is;
-        front = is_front r (part.behind ++ is) (front_finish end point log is finishes replies);
+        prefix = is_prefix r (part.after ++ is) (prefix_finish end point log is finishes replies);
         counted = counted;
         cut = inr (end_text (kind_of_end end) point, inr (kind_of_end end, point, refl), cut);
       }
@@ -214,14 +214,14 @@ module _ (r : Run) (sound : IsSound r.system) (plan : IsPlan r.plan) (machines :
     from_made = (refl, refl)
 
     cut_by : (x : Extent) (log : List Sent) (is : List Instant) (pieces : List (List ℕ)) (piece : List ℕ) → x ≡ Whole → AwaitsIn r.system r.bound r.plan x log is pieces piece → AreReplies r (I.instantiated r) log → o.counted ≡ length is →
-        CutsPiece (with_pieces o.before pieces) piece o.after → CutsFrontIn r w o
-    cut_by _ _ _ _ _ same Header replies counted cut = record { is = []; front = is_front r [] (none r sound plan machines ignore [] refl); counted = counted; cut = inl cut }
+        PutsPrefixOf (with_pieces o.before pieces) piece o.after → PutsPrefixOfRunIn r w o
+    cut_by _ _ _ _ _ same Header replies counted cut = record { is = []; prefix = is_prefix r [] (none r sound plan machines ignore [] refl); counted = counted; cut = inl cut }
     cut_by _ _ _ _ _ same (Shown x p log is i puts_them shows course) replies counted cut =
         cut_shown w o Whole (I.instantiated r) (made_all r machines) from_made p log is i (subst (λ (y : Extent). CourseIn r.system r.bound r.plan y p log (is ++ i ∷ [])) same course) replies counted
-        (subst (λ (y : Extent). CutsPiece (with_pieces o.before (pieces_in r.system r.plan y is)) (text_of i) o.after) same cut)
+        (subst (λ (y : Extent). PutsPrefixOf (with_pieces o.before (pieces_in r.system r.plan y is)) (text_of i) o.after) same cut)
     cut_by _ _ _ _ _ same (EndLine x end point log is finishes) replies counted cut =
         cut_end w o Whole (I.instantiated r) (made_all r machines) from_made end point log is (subst (λ (y : Extent). FinishesIn r.system r.bound r.plan y end point log is) same finishes) replies counted
-        (subst (λ (y : Extent). CutsPiece (with_pieces o.before (pieces_in r.system r.plan y is)) (end_text (kind_of_end end) point) o.after) same cut)
+        (subst (λ (y : Extent). PutsPrefixOf (with_pieces o.before (pieces_in r.system r.plan y is)) (end_text (kind_of_end end) point) o.after) same cut)
 
     puts_made : (end : RunEnd) (point : ℕ) (log : List Sent) (is : List Instant) → Finishes r.system r.bound r.plan end point log is → AreReplies r (I.instantiated r) log → o.counted ≡ length is →
         o.after ≡ with_pieces o.before (pieces_with_end w is (kind_of_end end) point) → PutsRunIn r w o end

@@ -98,7 +98,7 @@ module _ (system : System) (old new : Bound) (own : Plan) (workers link : ℕ) (
   same_part (Q.Before u ticks) is = refl
   same_part (Q.Read u) is = refl
   same_part (Q.Rearmed u) is = refl
-  same_part (Q.Seen u again asked) is = refl
+  same_part (Q.InstantDone u again asked) is = refl
   same_part (Q.Leaving w) is = refl
   same_part (Q.Left w) is = refl
   same_part (Q.Departing w) is = refl
@@ -118,7 +118,7 @@ module _ (system : System) (old new : Bound) (own : Plan) (workers link : ℕ) (
   same_point (Q.Before u ticks) = refl
   same_point (Q.Read u) = refl
   same_point (Q.Rearmed u) = refl
-  same_point (Q.Seen u again asked) = refl
+  same_point (Q.InstantDone u again asked) = refl
   same_point (Q.Leaving w) = refl
   same_point (Q.Left w) = refl
   same_point (Q.Departing w) = refl
@@ -144,16 +144,16 @@ module _ (system : System) (old new : Bound) (own : Plan) (workers link : ℕ) (
 
   course_by : (p : Place) (log : List Sent) (is : List Instant) → From old own p log is → From new plan p log is × IsLater p
   course_by _ _ _ Q.AtFirst = (Q.AtFirst, tt)
-  course_by _ _ _ (Q.On p q values front more is course does leads within) =
-      let c = course_by p front is course in
-      (Q.On p q values front more is c.0 (subst (λ (part : Part). Does system part values more) (same_part p c.1) does) (same_leads p q values more leads) within, later p q values more leads)
+  course_by _ _ _ (Q.On p q values prefix more is course does leads within) =
+      let c = course_by p prefix is course in
+      (Q.On p q values prefix more is c.0 (subst (λ (part : Part). Does system part values more) (same_part p c.1) does) (same_leads p q values more leads) within, later p q values more leads)
 
   finish_by : (end : RunEnd) (point : ℕ) (log : List Sent) (is : List Instant) → FinishesIn system old own (FromHeld s) end point log is → FinishesIn system new plan (FromHeld s) end point log is
   finish_by _ _ _ _ (Well p end log is course ends may) =
       subst (λ (point : ℕ). FinishesIn system new plan (FromHeld s) end point log is) (same_point p) (Well p end log is (course_by p log is course).0 (same_end end p ends) may)
-  finish_by _ _ _ _ (Badly p bad front more is course falls) =
-      let c = course_by p front is course in
-      subst (λ (point : ℕ). FinishesIn system new plan (FromHeld s) (E.Bad bad) point (front ++ more) is) (same_point p) (Badly p bad front more is c.0 (subst (λ (part : Part). Falls system part bad more) (same_part p c.1) falls))
+  finish_by _ _ _ _ (Badly p bad prefix more is course falls) =
+      let c = course_by p prefix is course in
+      subst (λ (point : ℕ). FinishesIn system new plan (FromHeld s) (E.Bad bad) point (prefix ++ more) is) (same_point p) (Badly p bad prefix more is c.0 (subst (λ (part : Part). Falls system part bad more) (same_part p c.1) falls))
 
 -- by a plan that goes as the other
 module _ (system : System) (old new : Bound) (own plan : Plan) (same : GoesAs own plan) (s : Spot) where

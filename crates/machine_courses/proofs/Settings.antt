@@ -25,12 +25,12 @@ use Rattle.system_model.proofs.CallerLemmas.{true_false, Placed, clock_type_of, 
 use Rattle.run_model.specs.Behaved.{Configuring, Eventing, Initializing, IsSetting, Stepping}
 use Rattle.run_model.specs.Initial.{set_call}
 use Rattle.run_model.specs.Run.{Run}
-use Rattle.slot_calls.specs.Log.{Sent, askings, part}
+use Rattle.slot_calls.specs.Log.{Sent, component_calls, part}
 use Rattle.slot_calls.specs.Replies.{state_by}
 use Rattle.slot_calls.specs.Slots.{reads_or_sets}
 use Rattle.slot_calls.proofs.CallerLemmas.{part_append}
 use Rattle.event_iteration.specs.WalkCalls.{AreNew, IsUse, Span, own, use_in}
-use Rattle.event_iteration.proofs.ByLog.{all_front, value_type}
+use Rattle.event_iteration.proofs.ByLog.{all_prefix, value_type}
 
 -- ---- Gets and Sets
 
@@ -72,22 +72,22 @@ names_port (C.GetInterval reference) h = refl
 names_port (C.GetShift reference) h = refl
 names_port call h = absurd (omega (arith, h))
 
-quiet_part : (k : ℕ) (log : List Sent) → All (λ (c : Call). 0 < use_in c) (own k (askings log)) → All IsQuiet (part k log)
+quiet_part : (k : ℕ) (log : List Sent) → All (λ (c : Call). 0 < use_in c) (own k (component_calls log)) → All IsQuiet (part k log)
 quiet_part k [] all = All-nil IsQuiet
 quiet_part k (s ∷ log) all = by (s.component == k) all (λ rest. quiet_part k log rest) where
-  by : (b : Bool) → All (λ (c : Call). 0 < use_in c) (if b then s.exchange.call ∷ own k (askings log) else own k (askings log)) → (All (λ (c : Call). 0 < use_in c) (own k (askings log)) → All IsQuiet (part k log)) →
+  by : (b : Bool) → All (λ (c : Call). 0 < use_in c) (if b then s.exchange.call ∷ own k (component_calls log) else own k (component_calls log)) → (All (λ (c : Call). 0 < use_in c) (own k (component_calls log)) → All IsQuiet (part k log)) →
       All IsQuiet (if b then s.exchange ∷ part k log else part k log)
   by true all on =
-      All-cons IsQuiet s.exchange (part k log) (names_port s.exchange.call (All-head (λ (c : Call). 0 < use_in c) s.exchange.call (own k (askings log)) all))
-      (on (All-tail (λ (c : Call). 0 < use_in c) s.exchange.call (own k (askings log)) all))
+      All-cons IsQuiet s.exchange (part k log) (names_port s.exchange.call (All-head (λ (c : Call). 0 < use_in c) s.exchange.call (own k (component_calls log)) all))
+      (on (All-tail (λ (c : Call). 0 < use_in c) s.exchange.call (own k (component_calls log)) all))
   by false all on = on all
 
 -- so do the calls of a walk before its last
-pub like_walk : (span : Span) (k : ℕ) (log front : List Sent) (last : Sent) → log ≡ front ++ last ∷ [] → AreNew span (own k (askings log)) → (m : Machine) (z : MachineState) → IsLike z (state_by m z (part k front))
-like_walk span k log front last is new m z =
+pub like_walk : (span : Span) (k : ℕ) (log prefix : List Sent) (last : Sent) → log ≡ prefix ++ last ∷ [] → AreNew span (own k (component_calls log)) → (m : Machine) (z : MachineState) → IsLike z (state_by m z (part k prefix))
+like_walk span k log prefix last is new m z =
     let names = new.names in
-    let all = quiet_part k log (All-weaker (IsUse span) (λ (c : Call). 0 < use_in c) (λ c u. let from = u.from in omega (arith, names, from)) (own k (askings log)) new.uses) in
-    like_by m z (part k front) (all_front IsQuiet (part k front) (part k (last ∷ [])) (subst (All IsQuiet) (ap (part k) is ∙ part_append k front (last ∷ [])) all))
+    let all = quiet_part k log (All-weaker (IsUse span) (λ (c : Call). 0 < use_in c) (λ c u. let from = u.from in omega (arith, names, from)) (own k (component_calls log)) new.uses) in
+    like_by m z (part k prefix) (all_prefix IsQuiet (part k prefix) (part k (last ∷ [])) (subst (All IsQuiet) (ap (part k) is ∙ part_append k prefix (last ∷ [])) all))
 
 -- ---- what may be set
 

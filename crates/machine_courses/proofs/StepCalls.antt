@@ -33,7 +33,7 @@ use Rattle.step_agreement.specs.Saving.{is_saved}
 use Rattle.step_agreement.proofs.CallerLemmas.{EndWhereAsked, IsAskedIn, IsBadAsk, ToGoBack, ToStep, asked_later, bad_ask, each_here, good_end, kept_asked}
 use Rattle.event_iteration.specs.Explains.{ExplainsUntil}
 use Rattle.event_iteration.specs.Settings.{before_step, entered_step, port_order}
-use Rattle.event_iteration.specs.WalkCalls.{Front, has_events_at, step_span}
+use Rattle.event_iteration.specs.WalkCalls.{Prefix, has_events_at, step_span}
 use Rattle.event_iteration.proofs.ByLog.{AreAll, all_on, asked_before_step, each_call_once, fmu_on}
 use Rattle.calling_sequence.specs.Calls.{IsBoundOf, entering_event, entering_step, freeing, saving}
 use Rattle.calling_sequence.specs.Parts.{AllAgree}
@@ -68,9 +68,9 @@ module _ (r : Run) (sound : IsSound r.system) (machines : AreMachines r) (well :
             let good = ((own i).asks b e bound sent above).0 c m s fmu in
             let end = good_end c.shape z.t (e - z.t) (record { call = step_to z.t e; result = Ok (m.look s (step_to z.t e)) }) good refl in
             let same : f.end e ≡ end_in m s z.t e = is ∙ ap (λ (y : Bool). if y then end_in m s z.t e else e) might in
-            let behind = end.later in
+            let beyond = end.later in
             let most = end.within in
-            (omega (arith, same, behind), omega (arith, same, most, above))
+            (omega (arith, same, beyond), omega (arith, same, most, above))
         ends_by c m s fmu is false un =
             let same : f.end e ≡ e = is ∙ ap (λ (y : Bool). if y then end_in m s z.t e else e) un in
             (omega (arith, same, above), omega (arith, same))
@@ -95,12 +95,12 @@ module _ (r : Run) (sound : IsSound r.system) (machines : AreMachines r) (well :
         (λ m y fmu.
         let first = fmu_before r z.states enter i c m y fmu in
         let stay : y ≡ first.before = first.is ∙ ap (λ (b : Bool). if b then after m first.before C.EnterStep else first.before) asked.none in
-        let like : IsLike first.before (state_by m y (part i u.front)) = subst (λ (x : MachineState). IsLike x (state_by m y (part i u.front))) stay
-        (like_walk (step_span (has_events_at r.system i)) i log u.front u.last u.log_is ((each_call_once r.system sound).step z.before z.before log (Front bad values log u) i) m y) in
+        let like : IsLike first.before (state_by m y (part i u.prefix)) = subst (λ (x : MachineState). IsLike x (state_by m y (part i u.prefix))) stay
+        (like_walk (step_span (has_events_at r.system i)) i log u.prefix u.last u.log_is ((each_call_once r.system sound).step z.before z.before log (Prefix bad values log u) i) m y) in
         let fits = subst (AreFitting r.system) (sym (ap (λ (x : Situation). x.before) departed.is)) (values_fit r sound departed.s departed.values (situation_reached sound machines departed.reached).types departed.solves) in
         let fit : IfSome (Some asked.to) (Fits port.kind) = subst (λ o. IfSome o (Fits port.kind)) asked.is (fits u.p port u.stops.is) in
-        subst (IsAnsweredWell c.shape m (state_by m y (part i u.front))) (sym asked.set)
-        ((own i).sets c u.stops.of asked.none c m first.before (state_by m y (part i u.front)) (C.Set port.kind port.reference asked.to) first.fmu like.numbers like.values
+        subst (IsAnsweredWell c.shape m (state_by m y (part i u.prefix))) (sym asked.set)
+        ((own i).sets c u.stops.of asked.none c m first.before (state_by m y (part i u.prefix)) (C.Set port.kind port.reference asked.to) first.fmu like.numbers like.values
         (sets_stepping r sound u.p port u.stops.is (ap is_output_role asked.input) (ap is_clock_role asked.input) c u.stops.of asked.to fit asked.none)))
 
     -- a state that is saved
@@ -113,11 +113,11 @@ module _ (r : Run) (sound : IsSound r.system) (machines : AreMachines r) (well :
     pub lost_agreeing : IgnoreSlots r → (b : ℕ) → IsBoundOf r.plan z.timers z.events z.t b → AreReplies r (saved r z) log → AllAgree r.system z.t r.plan.step b log (Fails bad) → IsLost count log bad.why
     lost_agreeing ignore b bound replies agrees =
         subst (λ (l : List Sent). IsLost count l bad.why) (sym x.log_is)
-        (lost_at r (saved r z) (saved_all r z all) x.front x.last x.back bad.why (subst (AreReplies r (saved r z)) x.log_is replies) x.first.good x.first.why x.within
+        (lost_at r (saved r z) (saved_all r z all) x.prefix x.last x.back bad.why (subst (AreReplies r (saved r z)) x.log_is replies) x.first.good x.first.why x.within
         (λ c m y fmu.
         let old = fmu_before r (departing r z) (λ i d n s. with_slot (slot_in (saves r i) s) s) x.last.component c m y fmu in
-        subst (λ (v : MachineState). IsAnsweredWell c.shape m (state_by m v (part x.last.component x.front)) x.last.exchange.call) (sym old.is)
-        (answered x.last.component c m old.before old.fmu (state_by m (with_slot (slot_in (saves r x.last.component) old.before) old.before) (part x.last.component x.front)) x.last.exchange.call (x.asked c m old.before old.fmu)))) where
+        subst (λ (v : MachineState). IsAnsweredWell c.shape m (state_by m v (part x.last.component x.prefix)) x.last.exchange.call) (sym old.is)
+        (answered x.last.component c m old.before old.fmu (state_by m (with_slot (slot_in (saves r x.last.component) old.before) old.before) (part x.last.component x.prefix)) x.last.exchange.call (x.asked c m old.before old.fmu)))) where
           x : IsBadAsk r (departing r z) z.t r.plan.step b (saves r) bad log
           x = bad_ask r (departing r z) z.t r.plan.step b (saves r) bad log ignore bound.bound.later
               (subst (λ (ss : List Stand). Agrees z.t r.plan.step (asked_first (early_count (shapes_of r.system))) b ss log (Fails bad)) (all_at_is r z all) agrees)

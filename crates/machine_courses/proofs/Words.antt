@@ -1,61 +1,25 @@
 -- What a checkpoint keeps of where a run stands is read back as that.
-use Rattle.std.proofs.Common.{◌≡◌, ℕ, zero, suc, ◌+◌, ◌-◌, ◌<◌, ◌≤◌, ◌^◌, nat_le, ℤ, pos, negsuc, Bool, true, false, List, [], ◌∷◌, Option, Some, None, refl, sym, ap, ap₂, ◌∙◌, arith, length, map}
-use Rattle.std.specs.Int.{w64, cast_signed}
-use Rattle.std.specs.List.{slice_get}
+use Rattle.std.proofs.Common.{◌≡◌, ℕ, suc, ◌-◌, nat_le, ℤ, Bool, true, false, List, [], ◌∷◌, Option, Some, None, refl, sym, ap, ap₂, ◌∙◌, arith, length, map}
 use Rattle.std.specs.Option.{option_map}
-use Rattle.std.specs.Prelude.{FitsSigned, IfSome, int_le, ◌≤ℤ◌, if◌then◌else◌}
-use Rattle.std.proofs.lemmas.Int.{ints, to_z-of_z}
+use Rattle.std.specs.Prelude.{IfSome, if◌then◌else◌}
 use Rattle.value_types.specs.declared.values.PortType.{PortType}
-use Rattle.value_types.specs.declared.values.PortType.TheVariants.{Int8, UInt8, Int16, UInt16, Int32, UInt32, Int64, UInt64, Boolean, Enumeration, Clock}
-use Rattle.value_types.specs.Values.{Fits, greatest_of, is_fitting, least_of, number_of, word_of, word_value}
+use Rattle.value_types.proofs.CallerLemmas.{fitting, number_of_word}
+use Rattle.value_types.specs.Values.{Fits, word_of}
 use Rattle.system_model.specs.declared.system.Port.{Port}
 use Rattle.system_model.specs.declared.system.Role.{Role}
 use Rattle.system_model.specs.declared.system.Role.TheVariants.{Input, Output, ClockInput, ClockOutput, TimeClock}
 use Rattle.system_model.specs.declared.system.Timing.TheVariants.{Periodic, Answered, Countdown, Changing}
-use Rattle.system_model.specs.Values.{value}
 use Rattle.run_model.specs.Run.{Timer, Never, Every, Once}
-use Rattle.run_rest.specs.Snapshot.{time_up_to, up_to}
+use Rattle.run_rest.specs.Snapshot.{up_to}
 use Rattle.run_rest.proofs.CallerLemmas.{Alike, AreTimersOf, IsTimerOf}
 use Rattle.system_checkpoint.specs.declared.snapshot.Arming.TheVariants.{At, Unarmed}
 use Rattle.calling_sequence.specs.Holding.{FitPorts, arming_of, armed_up_to, by_port, timer_by, timers_by, times_of, value_by, values_by}
 
 -- ---- values
 
--- the word of a number of 64 bits with a sign
-signed_again : (value : ℤ) → FitsSigned w64 value → cast_signed w64 (word_of value) ≡ value
-signed_again (pos n) h = to_z-of_z w64 (pos n) h
-signed_again (negsuc n) h =
-    let same : 2 ^ 64 - 1 - n ≡ 2 ^ 64 - suc n = omega arith in
-    ap (cast_signed w64) same ∙ to_z-of_z w64 (negsuc n) h
-
-number_is : (kind : PortType) (value : ℤ) → Fits kind value → number_of kind (word_of value) ≡ value
-number_is Int8 value h = signed_again value (omega (arith, ints, h.0, h.1))
-number_is UInt8 (pos n) h = refl
-number_is UInt8 (negsuc n) h = absurd (omega (arith, ints, h.0))
-number_is Int16 value h = signed_again value (omega (arith, ints, h.0, h.1))
-number_is UInt16 (pos n) h = refl
-number_is UInt16 (negsuc n) h = absurd (omega (arith, ints, h.0))
-number_is Int32 value h = signed_again value (omega (arith, ints, h.0, h.1))
-number_is UInt32 (pos n) h = refl
-number_is UInt32 (negsuc n) h = absurd (omega (arith, ints, h.0))
-number_is Int64 value h = signed_again value (omega (arith, ints, h.0, h.1))
-number_is UInt64 (pos n) h = refl
-number_is UInt64 (negsuc n) h = absurd (omega (arith, ints, h.0))
-number_is Boolean (pos n) h = refl
-number_is Boolean (negsuc n) h = absurd (omega (arith, ints, h.0))
-number_is Enumeration value h = signed_again value (omega (arith, ints, h.0, h.1))
-number_is Clock (pos n) h = refl
-number_is Clock (negsuc n) h = absurd (omega (arith, ints, h.0))
-
-int_le_true : (a b : ℤ) → a ≤ℤ b → int_le a b ≡ true
-int_le_true a b h = grind (arith, ints)
-
-fitting : (kind : PortType) (value : ℤ) → Fits kind value → is_fitting kind value ≡ true
-fitting kind value h = rw (int_le_true (least_of kind) value h.0, int_le_true value (greatest_of kind) h.1) refl
-
 value_back : (kind : PortType) (v : Option ℤ) → IfSome v (Fits kind) → value_by kind (option_map word_of v) ≡ v
 value_back kind None h = refl
-value_back kind (Some x) h = rw (number_is kind x h, fitting kind x h) refl
+value_back kind (Some x) h = rw (number_of_word kind x h, fitting kind x h) refl
 
 pub values_back : (ports : List Port) (values : List (Option ℤ)) → length values ≡ length ports → FitPorts ports values → values_by ports (map (option_map word_of) values) ≡ values
 values_back [] [] len fit = refl

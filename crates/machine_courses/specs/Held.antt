@@ -30,7 +30,7 @@ use Rattle.calling_sequence.specs.Calls as Calls
 use Rattle.calling_sequence.specs.Course.{FromHeld, Spot, UpToHeld}
 use Rattle.calling_sequence.specs.Ends.{EndsIn, FinishesIn, header_of, kind_of_end}
 use Rattle.calling_sequence.specs.Holding.{ComesToHold, holding, kept_at}
-use Rattle.machine_courses.specs.Fronts.{LacksStepAt, LosesAt}
+use Rattle.machine_courses.specs.Prefixes.{LacksStepAt, LosesAt}
 use Rattle.machine_courses.specs.Outcomes.{IsLost, Output}
 
 -- ---- the checkpoint
@@ -65,20 +65,20 @@ pub data HoldsBy (r : Run) (at : ℕ) : RunEnd → List Sent → List ℕ → Ty
   Early : (end : RunEnd) (point : ℕ) (log : List Sent) (is : List Instant) →
       FinishesIn r.system r.bound r.plan (UpToHeld at) end point log is →
       HoldsBy r at end log (end_text (kind_of_end end) point)
-  BadlyHeld : (s : Spot) (bad : BadAnswer) (front more : List Sent) (is : List Instant) →
-      ComesToHold (experiment_of r) at s front is →
+  BadlyHeld : (s : Spot) (bad : BadAnswer) (prefix more : List Sent) (is : List Instant) →
+      ComesToHold (experiment_of r) at s prefix is →
       StopsAt (shapes_of r.system) (holding r.system) bad more →
-      HoldsBy r at (E.Bad bad) (front ++ more) (end_text K.Fault s.t)
+      HoldsBy r at (E.Bad bad) (prefix ++ more) (end_text K.Fault s.t)
   -- the bytes are those of the states that the log leads to once each FMU is in Step Mode
-  WellHeld : (s : Spot) (front entered keeping : List Sent) (is : List Instant) →
-      ComesToHold (experiment_of r) at s front is →
+  WellHeld : (s : Spot) (prefix entered keeping : List Sent) (is : List Instant) →
+      ComesToHold (experiment_of r) at s prefix is →
       IsAnswered (shapes_of r.system) (Calls.entering_step r.system) entered →
       IsAnswered (shapes_of r.system) (Calls.keeping r.system) keeping →
       CanBeHeld r.system (kept_at (experiment_of r) s
-      (packed (packings_of r) (map kept (states_by r (instantiated r) (front ++ entered))))) →
-      HoldsBy r at (E.Held s.t) ((front ++ entered) ++ keeping)
+      (packed (packings_of r) (map kept (states_by r (instantiated r) (prefix ++ entered))))) →
+      HoldsBy r at (E.Held s.t) ((prefix ++ entered) ++ keeping)
       (spelling (header_of r.system r.plan) (kept_at (experiment_of r) s
-      (packed (packings_of r) (map kept (states_by r (instantiated r) (front ++ entered))))))
+      (packed (packings_of r) (map kept (states_by r (instantiated r) (prefix ++ entered))))))
 
 -- each machine was made, and then a run of the system by its plan, whose replies are theirs, ended so
 pub record IsHeldRunOf (r : Run) (at : ℕ) (made log : List Sent) (end : RunEnd)
@@ -141,14 +141,14 @@ abbrev pub GoesAs : Plan → Plan → Type 0
 GoesAs own plan = record own { workers = plan.workers; link = plan.link } ≡ plan
 
 -- where the machines' run stands at the step after these instants, a run of the system by a plan that goes as theirs was resumed, whose replies are theirs; it ended so with this log after these further instants, and put this
-pub record IsRestOf (r : Run) (front : List Instant) (z : Situation) (s : Spot) (bound : Bound)
+pub record IsRestOf (r : Run) (prefix : List Instant) (z : Situation) (s : Spot) (bound : Bound)
     (own : Plan) (log : List Sent) (is : List Instant) (end : RunEnd) (o : Output) : Type 0 where
   pub sound : IsSound r.system
   pub plan : IsPlan r.plan
   pub same : GoesAs own r.plan
   pub machines : AreMachines r
   pub ignore : IgnoreSlots r
-  pub held : Held r front z
+  pub held : Held r prefix z
   pub begun : r.plan.start ≤ z.t
   pub stands : StandsAs r z s
   pub replies : AreReplies r (entering_step r z) log

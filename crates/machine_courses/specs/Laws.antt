@@ -25,7 +25,7 @@ use Rattle.calling_sequence.specs.Ready.{CanKeep}
 use Rattle.system_model.specs.Plans.{IsPlan}
 use Rattle.machine_courses.specs.Held.{HoldsRun, HoldsWell, IsHeldRunOf, IsRestOf, StandsAs, checkpoint_of, ends_before}
 use Rattle.machine_courses.specs.Kept.{PutsState}
-use Rattle.machine_courses.specs.Outcomes.{IsLost, Output, PutsRun, PutsRunIn, TracesWell, TracesWellIn, rest_behind}
+use Rattle.machine_courses.specs.Outcomes.{IsLost, Output, PutsRun, PutsRunIn, TracesWell, TracesWellIn, rest_after}
 
 -- each machine was made, and then a run of the system by its plan, whose replies are theirs, ended so with this log after these instants, and put this
 pub record IsRunOf (r : Run) (made log : List Sent) (is : List Instant) (end : RunEnd)
@@ -85,20 +85,20 @@ EarlyHasNone =
 -- where a run is resumed by its checkpoint, it stands as the run that was held
 abbrev pub SnapshotsStand : Type 0
 SnapshotsStand =
-    (r : Run) → IsSound r.system → IsPlan r.plan → AreMachines r → (front : List Instant)
-    (z : Situation) → Held r front z → StandsAs r z (spot_in r.system (checkpoint_of r z))
+    (r : Run) → IsSound r.system → IsPlan r.plan → AreMachines r → (prefix : List Instant)
+    (z : Situation) → Held r prefix z → StandsAs r z (spot_in r.system (checkpoint_of r z))
 
 -- the instants that a resumed run puts are those of the run of these machines after the instants before, whatever its workers and its link
 abbrev pub RestByLog : Type 0
 RestByLog =
-    (r : Run) (front : List Instant) (z : Situation) (s : Spot) (bound : Bound) (own : Plan)
+    (r : Run) (prefix : List Instant) (z : Situation) (s : Spot) (bound : Bound) (own : Plan)
     (log : List Sent) (is : List Instant) (end : RunEnd) (o : Output) →
-    IsRestOf r front z s bound own log is end o → PutsRunIn r (rest_behind front) o end
+    IsRestOf r prefix z s bound own log is end o → PutsRunIn r (rest_after prefix) o end
 
 -- and where these behave well, nothing but a call that failed breaks it off, or a put
 abbrev pub RestWellByLog : Type 0
 RestWellByLog =
-    (r : Run) (front : List Instant) (z : Situation) (s : Spot) (bound : Bound) (own : Plan)
+    (r : Run) (prefix : List Instant) (z : Situation) (s : Spot) (bound : Bound) (own : Plan)
     (log : List Sent) (is : List Instant) (end : RunEnd) (o : Output) →
     BindsParameters r.system r.bound → WellBehaved r →
-    IsRestOf r front z s bound own log is end o → TracesWellIn r (rest_behind front) log o end
+    IsRestOf r prefix z s bound own log is end o → TracesWellIn r (rest_after prefix) log o end

@@ -1,4 +1,4 @@
-pub mod Fronts
+pub mod Prefixes
 pub mod Outcomes
 pub mod Held
 pub mod Kept

@@ -13,8 +13,8 @@ use Rattle.slot_calls.specs.Log.{Sent}
 use Rattle.calling_sequence.specs.declared.run_end.RunEnd.{RunEnd}
 use Rattle.calling_sequence.specs.declared.run_end.RunEnd.TheVariants as E
 use Rattle.calling_sequence.specs.Ends.{header_of, text_of}
-use Rattle.calling_sequence.specs.Puts.{CutsPiece, with_pieces}
-use Rattle.machine_courses.specs.Fronts.{IsFront, LacksStepAt, LosesAt}
+use Rattle.calling_sequence.specs.Puts.{PutsPrefixOf, with_pieces}
+use Rattle.machine_courses.specs.Prefixes.{IsPrefix, LacksStepAt, LosesAt}
 
 -- what a sink was before and is after a run, and how many instants were counted
 pub record Output : Type 0 where
@@ -24,15 +24,15 @@ pub record Output : Type 0 where
 
 -- what of a run is put: the instants that it has after it before, and the pieces that are put before its own
 pub record Stretch : Type 0 where
-  pub behind : List Instant
+  pub after : List Instant
   pub head : List (List ℕ)
 
 -- all of it, after the header; or what is left after these instants
 abbrev pub whole_of : Run → Stretch
-whole_of r = record { behind = []; head = header_of r.system r.plan ∷ [] }
+whole_of r = record { after = []; head = header_of r.system r.plan ∷ [] }
 
-abbrev pub rest_behind : List Instant → Stretch
-rest_behind front = record { behind = front; head = [] }
+abbrev pub rest_after : List Instant → Stretch
+rest_after prefix = record { after = prefix; head = [] }
 
 -- the text of these instants, and of an end
 abbrev pub pieces_up_to : Stretch → List Instant → List (List ℕ)
@@ -53,35 +53,35 @@ pub record PutsText (part : Stretch) (o : Output) (is : List Instant) (kind : En
 pub record PutsTraceIn (r : Run) (part : Stretch) (o : Output) (kind : EndKind)
     (point : ℕ) : Type 0 where
   pub is : List Instant
-  pub trace : IsTrace r (part.behind ++ is) kind point
+  pub trace : IsTrace r (part.after ++ is) kind point
   pub text : PutsText part o is kind point
 
 -- the run so far, with the end of a run that is broken off
 pub record PutsBrokenIn (r : Run) (part : Stretch) (o : Output) : Type 0 where
   pub is : List Instant
   pub point : ℕ
-  pub front : IsFront r (part.behind ++ is)
+  pub prefix : IsPrefix r (part.after ++ is)
   pub text : PutsText part o is K.Fault point
 
 -- a piece after the text of these instants: the next instant of the run, or an end line
 abbrev pub IsNextPiece : Run → List Instant → List ℕ → Type 0
 IsNextPiece r is piece =
-    ((i : Instant) × IsFront r (is ++ i ∷ []) × (piece ≡ text_of i)) ⊎
+    ((i : Instant) × IsPrefix r (is ++ i ∷ []) × (piece ≡ text_of i)) ⊎
     ((kind : EndKind) × (point : ℕ) × (piece ≡ end_text kind point))
 
 -- the put of the first of these pieces failed
-abbrev pub CutsFirst : List (List ℕ) → Output → Type 0
-CutsFirst [] o = ⊥
-CutsFirst (piece ∷ pieces) o = CutsPiece o.before piece o.after
+abbrev pub PutsPrefixOfFirst : List (List ℕ) → Output → Type 0
+PutsPrefixOfFirst [] o = ⊥
+PutsPrefixOfFirst (piece ∷ pieces) o = PutsPrefixOf o.before piece o.after
 
 -- the header's put failed, or that of a piece after the text of the run so far
-pub record CutsFrontIn (r : Run) (part : Stretch) (o : Output) : Type 0 where
+pub record PutsPrefixOfRunIn (r : Run) (part : Stretch) (o : Output) : Type 0 where
   pub is : List Instant
-  pub front : IsFront r (part.behind ++ is)
+  pub prefix : IsPrefix r (part.after ++ is)
   pub counted : o.counted ≡ length is
-  pub cut : CutsFirst part.head o
-      ⊎ ((piece : List ℕ) × IsNextPiece r (part.behind ++ is) piece ×
-      CutsPiece (with_pieces o.before (pieces_up_to part is)) piece o.after)
+  pub cut : PutsPrefixOfFirst part.head o
+      ⊎ ((piece : List ℕ) × IsNextPiece r (part.after ++ is) piece ×
+      PutsPrefixOf (with_pieces o.before (pieces_up_to part is)) piece o.after)
 
 -- by the end: the trace, or the run so far
 abbrev pub PutsRunIn : Run → Stretch → Output → RunEnd → Type 0
@@ -93,7 +93,7 @@ PutsRunIn r part o (E.FixedStep component at end) =
 PutsRunIn r part o (E.Range lost point) = PutsTraceIn r part o K.Range point × LosesAt r lost point
 PutsRunIn r part o (E.Held point) = ⊥
 PutsRunIn r part o (E.Bad bad) = PutsBrokenIn r part o
-PutsRunIn r part o E.WriteFault = CutsFrontIn r part o
+PutsRunIn r part o E.WriteFault = PutsPrefixOfRunIn r part o
 
 -- of a whole run
 abbrev pub PutsTrace : Run → Output → EndKind → ℕ → Type 0
@@ -107,35 +107,35 @@ PutsRun r o end = PutsRunIn r (whole_of r) o end
 -- why a run of the first n components is broken off is that a call of this log had no reply
 pub record IsLost (n : ℕ) (log : List Sent) (why : Why) : Type 0 where
   pub link : IsLink why
-  pub front : List Sent
+  pub prefix : List Sent
   pub last : Sent
   pub back : List Sent
-  pub is : log ≡ front ++ last ∷ back
+  pub is : log ≡ prefix ++ last ∷ back
   pub within : last.component < n
   pub unanswered : is_err last.exchange.result ≡ true
 
 -- the put of one piece of the trace failed, after those before it
-pub record CutsTraceIn (r : Run) (part : Stretch) (o : Output) : Type 0 where
+pub record PutsPrefixOfTraceIn (r : Run) (part : Stretch) (o : Output) : Type 0 where
   pub is : List Instant
   pub kind : EndKind
   pub point : ℕ
-  pub trace : IsTrace r (part.behind ++ is) kind point
+  pub trace : IsTrace r (part.after ++ is) kind point
   pub pieces : List (List ℕ)
   pub piece : List ℕ
   pub rest : List (List ℕ)
   pub are : pieces_with_end part is kind point ≡ pieces ++ piece ∷ rest
-  pub cut : CutsPiece (with_pieces o.before pieces) piece o.after
+  pub cut : PutsPrefixOf (with_pieces o.before pieces) piece o.after
 
 -- nothing but a call that failed breaks their run off, or a put
 abbrev pub TracesWellIn : Run → Stretch → List Sent → Output → RunEnd → Type 0
 TracesWellIn r part log o (E.Bad bad) = IsLost (length r.system.components) log bad.why
 TracesWellIn r part log o E.WriteFault =
-    ((why : Why) × IsLost (length r.system.components) log why) ⊎ CutsTraceIn r part o
+    ((why : Why) × IsLost (length r.system.components) log why) ⊎ PutsPrefixOfTraceIn r part o
 TracesWellIn r part log o end = PutsRunIn r part o end
 
 -- of a whole run
-abbrev pub CutsTrace : Run → Output → Type 0
-CutsTrace r o = CutsTraceIn r (whole_of r) o
+abbrev pub PutsPrefixOfTrace : Run → Output → Type 0
+PutsPrefixOfTrace r o = PutsPrefixOfTraceIn r (whole_of r) o
 
 abbrev pub TracesWell : Run → List Sent → Output → RunEnd → Type 0
 TracesWell r log o end = TracesWellIn r (whole_of r) log o end

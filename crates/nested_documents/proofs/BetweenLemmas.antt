@@ -29,15 +29,15 @@ inner k low high (x ∷ xs) a =
 abbrev moved : ℕ → ℕ → ℕ → ℕ
 moved k n x = if nat_le x k then x else (x - 1) + n
 
-moved_behind : (k n x : ℕ) → k < x → moved k n x ≡ (x - 1) + n
-moved_behind k n x less = let e : nat_le x k ≡ false = grind (arith, nat_tests) in rw e refl
+moved_after : (k n x : ℕ) → k < x → moved k n x ≡ (x - 1) + n
+moved_after k n x less = let e : nat_le x k ≡ false = grind (arith, nat_tests) in rw e refl
 
 outer : (k n low high : ℕ) (xs : List ℕ) → k < low → AreBetween low high xs → AreBetween ((low - 1) + n) ((high - 1) + n) (map (moved k n) xs)
 outer k n low high [] less a = tt
 outer k n low high (x ∷ xs) less a =
     let at = a.0 in
     let below = a.1.0 in
-    let here : moved k n x ≡ (x - 1) + n = moved_behind k n x (omega (arith, at)) in
+    let here : moved k n x ≡ (x - 1) + n = moved_after k n x (omega (arith, at)) in
     let e : (suc x - 1) + n ≡ suc (moved k n x) = rw here (omega (arith, at)) in (
       rw here (omega (arith, at)),
       (rw here (omega (arith, at, below)), subst (λ (m : ℕ). AreBetween m ((high - 1) + n) (map (moved k n) xs)) e (outer k n (suc x) high xs (omega (arith, at)) a.1.1)),
@@ -73,9 +73,9 @@ placed_more s document level count ns ws all less inside rest e =
     let ys = map (λ (w : Waiting). w.component) ws in
     let f : 0 + k ≡ k = omega arith in
     let g : (suc k - 1) + n ≡ n + k = omega arith in
-    let front : AreBetween k (n + k) (map (λ (x : ℕ). x + k) xs) = subst (λ (m : ℕ). AreBetween m (n + k) (map (λ (x : ℕ). x + k) xs)) f (inner k 0 n xs inside) in
+    let prefix : AreBetween k (n + k) (map (λ (x : ℕ). x + k) xs) = subst (λ (m : ℕ). AreBetween m (n + k) (map (λ (x : ℕ). x + k) xs)) f (inner k 0 n xs inside) in
     let back : AreBetween (n + k) ((count - 1) + n) (map (moved k n) ys) = subst (λ (m : ℕ). AreBetween m ((count - 1) + n) (map (moved k n) ys)) g (outer k n (suc k) count ys (omega arith) rest) in
-    let whole : AreBetween 0 ((count - 1) + n) (map (λ (x : ℕ). x + k) xs ++ map (moved k n) ys) = lower 0 k ((count - 1) + n) (map (λ (x : ℕ). x + k) xs ++ map (moved k n) ys) (omega arith) (joined k (n + k) ((count - 1) + n) (map (λ (x : ℕ). x + k) xs) (map (moved k n) ys) (omega arith) (omega (arith, less)) front back) in
+    let whole : AreBetween 0 ((count - 1) + n) (map (λ (x : ℕ). x + k) xs ++ map (moved k n) ys) = lower 0 k ((count - 1) + n) (map (λ (x : ℕ). x + k) xs ++ map (moved k n) ys) (omega arith) (joined k (n + k) ((count - 1) + n) (map (λ (x : ℕ). x + k) xs) (map (moved k n) ys) (omega arith) (omega (arith, less)) prefix back) in
     let places : map (λ (w : Waiting). w.component) all ≡ map (λ (x : ℕ). x + k) xs ++ map (moved k n) ys =
     ap (map (λ (w : Waiting). w.component)) e ∙ (places_append (map (waiting_from s.component document level) ns) (map (moved_waiting s) ws)
     ∙ (ap (λ (zs : List ℕ). zs ++ map (λ (w : Waiting). w.component) (map (moved_waiting s) ws)) (places_inner s.component document level ns) ∙ ap (λ (zs : List ℕ). map (λ (x : ℕ). x + k) xs ++ zs) (places_outer s ws))) in

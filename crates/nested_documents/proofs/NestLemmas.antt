@@ -31,21 +31,21 @@ pub first_within : (high : ℕ) (all : List Waiting) (w : Waiting) (rest : List 
 first_within high all w rest e b = (subst (λ (ws : List Waiting). AreBetween 0 high (waiting_places ws)) e b).1.0
 
 -- and the others' places are after it
-pub rest_behind : (high : ℕ) (all : List Waiting) (w : Waiting) (rest : List Waiting) → all ≡ w ∷ rest → AreBetween 0 high (waiting_places all) → AreBetween (suc w.component) high (waiting_places rest)
-rest_behind high all w rest e b = (subst (λ (ws : List Waiting). AreBetween 0 high (waiting_places ws)) e b).1.1
+pub rest_after : (high : ℕ) (all : List Waiting) (w : Waiting) (rest : List Waiting) → all ≡ w ∷ rest → AreBetween 0 high (waiting_places all) → AreBetween (suc w.component) high (waiting_places rest)
+rest_after high all w rest e b = (subst (λ (ws : List Waiting). AreBetween 0 high (waiting_places ws)) e b).1.1
 
 -- with a document in its place, those that wait stand in the order of the whole again
 pub placed_added : (outer inner whole : SystemTree) (place elements document level : ℕ) (c : ComponentPart) (f : Frame) (nested : List NestedComponent) (rest all : List Waiting) → place < length outer.components → AreBetween 0 (length inner.components) (places_of nested)
     → AreBetween (suc place) (length outer.components) (waiting_places rest) → whole ≡ inlined outer place c f inner elements
     → all ≡ map (waiting_from place document level) nested ++ map (moved_waiting (seam_of outer place c inner elements)) rest → AreBetween 0 (length whole.components) (waiting_places all)
-placed_added outer inner whole place elements document level c f nested rest all less inside behind e is =
+placed_added outer inner whole place elements document level c f nested rest all less inside after e is =
     let count : length whole.components ≡ (length outer.components - 1) + length inner.components = ap (λ (t : SystemTree). length t.components) e ∙ length_inlined outer place c f inner elements less in
-    subst (λ (n : ℕ). AreBetween 0 n (waiting_places all)) (sym count) (placed_more (seam_of outer place c inner elements) document level (length outer.components) nested rest all less inside behind is)
+    subst (λ (n : ℕ). AreBetween 0 n (waiting_places all)) (sym count) (placed_more (seam_of outer place c inner elements) document level (length outer.components) nested rest all less inside after is)
 
 -- the inner document's Components that wait, and then the others
-pub waits_added : (s t : Seam) (before document level : ℕ) (nested : List NestedComponent) (rest front back all : List Waiting) → s ≡ t → front ≡ map (waiting_from before document (level + 1)) nested → back ≡ map (moved_waiting s) rest → all ≡ front ++ back
+pub waits_added : (s t : Seam) (before document level : ℕ) (nested : List NestedComponent) (rest prefix back all : List Waiting) → s ≡ t → prefix ≡ map (waiting_from before document (level + 1)) nested → back ≡ map (moved_waiting s) rest → all ≡ prefix ++ back
     → all ≡ map (waiting_from before document (suc level)) nested ++ map (moved_waiting t) rest
-waits_added s t before document level nested rest front back all same e f is =
+waits_added s t before document level nested rest prefix back all same e f is =
     let one : level + 1 ≡ suc level = omega arith in
     let P : Seam → ℕ → Type 0 = λ (s : Seam) (n : ℕ). all ≡ map (waiting_from before document n) nested ++ map (moved_waiting s) rest in
     let here : P s (level + 1) = is ∙ (ap (λ (ws : List Waiting). ws ++ back) e ∙ ap (λ (ws : List Waiting). map (waiting_from before document (level + 1)) nested ++ ws) f) in

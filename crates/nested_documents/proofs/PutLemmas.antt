@@ -7,8 +7,8 @@ use Rattle.nested_documents.specs.declared.seam.Frame.{Frame}
 use Rattle.nested_documents.specs.Inlining.{inlined, put}
 
 -- what came after was taken off, then what goes, and then the rest was put on
-pub put_is : {A : Type 0} (at gone : ℕ) (inner outer front joined whole : List A) → front ≡ take at (take (at + gone) outer) → joined ≡ front ++ inner → whole ≡ joined ++ drop (at + gone) outer → whole ≡ put at gone inner outer
-put_is {A} at gone inner outer front joined whole e f g =
+pub put_is : {A : Type 0} (at gone : ℕ) (inner outer prefix joined whole : List A) → prefix ≡ take at (take (at + gone) outer) → joined ≡ prefix ++ inner → whole ≡ joined ++ drop (at + gone) outer → whole ≡ put at gone inner outer
+put_is {A} at gone inner outer prefix joined whole e f g =
     let h : take at (take (at + gone) outer) ≡ take at outer = take-take at (at + gone) outer (omega arith) in
     g ∙ (ap (λ (xs : List A). xs ++ drop (at + gone) outer) f ∙ (ap (λ (xs : List A). (xs ++ inner) ++ drop (at + gone) outer) (e ∙ h) ∙ append_assoc (take at outer) inner (drop (at + gone) outer)))
 

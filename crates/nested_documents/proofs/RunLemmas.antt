@@ -68,9 +68,9 @@ none_first rs d n c most e =
     let f : min c most ≡ 0 = omega (arith, e) in
     rw (f, append-nil) refl
 
-pub none_behind : (rs : List Run) (d n c less : ℕ) → c ≤ less → elements_in rs ≡ elements_in rs ++ run d (n + less) (c - less)
+pub none_after : (rs : List Run) (d n c less : ℕ) → c ≤ less → elements_in rs ≡ elements_in rs ++ run d (n + less) (c - less)
 unfolding run
-none_behind rs d n c less le =
+none_after rs d n c less le =
     let f : c - less ≡ 0 = omega (arith, le) in
     rw (f, append-nil) refl
 
@@ -82,9 +82,9 @@ pub part_more : (rs ss : List Run) (r : Run) (document node count : ℕ) → ss 
 part_more rs ss r document node count e d n c = one_more rs ss r e ∙ ap (λ (xs : List Place). elements_in rs ++ xs) (rw (d, n, c) refl)
 
 -- the prefix, a whole document and the rest
-pub put_run : (front back joined all : List Run) (whole : Run) (document count at : ℕ) (elements : List Place) → joined ≡ front ++ whole ∷ [] → all ≡ joined ++ back → whole.document ≡ document → whole.node ≡ 0 → whole.count ≡ count → elements_in front ≡ take at elements → elements_in back ≡ drop at elements → elements_in all ≡ with_elements at document count elements
-put_run front back joined all whole document count at elements e f d n c g h =
-    let j : elements_in joined ≡ take at elements ++ run document 0 count = part_more front joined whole document 0 count e d n c ∙ ap (λ (xs : List Place). xs ++ run document 0 count) g in
+pub put_run : (prefix back joined all : List Run) (whole : Run) (document count at : ℕ) (elements : List Place) → joined ≡ prefix ++ whole ∷ [] → all ≡ joined ++ back → whole.document ≡ document → whole.node ≡ 0 → whole.count ≡ count → elements_in prefix ≡ take at elements → elements_in back ≡ drop at elements → elements_in all ≡ with_elements at document count elements
+put_run prefix back joined all whole document count at elements e f d n c g h =
+    let j : elements_in joined ≡ take at elements ++ run document 0 count = part_more prefix joined whole document 0 count e d n c ∙ ap (λ (xs : List Place). xs ++ run document 0 count) g in
     ap elements_in f ∙ (places_append joined back
     ∙ (ap (λ (xs : List Place). xs ++ elements_in back) j ∙ (ap (λ (xs : List Place). (take at elements ++ run document 0 count) ++ xs) h ∙ append_assoc (take at elements) (run document 0 count) (drop at elements))))
 
@@ -98,15 +98,15 @@ pub get_here : (rs : List Run) (i : ℕ) (r : Run) (k : ℕ) (found : Option Pla
 get_here rs i r k found less is below e =
     sym (get_within r.document r.node r.count k (elements_in (drop (i + 1) rs)) below) ∙ (sym (ap (λ xs. slice_get xs k) (from_one rs i r less is)) ∙ e)
 
-pub get_behind : (rs : List Run) (i : ℕ) (r : Run) (k : ℕ) (found : Option Place) → i < length rs → r ≡ get_or rs i r → r.count ≤ k → slice_get (elements_in (drop i rs)) k ≡ found → slice_get (elements_in (drop (i + 1) rs)) (k - r.count) ≡ found
-get_behind rs i r k found less is past e =
+pub get_after : (rs : List Run) (i : ℕ) (r : Run) (k : ℕ) (found : Option Place) → i < length rs → r ≡ get_or rs i r → r.count ≤ k → slice_get (elements_in (drop i rs)) k ≡ found → slice_get (elements_in (drop (i + 1) rs)) (k - r.count) ≡ found
+get_after rs i r k found less is past e =
     sym (get_past r.document r.node r.count k (elements_in (drop (i + 1) rs)) past) ∙ (sym (ap (λ xs. slice_get xs k) (from_one rs i r less is)) ∙ e)
 
-pub front_more : (rs front more : List Run) (i : ℕ) (r : Run) (k : ℕ) (all : List Place) → i < length rs → r ≡ get_or rs i r → elements_in front ++ take k (elements_in (drop i rs)) ≡ all → elements_in more ≡ elements_in front ++ run r.document r.node (min r.count k) → elements_in more ++ take (k - r.count) (elements_in (drop (i + 1) rs)) ≡ all
-front_more rs front more i r k all less is e f =
+pub prefix_more : (rs prefix more : List Run) (i : ℕ) (r : Run) (k : ℕ) (all : List Place) → i < length rs → r ≡ get_or rs i r → elements_in prefix ++ take k (elements_in (drop i rs)) ≡ all → elements_in more ≡ elements_in prefix ++ run r.document r.node (min r.count k) → elements_in more ++ take (k - r.count) (elements_in (drop (i + 1) rs)) ≡ all
+prefix_more rs prefix more i r k all less is e f =
     let rest = elements_in (drop (i + 1) rs) in
     let g : take k (elements_in (drop i rs)) ≡ run r.document r.node (min r.count k) ++ take (k - r.count) rest = ap (take k) (from_one rs i r less is) ∙ take_run r.document r.node r.count k rest in
-    ap (λ xs. xs ++ take (k - r.count) rest) f ∙ (append_assoc (elements_in front) (run r.document r.node (min r.count k)) (take (k - r.count) rest) ∙ (sym (ap (λ xs. elements_in front ++ xs) g) ∙ e))
+    ap (λ xs. xs ++ take (k - r.count) rest) f ∙ (append_assoc (elements_in prefix) (run r.document r.node (min r.count k)) (take (k - r.count) rest) ∙ (sym (ap (λ xs. elements_in prefix ++ xs) g) ∙ e))
 
 pub back_more : (rs back more : List Run) (i : ℕ) (r : Run) (k : ℕ) (all : List Place) → i < length rs → r ≡ get_or rs i r → elements_in back ++ drop k (elements_in (drop i rs)) ≡ all → elements_in more ≡ elements_in back ++ run r.document (r.node + k) (r.count - k) → elements_in more ++ drop (k - r.count) (elements_in (drop (i + 1) rs)) ≡ all
 back_more rs back more i r k all less is e f =

@@ -21,15 +21,15 @@ use Rattle.nested_documents.specs.declared.seam.Frame.{Frame}
 -- ---- places
 
 -- the place of what stood at a place, where so many more were put after the first so many
-abbrev pub behind : ℕ → ℕ → ℕ → ℕ
-behind before more place = if nat_lt place before then place else place + more
+abbrev pub after : ℕ → ℕ → ℕ → ℕ
+after before more place = if nat_lt place before then place else place + more
 
 abbrev pub moved_node : Seam → Side → ℕ → ℕ
-moved_node s Outer node = behind s.node s.elements node
+moved_node s Outer node = after s.node s.elements node
 moved_node s Inner node = node + s.node
 
 abbrev pub moved_system : Seam → Side → ℕ → ℕ
-moved_system s Outer place = behind s.systems_before s.systems place
+moved_system s Outer place = after s.systems_before s.systems place
 moved_system s Inner place = place + s.systems_before
 
 -- one Component goes: those after it move up by one

@@ -109,10 +109,10 @@ fn put<T: Drop>(outer: Vec<T>, at: usize, gone: usize, inner: Vec<T>) -> Result<
 {
     let mut whole = outer;
     let mut inside = inner;
-    let mut behind = whole.split_off(at + gone)?;
+    let mut after = whole.split_off(at + gone)?;
     whole.truncate(at);
     whole.append(&mut inside)?;
-    whole.append(&mut behind)?;
+    whole.append(&mut after)?;
     Ok(whole)
 }
 

@@ -47,7 +47,7 @@ fn push_first(runs: &mut Vec<Run>, one: &Run, most: usize) -> Result<(), AllocEr
 }
 
 // The elements of a run but the first, so many, after others.
-fn push_behind(runs: &mut Vec<Run>, one: &Run, less: usize) -> Result<(), AllocError>
+fn push_after(runs: &mut Vec<Run>, one: &Run, less: usize) -> Result<(), AllocError>
     ensures { OnOk result (elements_in runs.new.items ≡ elements_in runs.old.items
         ++ run one.now.document (one.now.node + less) (one.now.count - less)) }
 {
@@ -81,20 +81,20 @@ fn place_among(runs: &[Run], number: usize) -> Option<Place>
 
 // The first elements of these runs, so many, and those after them.
 fn split(alloc: Global, runs: &[Run], at: usize) -> Result<(Vec<Run>, Vec<Run>), AllocError>
-    ensures front { IfOk result
+    ensures prefix { IfOk result
         (λ both. elements_in both.0.items ≡ take at (elements_in runs.now)) }
     ensures back { IfOk result
         (λ both. elements_in both.1.items ≡ drop at (elements_in runs.now)) }
 {
-    let mut front = Vec::with_capacity(alloc, runs.len())?;
+    let mut prefix = Vec::with_capacity(alloc, runs.len())?;
     let mut back = Vec::with_capacity(alloc, runs.len())?;
     let mut left = at;
     for run in runs {
-        push_first(&mut front, run, left)?;
-        push_behind(&mut back, run, left)?;
+        push_first(&mut prefix, run, left)?;
+        push_after(&mut back, run, left)?;
         left = left.saturating_sub(run.count);
     }
-    Ok((front, back))
+    Ok((prefix, back))
 }
 
 // The elements of a document before the one with a number.

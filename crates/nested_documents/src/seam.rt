@@ -1,6 +1,6 @@
 //! Where a document goes that stands in place of a Component.
 ghost use Rattle.std.specs.Prelude.{◌≡◌, ◌+◌, IfOk, option_map};
-ghost use Rattle.nested_documents.specs.Moves.{behind, moved_component, moved_connector, moved_node, moved_owner, moved_system};
+ghost use Rattle.nested_documents.specs.Moves.{after, moved_component, moved_connector, moved_node, moved_owner, moved_system};
 
 use sim_base::Text;
 use ssd_tree::Owner;
@@ -53,8 +53,8 @@ pub(crate) fn sum(a: usize, b: usize) -> Result<usize, AllocError>
 }
 
 // The place of what stood at `place`, where `more` were put after the first `before`.
-fn behind(place: usize, before: usize, more: usize) -> Result<usize, AllocError>
-    ensures { IfOk result (λ moved. moved ≡ behind before more place) }
+fn after(place: usize, before: usize, more: usize) -> Result<usize, AllocError>
+    ensures { IfOk result (λ moved. moved ≡ after before more place) }
 {
     if place < before {
         Ok(place)
@@ -69,7 +69,7 @@ impl Seam {
         ensures { IfOk result (λ moved. moved ≡ moved_node self.now side node) }
     {
         match side {
-            Side::Outer => behind(node, self.node, self.elements),
+            Side::Outer => after(node, self.node, self.elements),
             Side::Inner => sum(node, self.node),
         }
     }
@@ -79,7 +79,7 @@ impl Seam {
         ensures { IfOk result (λ moved. moved ≡ moved_system self.now side place) }
     {
         match side {
-            Side::Outer => behind(place, self.systems_before, self.systems),
+            Side::Outer => after(place, self.systems_before, self.systems),
             Side::Inner => sum(place, self.systems_before),
         }
     }

@@ -117,7 +117,7 @@ module _ (outer inner : SystemTree) (k : ℕ) (c : ComponentPart) (f : Frame) (e
 
   our_below : (node : ℕ) → node < count → moved_node s side.Outer node < count + elements
   our_below node less = elim (o.either node c.node) [
-    | inl a ↦ let e = o.front c.node elements node a in omega (arith, e, less)
+    | inl a ↦ let e = o.prefix c.node elements node a in omega (arith, e, less)
     | inr b ↦ let e = o.back c.node elements node b in omega (arith, e, less)
   ]
 

@@ -49,7 +49,7 @@ module _ (outer inner : SystemTree) (k : ℕ) (c : ComponentPart) (f : Frame) (e
     scope_above : IsScope whole c.system outer_scope
     scope_above =
         let less = o.system_before outer inner k c f elements count out within at in
-        let e : moved_system s side.Outer c.system ≡ c.system = o.front p (length inner.systems) c.system less in
+        let e : moved_system s side.Outer c.system ≡ c.system = o.prefix p (length inner.systems) c.system less in
         subst (λ (m : ℕ). IsScope whole m outer_scope) e (scope_outer c.system outer_scope stands)
 
     pub scope_inner : (i : ℕ) (scope : List ℕ) → IsScope inner i scope → IsScope whole (i + p) (f.name ++ 46 ∷ scope)
@@ -108,7 +108,7 @@ module _ (outer inner : SystemTree) (k : ℕ) (c : ComponentPart) (f : Frame) (e
 
   pub our_owner : (x : Owner) → IsOwner outer x → IsOwner whole (moved_owner s side.Outer x)
   our_owner (owner.System place) less = elim (o.either place p) [
-    | inl a ↦ let e = o.front p (length inner.systems) place a in let l = systems_long in omega (arith, e, l, less)
+    | inl a ↦ let e = o.prefix p (length inner.systems) place a in let l = systems_long in omega (arith, e, l, less)
     | inr b ↦ let e = o.back p (length inner.systems) place b in let l = systems_long in omega (arith, e, l, less)
   ]
   our_owner (owner.Component place) less =

@@ -13,27 +13,27 @@ use Rattle.nested_documents.specs.declared.seam.Frame.{Frame}
 use Rattle.nested_documents.specs.declared.seam.Seam.{Seam}
 use Rattle.nested_documents.specs.declared.seam.Side.TheVariants.{Outer, Inner}
 use Rattle.nested_documents.specs.Inlining.{inlined, seam_of, systems_before}
-use Rattle.nested_documents.specs.Moves.{behind, moved_component_part, moved_parent, moved_system, moved_system_part}
-use Rattle.structure_laws.specs.Orderly.{AreRising, IsOrderly, StandsBehind}
-use Rattle.nesting_laws.proofs.PlaceLemmas.{Front, Inside, Back, put_back, put_cases, put_front, put_inside}
+use Rattle.nested_documents.specs.Moves.{after, moved_component_part, moved_parent, moved_system, moved_system_part}
+use Rattle.structure_laws.specs.Orderly.{AreRising, IsOrderly, StandsAfter}
+use Rattle.nesting_laws.proofs.PlaceLemmas.{Prefix, Inside, Back, put_back, put_cases, put_prefix, put_inside}
 
 -- ---- places that move on
 
-pub front : (before more place : ℕ) → place < before → behind before more place ≡ place
-front before more place less = let e : nat_lt place before ≡ true = grind (arith, nat_tests) in rw e refl
+pub prefix : (before more place : ℕ) → place < before → after before more place ≡ place
+prefix before more place less = let e : nat_lt place before ≡ true = grind (arith, nat_tests) in rw e refl
 
-pub back : (before more place : ℕ) → before ≤ place → behind before more place ≡ place + more
+pub back : (before more place : ℕ) → before ≤ place → after before more place ≡ place + more
 back before more place le = let e : nat_lt place before ≡ false = grind (arith, nat_tests) in rw e refl
 
 pub either : (place before : ℕ) → (place < before) ⊎ (before ≤ place)
 either place before = cases_lt place before
 
 -- what moves on keeps its order
-pub behind_less : (before more i j : ℕ) → i < j → behind before more i < behind before more j
-behind_less before more i j less = elim (either i before) [
+pub after_less : (before more i j : ℕ) → i < j → after before more i < after before more j
+after_less before more i j less = elim (either i before) [
   | inl a ↦ elim (either j before) [
-    | inl b ↦ let e = front before more i a in let f = front before more j b in omega (arith, e, f)
-    | inr b ↦ let e = front before more i a in let f = back before more j b in omega (arith, e, f)
+    | inl b ↦ let e = prefix before more i a in let f = prefix before more j b in omega (arith, e, f)
+    | inr b ↦ let e = prefix before more i a in let f = back before more j b in omega (arith, e, f)
   ]
   | inr a ↦ let h : before ≤ j = omega arith in let e = back before more i a in let f = back before more j h in omega (arith, e, f)
 ]
@@ -58,19 +58,19 @@ module _ (n : ℕ) where
       let e : nat_lt x.node n ≡ false = grind (arith, nat_tests) in
       rw e (none_before xs (λ i y at. all (suc i) y at))
 
-  pub counted_front : (xs : List SystemPart) → AreRising xs → (i : ℕ) (x : SystemPart) → slice_get xs i ≡ Some x → x.node < n → i < systems_before n xs
-  counted_front [] rising i x at less = absurd (none-some x at)
-  counted_front (y ∷ xs) rising zero x at less =
+  pub counted_prefix : (xs : List SystemPart) → AreRising xs → (i : ℕ) (x : SystemPart) → slice_get xs i ≡ Some x → x.node < n → i < systems_before n xs
+  counted_prefix [] rising i x at less = absurd (none-some x at)
+  counted_prefix (y ∷ xs) rising zero x at less =
       let e : nat_lt y.node n ≡ true = rw (same_Some y x at) (grind (arith, nat_tests)) in
       let one : ◌≡◌ {A = ℕ} (cond (nat_lt y.node n) 1 0) 1 = ap (λ b. cond {A = ℕ} b 1 0) e in
       let all = before_cons y xs in
       omega (arith, all, one)
-  counted_front (y ∷ xs) rising (suc i) x at less =
+  counted_prefix (y ∷ xs) rising (suc i) x at less =
       let h = rising 0 (suc i) y x refl at (omega arith) in
       let e : nat_lt y.node n ≡ true = grind (arith, nat_tests) in
       let one : ◌≡◌ {A = ℕ} (cond (nat_lt y.node n) 1 0) 1 = ap (λ b. cond {A = ℕ} b 1 0) e in
       let all = before_cons y xs in
-      let more = counted_front xs (tail_rises y xs rising) i x at less in
+      let more = counted_prefix xs (tail_rises y xs rising) i x at less in
       omega (arith, all, one, more)
 
   pub counted_back : (xs : List SystemPart) → AreRising xs → (i : ℕ) (x : SystemPart) → slice_get xs i ≡ Some x → n ≤ x.node → systems_before n xs ≤ i
@@ -124,8 +124,8 @@ module _ (outer inner : SystemTree) (k : ℕ) (c : ComponentPart) (f : Frame) (e
   pub outer_at : (i : ℕ) (x : SystemPart) → slice_get outer.systems i ≡ Some x → slice_get whole.systems (moved_system s Outer i) ≡ Some (ours x)
   outer_at i x at = elim (either i p) [
     | inl a ↦
-        let e = front p (length inner.systems) i a in
-        rw e (put_front p 0 (map theirs inner.systems) (map ours outer.systems) i (ours x) a (remap ours outer.systems i x at))
+        let e = prefix p (length inner.systems) i a in
+        rw e (put_prefix p 0 (map theirs inner.systems) (map ours outer.systems) i (ours x) a (remap ours outer.systems i x at))
     | inr b ↦
         let e = back p (length inner.systems) i b in
         let n = length-map inner.systems theirs in
@@ -143,9 +143,9 @@ module _ (outer inner : SystemTree) (k : ℕ) (c : ComponentPart) (f : Frame) (e
 
   pub from : (j : ℕ) (z : SystemPart) → slice_get whole.systems j ≡ Some z → IsFrom j z
   from j z there = elim (put_cases p 0 (map theirs inner.systems) (map ours outer.systems) j z fits there) [
-    | Front less at ↦
+    | Prefix less at ↦
         let x = unmap ours outer.systems j z at in
-        let e = front p (length inner.systems) j less in
+        let e = prefix p (length inner.systems) j less in
         FromOuter j x.0 (sym e) x.1 x.2
     | Inside i e at ↦ let x = unmap theirs inner.systems i z at in FromInner i x.0 e x.1 x.2
     | Back i e past at ↦
@@ -163,21 +163,21 @@ module _ (outer inner : SystemTree) (k : ℕ) (c : ComponentPart) (f : Frame) (e
       | inr b ↦ let h = counted_back c.node outer.systems out.rising i x at b in absurd (omega (arith, h, less))
     ]
 
-    place_behind : (i : ℕ) (x : SystemPart) → slice_get outer.systems i ≡ Some x → p ≤ i → c.node ≤ x.node
-    place_behind i x at le = elim (either x.node c.node) [
-      | inl a ↦ let h = counted_front c.node outer.systems out.rising i x at a in absurd (omega (arith, h, le))
+    place_after : (i : ℕ) (x : SystemPart) → slice_get outer.systems i ≡ Some x → p ≤ i → c.node ≤ x.node
+    place_after i x at le = elim (either x.node c.node) [
+      | inl a ↦ let h = counted_prefix c.node outer.systems out.rising i x at a in absurd (omega (arith, h, le))
       | inr b ↦ b
     ]
 
     both_outer : (i j : ℕ) (x y : SystemPart) → slice_get outer.systems i ≡ Some x → slice_get outer.systems j ≡ Some y → moved_system s Outer i < moved_system s Outer j → (ours x).node < (ours y).node
     both_outer i j x y at there less = elim (either i j) [
-      | inl a ↦ let h = out.rising i j x y at there a in behind_less c.node elements x.node y.node h
+      | inl a ↦ let h = out.rising i j x y at there a in after_less c.node elements x.node y.node h
       | inr b ↦ absurd (not_less b)
     ]
       where
         not_less : j ≤ i → ⊥
         not_less le = elim (either j i) [
-          | inl a ↦ let h = behind_less p (length inner.systems) j i a in omega (arith, h, less)
+          | inl a ↦ let h = after_less p (length inner.systems) j i a in omega (arith, h, less)
           | inr b ↦ let e : i ≡ j = omega arith in let g : moved_system s Outer i ≡ moved_system s Outer j = ap (moved_system s Outer) e in omega (arith, g, less)
         ]
 
@@ -185,7 +185,7 @@ module _ (outer inner : SystemTree) (k : ℕ) (c : ComponentPart) (f : Frame) (e
     outer_first i j x y at there less = elim (either i p) [
       | inl a ↦
           let h = place_before i x at a in
-          let e = front c.node elements x.node h in
+          let e = prefix c.node elements x.node h in
           rw e (omega (arith, h))
       | inr b ↦
           let e = back p (length inner.systems) i b in
@@ -195,9 +195,9 @@ module _ (outer inner : SystemTree) (k : ℕ) (c : ComponentPart) (f : Frame) (e
 
     inner_first : (i j : ℕ) (x y : SystemPart) → slice_get inner.systems i ≡ Some x → slice_get outer.systems j ≡ Some y → i + p < moved_system s Outer j → (theirs x).node < (ours y).node
     inner_first i j x y at there less = elim (either j p) [
-      | inl a ↦ let e = front p (length inner.systems) j a in absurd (omega (arith, e, a, less))
+      | inl a ↦ let e = prefix p (length inner.systems) j a in absurd (omega (arith, e, a, less))
       | inr b ↦
-          let h = place_behind j y there b in
+          let h = place_after j y there b in
           let e = back c.node elements y.node h in
           let n = within.below i x at in
           rw e (omega (arith, h, n))
@@ -216,12 +216,12 @@ module _ (outer inner : SystemTree) (k : ℕ) (c : ComponentPart) (f : Frame) (e
     ]
 
     module _ (at : slice_get outer.components k ≡ Some c) where
-      stands : StandsBehind outer c
+      stands : StandsAfter outer c
       stands = out.within k c at
 
       -- the System that the Component stands in stands before its place
       pub system_before : c.system < p
-      system_before = let h = stands.2 in counted_front c.node outer.systems out.rising c.system stands.0 stands.1 h
+      system_before = let h = stands.2 in counted_prefix c.node outer.systems out.rising c.system stands.0 stands.1 h
 
       ends_below : c.node < count
       ends_below = out.ends k c at
@@ -229,7 +229,7 @@ module _ (outer inner : SystemTree) (k : ℕ) (c : ComponentPart) (f : Frame) (e
       whole_below : (j : ℕ) (z : SystemPart) → slice_get whole.systems j ≡ Some z → z.node < count + elements
       whole_below j z there = elim (from j z there) [
         | FromOuter i x e ix xe ↦ elim (either x.node c.node) [
-          | inl a ↦ let h = out.below i x ix in let g = front c.node elements x.node a in rw xe (rw g (omega (arith, h)))
+          | inl a ↦ let h = out.below i x ix in let g = prefix c.node elements x.node a in rw xe (rw g (omega (arith, h)))
           | inr b ↦ let h = out.below i x ix in let g = back c.node elements x.node b in rw xe (rw g (omega (arith, h)))
         ]
         | FromInner i x e ix xe ↦ let h = within.below i x ix in let g = ends_below in rw xe (omega (arith, h, g))
@@ -238,7 +238,7 @@ module _ (outer inner : SystemTree) (k : ℕ) (c : ComponentPart) (f : Frame) (e
       whole_root : (x : SystemPart) × (slice_get whole.systems 0 ≡ Some x) × (x.parent ≡ None)
       whole_root =
           let h = system_before in
-          let e = front p (length inner.systems) 0 (omega (arith, h)) in
+          let e = prefix p (length inner.systems) 0 (omega (arith, h)) in
           let x = out.root.0 in (
             ours x,
             subst (λ (m : ℕ). slice_get whole.systems m ≡ Some (ours x)) e (outer_at 0 x out.root.1),
@@ -250,7 +250,7 @@ module _ (outer inner : SystemTree) (k : ℕ) (c : ComponentPart) (f : Frame) (e
       parent_outer i above x (Some a) ix e there =
           let h = out.outer i a x ix e in
           let same : moved_system s Outer a ≡ above = same_Some (moved_system s Outer a) above there in
-          subst (λ (m : ℕ). m < moved_system s Outer i) same (behind_less p (length inner.systems) a i h)
+          subst (λ (m : ℕ). m < moved_system s Outer i) same (after_less p (length inner.systems) a i h)
 
       parent_inner : (i above : ℕ) (x : SystemPart) (parent : Option ℕ) → slice_get inner.systems i ≡ Some x → x.parent ≡ parent → moved_parent s Inner parent ≡ Some above → above < i + p
       parent_inner i above x None ix e there = let h = system_before in let same = same_Some c.system above there in omega (arith, h, same)
@@ -267,13 +267,13 @@ module _ (outer inner : SystemTree) (k : ℕ) (c : ComponentPart) (f : Frame) (e
 
       -- ---- Components
 
-      our_component : (i : ℕ) (x : ComponentPart) → slice_get outer.components i ≡ Some x → StandsBehind whole (moved_component_part s f Outer x)
+      our_component : (i : ℕ) (x : ComponentPart) → slice_get outer.components i ≡ Some x → StandsAfter whole (moved_component_part s f Outer x)
       our_component i x there =
           let h = out.within i x there in
           let less = h.2 in
-          (ours h.0, outer_at x.system h.0 h.1, behind_less c.node elements h.0.node x.node less)
+          (ours h.0, outer_at x.system h.0 h.1, after_less c.node elements h.0.node x.node less)
 
-      their_component : (i : ℕ) (x : ComponentPart) → slice_get inner.components i ≡ Some x → StandsBehind whole (moved_component_part s f Inner x)
+      their_component : (i : ℕ) (x : ComponentPart) → slice_get inner.components i ≡ Some x → StandsAfter whole (moved_component_part s f Inner x)
       their_component i x there =
           let h = within.within i x there in
           let less = h.2 in
@@ -288,24 +288,24 @@ module _ (outer inner : SystemTree) (k : ℕ) (c : ComponentPart) (f : Frame) (e
       room : k ≤ length (map our outer.components)
       room = let h = slice_get_within outer.components k c at in let n = length-map outer.components our in omega (arith, h, n)
 
-      whole_within : (j : ℕ) (z : ComponentPart) → slice_get whole.components j ≡ Some z → StandsBehind whole z
+      whole_within : (j : ℕ) (z : ComponentPart) → slice_get whole.components j ≡ Some z → StandsAfter whole z
       whole_within j z there = elim (put_cases k 1 (map their inner.components) (map our outer.components) j z room there) [
-        | Front less ix ↦ let x = unmap our outer.components j z ix in subst (StandsBehind whole) (sym x.2) (our_component j x.0 x.1)
-        | Inside i e ix ↦ let x = unmap their inner.components i z ix in subst (StandsBehind whole) (sym x.2) (their_component i x.0 x.1)
-        | Back i e past ix ↦ let x = unmap our outer.components i z ix in subst (StandsBehind whole) (sym x.2) (our_component i x.0 x.1)
+        | Prefix less ix ↦ let x = unmap our outer.components j z ix in subst (StandsAfter whole) (sym x.2) (our_component j x.0 x.1)
+        | Inside i e ix ↦ let x = unmap their inner.components i z ix in subst (StandsAfter whole) (sym x.2) (their_component i x.0 x.1)
+        | Back i e past ix ↦ let x = unmap our outer.components i z ix in subst (StandsAfter whole) (sym x.2) (our_component i x.0 x.1)
       ]
 
       our_end : (i : ℕ) (x : ComponentPart) → slice_get outer.components i ≡ Some x → (our x).node < count + elements
       our_end i x there =
           let h = out.ends i x there in
           elim (either x.node c.node) [
-            | inl a ↦ let g = front c.node elements x.node a in rw g (omega (arith, h))
+            | inl a ↦ let g = prefix c.node elements x.node a in rw g (omega (arith, h))
             | inr b ↦ let g = back c.node elements x.node b in rw g (omega (arith, h))
           ]
 
       whole_ends : (j : ℕ) (z : ComponentPart) → slice_get whole.components j ≡ Some z → z.node < count + elements
       whole_ends j z there = elim (put_cases k 1 (map their inner.components) (map our outer.components) j z room there) [
-        | Front less ix ↦ let x = unmap our outer.components j z ix in rw x.2 (our_end j x.0 x.1)
+        | Prefix less ix ↦ let x = unmap our outer.components j z ix in rw x.2 (our_end j x.0 x.1)
         | Inside i e ix ↦
             let x = unmap their inner.components i z ix in
             let h = within.ends i x.0 x.1 in

@@ -26,7 +26,7 @@ use Rattle.nested_documents.specs.Nest.{HoldsOnly, IsAdded, IsNext, WaitsFirst, 
 use Rattle.nested_documents.specs.Numbers.{run, with_elements}
 use Rattle.nested_documents.specs.States.{Document, Gathered}
 use Rattle.nested_documents.proofs.BetweenLemmas.{places_top}
-use Rattle.nested_documents.proofs.NestLemmas.{placed_added, rest_behind}
+use Rattle.nested_documents.proofs.NestLemmas.{placed_added, rest_after}
 use Rattle.nested_documents.proofs.PutLemmas.{length_inlined}
 use Rattle.structure_laws.specs.Orderly.{IsOrderly}
 use Rattle.structure_laws.specs.OwnNames.{HasOwnName}
@@ -56,12 +56,12 @@ length_with at document count elements =
 
 -- ---- Components that wait
 
-behind_all : (low high : ℕ) (ws : List Waiting) → AreBetween low high (waiting_places ws) → All (λ (w : Waiting). low ≤ w.component) ws
-behind_all low high [] b = All-nil (λ (w : Waiting). low ≤ w.component)
-behind_all low high (w ∷ ws) b =
+after_all : (low high : ℕ) (ws : List Waiting) → AreBetween low high (waiting_places ws) → All (λ (w : Waiting). low ≤ w.component) ws
+after_all low high [] b = All-nil (λ (w : Waiting). low ≤ w.component)
+after_all low high (w ∷ ws) b =
     let h = b.0 in
     All-cons (λ (v : Waiting). low ≤ v.component) w ws h
-    (All-weaker (λ (v : Waiting). suc w.component ≤ v.component) (λ (v : Waiting). low ≤ v.component) (λ v le. omega (arith, h, le)) ws (behind_all (suc w.component) high ws b.1.1))
+    (All-weaker (λ (v : Waiting). suc w.component ≤ v.component) (λ (v : Waiting). low ≤ v.component) (λ v le. omega (arith, h, le)) ws (after_all (suc w.component) high ws b.1.1))
 
 both_all : {A : Type 0} (P Q : A → Type 0) (xs : List A) → All P xs → All Q xs → All (λ x. P x × Q x) xs
 both_all P Q xs p q = λ k d less. (p k d less, q k d less)
@@ -94,8 +94,8 @@ module _ (outer inner : SystemTree) (k : ℕ) (c : ComponentPart) (f : Frame) (e
         is = ap (λ (xs : List ℕ). f.name ++ 46 ∷ xs) h.is ∙ sym (append_assoc f.name (46 ∷ h.scope) own);
       }
 
-  moved_behind : (place : ℕ) → k < place → moved_component s side.Outer place ≡ (place - 1) + length inner.components
-  moved_behind place less = let e : nat_le place k ≡ false = grind (arith, nat_tests) in rw e refl
+  moved_after : (place : ℕ) → k < place → moved_component s side.Outer place ≡ (place - 1) + length inner.components
+  moved_after place less = let e : nat_le place k ≡ false = grind (arith, nat_tests) in rw e refl
 
   pub outer_named : (place : ℕ) (own : List ℕ) → k < place → HasOwnName outer place own → HasOwnName whole (moved_component s side.Outer place) own
   outer_named place own less h =
@@ -104,7 +104,7 @@ module _ (outer inner : SystemTree) (k : ℕ) (c : ComponentPart) (f : Frame) (e
       let past : k + 1 ≤ place = omega (arith, less) in
       let n = length-map inner.components their in
       let there = put_back k 1 (map their inner.components) (map our outer.components) place (our h.component) le past (o.remap our outer.components place h.component h.at) in
-      let e : (place - 1) + length (map their inner.components) ≡ moved_component s side.Outer place = ap (λ (m : ℕ). (place - 1) + m) n ∙ sym (moved_behind place less) in
+      let e : (place - 1) + length (map their inner.components) ≡ moved_component s side.Outer place = ap (λ (m : ℕ). (place - 1) + m) n ∙ sym (moved_after place less) in
       record {
         component = our h.component;
         at = subst (λ (m : ℕ). slice_get whole.components m ≡ Some (our h.component)) e there;
@@ -209,7 +209,7 @@ proper_added old path t d new comes added p q =
     let m = length-map d.nested (waiting_from k old.documents (suc w.level)) in
     let n = length-map added.rest (moved_waiting s) in
     omega (arith, h, l, m, n)) in
-    let behind = rest_behind (length old.tree.components) old.waiting w added.rest added.first.waits p.placed in
+    let after = rest_after (length old.tree.components) old.waiting w added.rest added.first.waits p.placed in
     let rest_names : All (λ (v : Waiting). HasOwnName old.tree v.component v.own_name) added.rest =
     All-tail (λ (v : Waiting). HasOwnName old.tree v.component v.own_name) w added.rest (subst (λ (ws : List Waiting). All (λ (v : Waiting). HasOwnName old.tree v.component v.own_name) ws) added.first.waits p.waiting) in
     let theirs : All (λ (v : Waiting). HasOwnName whole v.component v.own_name) (map (waiting_from k old.documents (suc w.level)) d.nested) =
@@ -220,14 +220,14 @@ proper_added old path t d new comes added p q =
     All-map (λ (v : Waiting). HasOwnName whole v.component v.own_name) (moved_waiting s) added.rest
     (All-weaker (λ (v : Waiting). (suc k ≤ v.component) × HasOwnName old.tree v.component v.own_name) (λ (v : Waiting). HasOwnName whole (moved_component s side.Outer v.component) v.own_name)
     (λ v h. let l = h.0 in outer_named old.tree d.tree k c f d.elements count p.orderly q.orderly at own.0 own.1 name_is v.component v.own_name (omega (arith, l)) h.1) added.rest
-    (both_all (λ (v : Waiting). suc k ≤ v.component) (λ (v : Waiting). HasOwnName old.tree v.component v.own_name) added.rest (behind_all (suc k) (length old.tree.components) added.rest behind) rest_names)) in
+    (both_all (λ (v : Waiting). suc k ≤ v.component) (λ (v : Waiting). HasOwnName old.tree v.component v.own_name) added.rest (after_all (suc k) (length old.tree.components) added.rest after) rest_names)) in
     let waits : All (λ (v : Waiting). HasOwnName whole v.component v.own_name) new.waiting =
     subst (λ (ws : List Waiting). All (λ (v : Waiting). HasOwnName whole v.component v.own_name) ws) (sym added.waiting)
     (All-append (λ (v : Waiting). HasOwnName whole v.component v.own_name) (map (waiting_from k old.documents (suc w.level)) d.nested) (map (moved_waiting s) added.rest) theirs ours) in
     record {
       orderly = subst (λ (n : ℕ). IsOrderly n new.tree) long (subst (IsOrderly (count + d.elements)) tree (o.whole_orderly old.tree d.tree k c f d.elements count p.orderly q.orderly at));
       named = subst IsNamedTree tree (names.whole_named old.tree d.tree k c f d.elements count p.orderly q.orderly at p.named q.named own.0 own.1 name_is);
-      placed = placed_added old.tree d.tree new.tree k d.elements old.documents (suc w.level) c f d.nested added.rest new.waiting less q.placed behind added.tree added.waiting;
+      placed = placed_added old.tree d.tree new.tree k d.elements old.documents (suc w.level) c f d.nested added.rest new.waiting less q.placed after added.tree added.waiting;
       waiting = subst (λ (t : SystemTree). All (λ (v : Waiting). HasOwnName t v.component v.own_name) new.waiting) tree waits;
       few = (let few = p.few in let inner : length d.tree.components ≤ (256 - (length old.tree.components - length old.waiting)) + length d.nested = subst (λ (x : Setting). length d.tree.components ≤ (256 - x.fmus) + length d.nested) before q.whole.few in
           let total : length new.tree.components ≡ (length old.tree.components - 1) + length d.tree.components = ap (λ (x : SystemTree). length x.components) added.tree ∙ length_inlined old.tree k c f d.tree d.elements less in

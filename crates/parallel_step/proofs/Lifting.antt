@@ -13,7 +13,7 @@ use Rattle.fmu_peer.specs.CloseAll.{Instance, instance_in}
 use Rattle.fmu_peer.specs.Talk.{IsGood}
 use Rattle.fmu_peer.specs.View.{View}
 use Rattle.slot_calls.specs.Carried.{asks_to_end}
-use Rattle.slot_calls.specs.Log.{Asking, Has, One, Sent, Worth, askings, part}
+use Rattle.slot_calls.specs.Log.{ComponentCall, Has, One, Sent, Worth, component_calls, part}
 use Rattle.slot_calls.specs.Stage.{IsGoodOf}
 use Rattle.slot_calls.specs.declared.bad_answer.BadAnswer.{BadAnswer}
 use Rattle.slot_calls.specs.Slots.{instances}
@@ -56,7 +56,7 @@ module _ {L : Type 0} {g : Ghosts L} (view : L → View) where
   -- the slots from the k-th on, by a log of theirs
   record From (k : ℕ) (olds news : List (Slot L g)) : Type 0 where
     log : List Sent
-    calls : askings log ≡ jobs_from k olds
+    calls : component_calls log ≡ jobs_from k olds
     before : (i : ℕ) → i < k → part i log ≡ []
     each : (i : ℕ) (d : Slot L g) → i < length olds → Has (inst (get_or olds i d)) (part (k + i) log) (inst (get_or news i d))
     own : (i : ℕ) (d : Slot L g) → i < length olds → IsOwn view (get_or olds i d) (part (k + i) log) (get_or news i d)
@@ -194,7 +194,7 @@ module _ {L : Type 0} {g : Ghosts L} (view : L → View) where
       working : From k (o ∷ os) (n ∷ ns)
       working = record {
         log = all;
-        calls = ap₂ (λ (c : Call) (xs : List Asking). record { component = k; call = c } ∷ xs) did.is rest.calls ∙ ap (λ (c : Option Call). ask_of k c (jobs_from (suc k) os)) (sym some);
+        calls = ap₂ (λ (c : Call) (xs : List ComponentCall). record { component = k; call = c } ∷ xs) did.is rest.calls ∙ ap (λ (c : Option Call). ask_of k c (jobs_from (suc k) os)) (sym some);
         before = λ i h. past_k i (λ e. absurd (omega (arith, e, h))) ∙ rest.before i (omega (arith, h));
         each = each_by;
         own = own_by;
@@ -259,7 +259,7 @@ module _ {L : Type 0} {g : Ghosts L} (view : L → View) where
     says_by (Some q) is =
         let x = f.bad (map shape_in olds) shapes_own q is in
         record {
-          front = x.front;
+          prefix = x.front;
           last = x.last;
           back = x.back;
           log_is = x.log_is;

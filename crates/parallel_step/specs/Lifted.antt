@@ -6,7 +6,7 @@ use Rattle.fmu_peer.specs.declared.ended.Why.{Why}
 use Rattle.fmu_peer.specs.declared.peer.Exchange.{Exchange}
 use Rattle.fmu_peer.specs.declared.slot.Slot.{Slot}
 use Rattle.fmu_peer.specs.View.{View}
-use Rattle.slot_calls.specs.Log.{Asking, Sent, Told, part}
+use Rattle.slot_calls.specs.Log.{ComponentCall, Sent, Told, part}
 use Rattle.slot_calls.specs.Slots.{instances}
 use Rattle.slot_calls.specs.Stage.{FailsIn, IsAnswered, shapes}
 use Rattle.slot_calls.specs.declared.bad_answer.BadAnswer.{BadAnswer}
@@ -14,16 +14,16 @@ use Rattle.parallel_step.specs.Round.{WasSent, call_in}
 
 -- ---- the calls of the jobs
 
-abbrev pub ask_of : ℕ → Option Call → List Asking → List Asking
+abbrev pub ask_of : ℕ → Option Call → List ComponentCall → List ComponentCall
 ask_of i (Some call) rest = record { component = i; call = call } ∷ rest
 ask_of i None rest = rest
 
 -- from the i-th slot on, the call of each job
-abbrev pub jobs_from : {L : Type 0} {g : _} → ℕ → List (Slot L g) → List Asking
+abbrev pub jobs_from : {L : Type 0} {g : _} → ℕ → List (Slot L g) → List ComponentCall
 jobs_from i [] = []
 jobs_from i (s ∷ ss) = ask_of i (call_in s.job) (jobs_from (suc i) ss)
 
-abbrev pub jobs : {L : Type 0} {g : _} → List (Slot L g) → List Asking
+abbrev pub jobs : {L : Type 0} {g : _} → List (Slot L g) → List ComponentCall
 jobs slots = jobs_from 0 slots
 
 -- ---- the first answer that isn't good
@@ -46,7 +46,7 @@ bad_from i (s ∷ ss) = bad_or i (bad_of (call_in s.job) s.answer) (bad_from (su
 -- ---- the round
 
 -- what calls that are all sent give: each answer is good, or this is the first that isn't
-abbrev pub AllSent : List Shape → List Asking → List Sent → Option BadAnswer → Type 0
+abbrev pub AllSent : List Shape → List ComponentCall → List Sent → Option BadAnswer → Type 0
 AllSent shapes calls log None = IsAnswered shapes calls log
 AllSent shapes calls log (Some bad) = FailsIn shapes calls bad log
 

@@ -1,4 +1,5 @@
-ghost use Rattle.std.specs.Prelude.{◌≡◌, ◌≤◌, ◌^◌, length};
+ghost use Rattle.std.specs.Prelude.{◌≡◌, ◌≤◌, ◌^◌, is_some, length};
+ghost use Rattle.std.specs.List.{list_any};
 ghost use Rattle.parallel_step.specs.Lifted.{bad_from, bad_of};
 ghost use Rattle.parallel_step.specs.Round.{call_in};
 
@@ -20,6 +21,28 @@ pub fn first_bad<L: Peer>(slots: &[Slot<L>]) -> Option<BadAnswer>
         }
     }
     None
+}
+
+/// Whether one of the answers to the slots' jobs isn't good.
+pub fn has_bad<L: Peer>(slots: &[Slot<L>]) -> bool
+    ensures { result ≡ is_some (bad_from 0 slots.now) }
+{
+    is_any_bad(slots)
+}
+
+fn is_any_bad<L: Peer>(slots: &[Slot<L>]) -> bool
+    ensures { result ≡ list_any (λ slot. is_some (bad_of (call_in slot.job) slot.answer)) slots.now }
+{
+    slots.iter().any(|slot| is_bad(slot))
+}
+
+fn is_bad<L: Peer>(slot: &Slot<L>) -> bool
+    ensures { result ≡ is_some (bad_of (call_in slot.now.job) slot.now.answer) }
+{
+    match slot.job {
+        Job::Nothing => false,
+        _ => matches!(slot.answer, Some(Err(_))),
+    }
 }
 
 fn bad_of<L: Peer>(slot: &Slot<L>) -> Option<Why>

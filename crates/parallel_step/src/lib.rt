@@ -5,5 +5,5 @@ mod answers;
 mod rounds;
 mod working;
 
-pub use answers::first_bad;
+pub use answers::{first_bad, has_bad};
 pub use rounds::round;

@@ -68,12 +68,12 @@ module _ (V : ParameterRule → ℕ → Type 0) where
     where
       at : (rule : ParameterRule) (k : ℕ) → parameter_number rule < m → V rule k → (parameter_number rule < n) ⊎ (n ≤ parameter_number rule) → ⊥
       at rule k low broken (inl before) = h rule k before broken
-      at rule k low broken (inr behind) = none rule k behind low broken
+      at rule k low broken (inr after) = none rule k after low broken
   skip n m (Some breach) h none = record { broken = h.broken; least = h.least; first = λ j rule lower low broken. at j rule lower low broken (cases_lt (parameter_number rule) n) }
     where
       at : (j : ℕ) (rule : ParameterRule) → j < breach.0 → parameter_number rule < m → V rule j → (parameter_number rule < n) ⊎ (n ≤ parameter_number rule) → ⊥
       at j rule lower low broken (inl before) = h.first j rule lower before broken
-      at j rule lower low broken (inr behind) = none rule j behind low broken
+      at j rule lower low broken (inr after) = none rule j after low broken
 
   -- a rule more
   below_or : (rule other : ParameterRule) → parameter_number other < parameter_number rule + 1 → (parameter_number other < parameter_number rule) ⊎ (other ≡ rule)

@@ -60,9 +60,9 @@ pub path_at_top : (t : SystemTree) (s : ℕ) (part : SystemPart) (name : List �
 path_at_top t s part name is top = record { scope = []; scope_is = Outermost s part [] is top refl; is = refl }
 
 -- after the name of the System stands what it leaves of the path from the one around it
-pub left_behind : (t : SystemTree) (s above : ℕ) (part : SystemPart) (name text : List ℕ) → slice_get t.systems s ≡ Some part → part.parent ≡ Some above → BeginsWithScope t s name → IsPathText t above name text
+pub left_after : (t : SystemTree) (s above : ℕ) (part : SystemPart) (name text : List ℕ) → slice_get t.systems s ≡ Some part → part.parent ≡ Some above → BeginsWithScope t s name → IsPathText t above name text
     → (rest : List ℕ) × (text ≡ part.name ++ 46 ∷ rest)
-left_behind t s above part name text is parent b path = by b.scope b.scope_is b.is
+left_after t s above part name text is parent b path = by b.scope b.scope_is b.is
   where
     by : (scope : List ℕ) → IsScope t s scope → name ≡ scope ++ b.own → (rest : List ℕ) × (text ≡ part.name ++ 46 ∷ rest)
     by scope (Outermost _ p _ i n e) same = absurd (none_some above (sym n ∙ above_once t s p part i is ∙ parent))

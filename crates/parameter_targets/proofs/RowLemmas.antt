@@ -9,7 +9,7 @@ use Rattle.ssd_tree.specs.declared.tree.SystemPart.{SystemPart}
 use Rattle.ssd_tree.specs.declared.tree.ComponentPart.{ComponentPart}
 use Rattle.ssd_tree.specs.declared.tree.SystemTree.{SystemTree}
 use Rattle.dependency_order.proofs.CallerLemmas.{in_pushed, in_pushed_back}
-use Rattle.name_fronts.proofs.CallerLemmas.{pushed_before, pushed_last}
+use Rattle.name_prefixes.proofs.CallerLemmas.{pushed_before, pushed_last}
 use Rattle.parameter_targets.specs.declared.paths.Path.{Path}
 use Rattle.parameter_targets.specs.declared.paths.Paths.{Paths}
 use Rattle.ssd_tree.specs.Named.{BeginsWithScope, IsInScope, IsNamedTree}

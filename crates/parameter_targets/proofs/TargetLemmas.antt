@@ -5,7 +5,7 @@ use Rattle.std.proofs.lemmas.List.{append_cancel_left, length-map, length_push, 
 use Rattle.std.proofs.lemmas.List.Elements.{Contains-append_left, Contains-get_or, Contains-push, Contains-push_cases}
 use Rattle.std.proofs.lemmas.Option.{get_or_from_slice_get, same_Some, slice_get-get_or, slice_get-map, slice_get_within}
 use Rattle.std.specs.Option.{option_map}
-use Rattle.name_fronts.specs.Fronts.{AreFronts, texts}
+use Rattle.name_prefixes.specs.Prefixes.{ArePrefixes, texts}
 use Rattle.value_types.specs.declared.shape.Shape.{Shape}
 use Rattle.value_types.specs.declared.shape.Variable.{Variable}
 use Rattle.ssd_tree.specs.declared.tree.Owner.TheVariants.{System, Component}
@@ -16,7 +16,7 @@ use Rattle.parameter_targets.specs.declared.target.Target.{Target}
 use Rattle.parameter_targets.specs.declared.targets.Targets.{Targets}
 use Rattle.ssd_tree.specs.Named.{IsNamedTree}
 use Rattle.parameter_targets.specs.Scopes.{IsTarget, Sees}
-use Rattle.parameter_targets.specs.Tables.{AreAllFronts, AreNear, AreTargets, IsNamed, IsNamedAt, IsNamedIn, IsSeenBelow, row_texts, path_text}
+use Rattle.parameter_targets.specs.Tables.{AreAllPrefixes, AreNear, AreTargets, IsNamed, IsNamedAt, IsNamedIn, IsSeenBelow, row_texts, path_text}
 use Rattle.parameter_targets.proofs.ListLemmas.{contains_at, element_at, place_of, push_cases, read_at}
 use Rattle.parameter_targets.proofs.PathLemmas.{scope_once}
 use Rattle.parameter_targets.proofs.RowLemmas.{begins_around}
@@ -261,50 +261,50 @@ path_component targets s at path are in_row is =
 
 -- ---- the paths that begin a name
 
-pub fronts_none : (paths : Paths) (fronts : List (List (List ℕ))) → fronts ≡ [] → AreAllFronts paths 0 fronts
-fronts_none paths fronts e = record { fronts_len = ap length e; each = λ s f is. absurd (let w = slice_get_within fronts s f is in let l = ap length e in omega (arith, w, l)) }
+pub prefixes_none : (paths : Paths) (prefixes : List (List (List ℕ))) → prefixes ≡ [] → AreAllPrefixes paths 0 prefixes
+prefixes_none paths prefixes e = record { prefixes_len = ap length e; each = λ s f is. absurd (let w = slice_get_within prefixes s f is in let l = ap length e in omega (arith, w, l)) }
 
-pub fronts_more : (paths : Paths) (n : ℕ) (old new : List (List (List ℕ))) (front : List (List ℕ)) → front ≡ row_texts paths n → new ≡ old ++ front ∷ [] → AreAllFronts paths n old → AreAllFronts paths (n + 1) new
-fronts_more paths n old new front is pushed was = record {
-  fronts_len = ap length pushed ∙ length_push old front ∙ ap (λ k. k + 1) was.fronts_len;
-  each = λ s f e. each s f (push_cases old front s f (subst (λ z. slice_get z s ≡ Some f) pushed e));
+pub prefixes_more : (paths : Paths) (n : ℕ) (old new : List (List (List ℕ))) (prefix : List (List ℕ)) → prefix ≡ row_texts paths n → new ≡ old ++ prefix ∷ [] → AreAllPrefixes paths n old → AreAllPrefixes paths (n + 1) new
+prefixes_more paths n old new prefix is pushed was = record {
+  prefixes_len = ap length pushed ∙ length_push old prefix ∙ ap (λ k. k + 1) was.prefixes_len;
+  each = λ s f e. each s f (push_cases old prefix s f (subst (λ z. slice_get z s ≡ Some f) pushed e));
 }
   where
-    each : (s : ℕ) (f : List (List ℕ)) → (slice_get old s ≡ Some f) ⊎ ((s ≡ length old) × (front ≡ f)) → f ≡ row_texts paths s
+    each : (s : ℕ) (f : List (List ℕ)) → (slice_get old s ≡ Some f) ⊎ ((s ≡ length old) × (prefix ≡ f)) → f ≡ row_texts paths s
     each s f (inl e) = was.each s f e
-    each s f (inr h) = sym h.1 ∙ is ∙ ap (row_texts paths) (sym (h.0 ∙ was.fronts_len))
+    each s f (inr h) = sym h.1 ∙ is ∙ ap (row_texts paths) (sym (h.0 ∙ was.prefixes_len))
 
 -- the places of the prefixes lead to those of the row
-pub near_of : (paths : Paths) (s : ℕ) (name : List ℕ) (places ats : List ℕ) → AreFronts (row_texts paths s) name places → ((at : ℕ) → Contains ats at ↔ ((k : ℕ) × (Contains places k × (slice_get (get_or paths.below s []) k ≡ Some at)))) → AreNear paths s name ats
-near_of paths s name places ats fronts led = record {
+pub near_of : (paths : Paths) (s : ℕ) (name : List ℕ) (places ats : List ℕ) → ArePrefixes (row_texts paths s) name places → ((at : ℕ) → Contains ats at ↔ ((k : ℕ) × (Contains places k × (slice_get (get_or paths.below s []) k ≡ Some at)))) → AreNear paths s name ats
+near_of paths s name places ats prefixes led = record {
   only = λ at c. let h = (led at).0 c in contains_at (get_or paths.below s []) h.0 at h.1.1;
   each = λ at path rest in_row is begins.
       let k = place_of (get_or paths.below s []) at in_row in
       let there : slice_get (row_texts paths s) k.0 ≡ Some path.text.now = slice_get-map (λ a. path_text (slice_get paths.all.items a)) (get_or paths.below s []) k.0 ∙ ap (option_map (λ a. path_text (slice_get paths.all.items a))) k.1 ∙ ap (λ o. Some (path_text o)) is in
-      (led at).1 (k.0, (fronts.each k.0 (record { path = path.text.now; at = there; front = (rest, begins) }), k.1));
+      (led at).1 (k.0, (prefixes.each k.0 (record { path = path.text.now; at = there; prefix = (rest, begins) }), k.1));
 }
 
 -- a place of a prefix is one of the row
-pub front_within : (paths : Paths) (s k : ℕ) (name : List ℕ) (places : List ℕ) → AreFronts (row_texts paths s) name places → Contains places k → k < length (get_or paths.below s [])
-front_within paths s k name places fronts c =
-    let h = fronts.only k c in
+pub prefix_within : (paths : Paths) (s k : ℕ) (name : List ℕ) (places : List ℕ) → ArePrefixes (row_texts paths s) name places → Contains places k → k < length (get_or paths.below s [])
+prefix_within paths s k name places prefixes c =
+    let h = prefixes.only k c in
     let w = slice_get_within (row_texts paths s) k h.path h.at in
     let l = length-map (get_or paths.below s []) (λ at. path_text (slice_get paths.all.items at)) in
     omega (arith, w, l)
 
 -- the places that the prefixes of a System answer are those of its row
-pub fronts_in_row : {targets : Targets} (s : ℕ) {texts : List (List ℕ)} {bytes name places : List ℕ} → AreTargets targets → s < length targets.tree.now.systems → texts ≡ get_or targets.fronts.items s texts → bytes ≡ name → AreFronts texts bytes places → AreFronts (row_texts targets.paths s) name places
-fronts_in_row {targets} s {texts} {bytes} {name} {places} are within read same fronts =
+pub prefixes_in_row : {targets : Targets} (s : ℕ) {texts : List (List ℕ)} {bytes name places : List ℕ} → AreTargets targets → s < length targets.tree.now.systems → texts ≡ get_or targets.prefixes.items s texts → bytes ≡ name → ArePrefixes texts bytes places → ArePrefixes (row_texts targets.paths s) name places
+prefixes_in_row {targets} s {texts} {bytes} {name} {places} are within read same prefixes =
     let rows_len = are.paths.rows.rows_len in
-    let fronts_len = are.fronts.fronts_len in
-    let row = are.fronts.each s texts (read_at targets.fronts.items targets.fronts.items s texts refl (omega (arith, within, rows_len, fronts_len)) read) in
-    subst (λ n. AreFronts (row_texts targets.paths s) n places) same (subst (λ t. AreFronts t bytes places) row fronts)
+    let prefixes_len = are.prefixes.prefixes_len in
+    let row = are.prefixes.each s texts (read_at targets.prefixes.items targets.prefixes.items s texts refl (omega (arith, within, rows_len, prefixes_len)) read) in
+    subst (λ n. ArePrefixes (row_texts targets.paths s) n places) same (subst (λ t. ArePrefixes t bytes places) row prefixes)
 
 -- each of them stands in the row
-pub place_in_row : (paths : Paths) (s i : ℕ) {name places items row : List ℕ} → AreFronts (row_texts paths s) name places → items ≡ places → i < length items → row ≡ get_or paths.below s [] → get_or items i 0 < length row
-place_in_row paths s i {name} {places} {items} {row} fronts same less is =
+pub place_in_row : (paths : Paths) (s i : ℕ) {name places items row : List ℕ} → ArePrefixes (row_texts paths s) name places → items ≡ places → i < length items → row ≡ get_or paths.below s [] → get_or items i 0 < length row
+place_in_row paths s i {name} {places} {items} {row} prefixes same less is =
     let inside = subst (λ z. Contains z (get_or items i 0)) same (Contains-get_or items i 0 less) in
-    subst (λ (z : List ℕ). get_or items i 0 < length z) (sym is) (front_within paths s (get_or items i 0) name places fronts inside)
+    subst (λ (z : List ℕ). get_or items i 0 < length z) (sym is) (prefix_within paths s (get_or items i 0) name places prefixes inside)
 
 -- the elements of a row at some places
 pub led_all : (row : List ℕ) (places ats : List ℕ) (i : ℕ) → length places ≤ i → ats ≡ map (λ k. get_or row k 0) (take i places) → ((k : ℕ) → Contains places k → k < length row) → (at : ℕ) → Contains ats at ↔ ((k : ℕ) × (Contains places k × (slice_get row k ≡ Some at)))

@@ -129,10 +129,10 @@ row_texts paths s =
     map (λ at. path_text (slice_get paths.all.items at)) (slice_index_or paths.below s [])
 
 -- those of the first n Systems
-pub record AreAllFronts (paths : Paths) (n : ℕ) (fronts : List (List (List ℕ))) : Type 0 where
-  pub fronts_len : length fronts ≡ n
-  pub each : (s : ℕ) (front : List (List ℕ)) → slice_get fronts s ≡ Some front →
-      front ≡ row_texts paths s
+pub record AreAllPrefixes (paths : Paths) (n : ℕ) (prefixes : List (List (List ℕ))) : Type 0 where
+  pub prefixes_len : length prefixes ≡ n
+  pub each : (s : ℕ) (prefix : List (List ℕ)) → slice_get prefixes s ≡ Some prefix →
+      prefix ≡ row_texts paths s
 
 -- places of the row of a System, among them all whose paths begin the name
 pub record AreNear (paths : Paths) (s : ℕ) (name : List ℕ) (ats : List ℕ) : Type 0 where
@@ -149,7 +149,7 @@ pub record AreTargets (targets : Targets) : Type 0 where
   pub tree : IsNamedTree targets.tree.now
   pub shapes : length targets.shapes.now ≡ length targets.tree.now.components
   pub paths : ArePaths targets.tree.now targets.paths
-  pub fronts : AreAllFronts targets.paths (length targets.paths.below) targets.fronts.items
+  pub prefixes : AreAllPrefixes targets.paths (length targets.paths.below) targets.prefixes.items
 
 -- the System sees the parameter by the path of its component and a name of its own
 pub record IsSeenBelow (targets : Targets) (s : ℕ) (name : List ℕ) (target : Target) : Type 0 where

@@ -26,7 +26,7 @@ pub struct Paths<'a> {
 }
 
 // What is left after an element's name and its dot.
-pub(crate) fn behind<'a>(text: &'a str, name: &str) -> Option<&'a str>
+pub(crate) fn after<'a>(text: &'a str, name: &str) -> Option<&'a str>
     ensures found { IfSome result (λ rest. text.now ≡ name.now ++ 46 ∷ rest.now) }
     ensures none { IfNone result ((rest : List ℕ) → text.now ≡ name.now ++ 46 ∷ rest → ⊥) }
 {
@@ -43,7 +43,7 @@ fn path_from<'a>(tree: &SystemTree, system: usize, name: &'a str) -> &'a str
     let part = &tree.systems.as_slice()[system];
     match part.parent {
         None => name,
-        Some(above) => behind(path_from(tree, above, name), part.name.as_str()).unwrap(),
+        Some(above) => after(path_from(tree, above, name), part.name.as_str()).unwrap(),
     }
 }
 

@@ -4,12 +4,12 @@ ghost use Rattle.value_types.specs.declared.shape.Shape.{Shape};
 ghost use Rattle.parameter_targets.specs.declared.target.Target.{Target};
 ghost use Rattle.ssd_tree.specs.Named.{IsNamedTree, IsOwner};
 ghost use Rattle.parameter_targets.specs.Scopes.{Sees};
-ghost use Rattle.parameter_targets.specs.Tables.{AreAllFronts, AreNear, AreRows, AreTargets, IsNamedIn, IsSeenBelow, row_texts};
+ghost use Rattle.parameter_targets.specs.Tables.{AreAllPrefixes, AreNear, AreRows, AreTargets, IsNamedIn, IsSeenBelow, row_texts};
 
 use crate::Target;
-use crate::paths::{Paths, behind};
+use crate::paths::{Paths, after};
 use crate::shared::SharedNames;
-use name_fronts::Fronts;
+use name_prefixes::Prefixes;
 use ssd_tree::{Owner, SystemTree};
 use std::alloc::{AllocError, Global};
 use value_types::Shape;
@@ -22,31 +22,36 @@ pub struct Targets<'a> {
     names: SharedNames<'a>,
     paths: Paths<'a>,
     /// for each System its paths, ready for the question which of them begin a name
-    fronts: Vec<Fronts<'a>>,
+    prefixes: Vec<Prefixes<'a>>,
 }
 
 // The paths of a System, made ready.
-fn row_fronts<'a>(alloc: Global, paths: &Paths<'a>, system: usize) -> Result<Fronts<'a>, AllocError>
+fn row_prefixes<'a>(
+    alloc: Global,
+    paths: &Paths<'a>,
+    system: usize,
+) -> Result<Prefixes<'a>, AllocError>
     requires rows { AreRows (length paths.now.below) paths.now }
     requires within { system < length paths.now.below }
-    ensures { IfOk result (λ fronts. fronts ≡ row_texts paths.now system) }
+    ensures { IfOk result (λ prefixes. prefixes ≡ row_texts paths.now system) }
 {
     let mut texts = Vec::new(alloc);
     for at in paths.below.row(system) {
         texts.push(paths.all[*at].text.as_bytes())?;
     }
-    Fronts::new(alloc, texts)
+    Prefixes::new(alloc, texts)
 }
 
-fn all_fronts<'a>(alloc: Global, paths: &Paths<'a>) -> Result<Vec<Fronts<'a>>, AllocError>
+fn all_prefixes<'a>(alloc: Global, paths: &Paths<'a>) -> Result<Vec<Prefixes<'a>>, AllocError>
     requires { AreRows (length paths.now.below) paths.now }
-    ensures { IfOk result (λ fronts. AreAllFronts paths.now (length paths.now.below) fronts.items) }
+    ensures { IfOk result
+        (λ prefixes. AreAllPrefixes paths.now (length paths.now.below) prefixes.items) }
 {
-    let mut fronts = Vec::new(alloc);
+    let mut prefixes = Vec::new(alloc);
     for system in 0..paths.below.len() {
-        fronts.push(row_fronts(alloc, paths, system)?)?;
+        prefixes.push(row_prefixes(alloc, paths, system)?)?;
     }
-    Ok(fronts)
+    Ok(prefixes)
 }
 
 impl<'a> Targets<'a> {
@@ -63,13 +68,13 @@ impl<'a> Targets<'a> {
         ensures shapes { IfOk result (λ targets. targets.shapes.now ≡ shapes.now) }
     {
         let paths = Paths::of(alloc, tree)?;
-        let fronts = all_fronts(alloc, &paths)?;
+        let prefixes = all_prefixes(alloc, &paths)?;
         Ok(Targets {
             tree,
             shapes,
             names: SharedNames::new(alloc, tree.components.as_slice(), shapes)?,
             paths,
-            fronts,
+            prefixes,
         })
     }
 
@@ -106,7 +111,7 @@ impl<'a> Targets<'a> {
         ensures { IfOk result (λ ats. AreNear self.now.paths system name.now ats.items) }
     {
         let row = self.paths.below.row(system);
-        let places = self.fronts[system].fronts(alloc, name.as_bytes())?;
+        let places = self.prefixes[system].prefixes(alloc, name.as_bytes())?;
         let mut ats = Vec::new(alloc);
         for place in &places {
             ats.push(row[*place])?;
@@ -130,7 +135,7 @@ impl<'a> Targets<'a> {
         let ats = self.near_paths(alloc, system, name)?;
         for at in &ats {
             let path = &self.paths.all[*at];
-            if let Some(own) = behind(name, path.text) {
+            if let Some(own) = after(name, path.text) {
                 self.put_named(alloc, &mut seen, path.component, own)?;
             }
         }

@@ -16,7 +16,7 @@ use Rattle.port_orders.specs.Gathered.{AreNeeds, has_part}
 use Rattle.port_orders.specs.Outcome.{IsLoopIn, IsOrderIn, IsPortLoop, unordered}
 use Rattle.port_orders.specs.Placed.{ArePlaced}
 use Rattle.port_orders.proofs.NeedLemmas.{IsAmong, NeedsBy, among_of, grouped_of, needed_of, needs_of, of_among, part_marked}
-use Rattle.port_orders.proofs.OrderForms.{by_fronts, by_parts, loop_as, order_as}
+use Rattle.port_orders.proofs.OrderForms.{by_parts, by_prefixes, loop_as, order_as}
 
 as_order : (initializing : Bool) (components : List Component) (ports : List Port) (order : List ℕ) → IsOrder (λ p. IsAmong initializing (unordered components ports) p) (λ p q. NeedsBy initializing (unordered components ports) p q) order → IsOrderIn initializing (unordered components ports) order
 as_order false components ports order o = o
@@ -80,5 +80,5 @@ module _ (initializing : Bool) (components : List Component) (ports : List Port)
         no_order = λ order o.
             loop_no_order (λ p. IsAmong initializing (unordered components ports) p) (λ p q. NeedsBy initializing (unordered components ports) p q) nodes order
             (λ p q h. among_of components ports placed initializing p (part_of p q (grouped_of components ports placed initializing n an p q h))) loop
-            (by_fronts (λ p. IsAmong initializing (unordered components ports) p) (λ p q. NeedsBy initializing (unordered components ports) p q) order o);
+            (by_prefixes (λ p. IsAmong initializing (unordered components ports) p) (λ p q. NeedsBy initializing (unordered components ports) p q) order o);
       })

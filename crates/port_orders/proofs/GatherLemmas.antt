@@ -14,7 +14,7 @@ use Rattle.system_model.specs.declared.system.Component.{Component}
 use Rattle.value_types.specs.declared.shape.Knowns.TheVariants.{Listed}
 use Rattle.system_model.specs.declared.system.Role.{Role}
 use Rattle.system_model.specs.declared.system.Port.{Port}
-use Rattle.system_model.specs.Ports.{numbers, source_of}
+use Rattle.system_model.specs.Ports.{port_numbers, source_of}
 use Rattle.port_orders.specs.Gathered.{Adds, Concerns, IsGathering, IsKnown, IsKnownOf, IsReferred, knowns_in, place_in, row_at}
 
 -- ---- one more
@@ -101,23 +101,23 @@ all_more taken port needs i a b c within = adds_more taken port (Contains (take 
     from q h = turned q (Contains-push_cases (take i needs) (get_or needs i 0) q (subst (λ z. Contains z q) (take_more needs i 0 within) h))
 
 pub clocks_more : (taken : List Bool) (port : ℕ) (initializing : Bool) (clocks : List PortId) (i : ℕ) (d : PortId) (a b c : List (List ℕ)) → initializing ≡ false → i < length clocks
-    → Adds taken port (λ q. (initializing ≡ false) × Contains (numbers (take i clocks)) q) a b → Adds taken port (λ q. q ≡ (get_or clocks i d).0) b c → Adds taken port (λ q. (initializing ≡ false) × Contains (numbers (take (i + 1) clocks)) q) a c
+    → Adds taken port (λ q. (initializing ≡ false) × Contains (port_numbers (take i clocks)) q) a b → Adds taken port (λ q. q ≡ (get_or clocks i d).0) b c → Adds taken port (λ q. (initializing ≡ false) × Contains (port_numbers (take (i + 1) clocks)) q) a c
 clocks_more taken port initializing clocks i d a b c instants within =
-    adds_more taken port (λ q. (initializing ≡ false) × Contains (numbers (take i clocks)) q) (λ q. q ≡ (get_or clocks i d).0) (λ q. (initializing ≡ false) × Contains (numbers (take (i + 1) clocks)) q) a b c onto from
+    adds_more taken port (λ q. (initializing ≡ false) × Contains (port_numbers (take i clocks)) q) (λ q. q ≡ (get_or clocks i d).0) (λ q. (initializing ≡ false) × Contains (port_numbers (take (i + 1) clocks)) q) a b c onto from
   where
-    split : numbers (take (i + 1) clocks) ≡ numbers (take i clocks) ++ (get_or clocks i d).0 ∷ []
-    split = ap numbers (take_more clocks i d within) ∙ map-append (λ (p : PortId). p.0) (take i clocks) (get_or clocks i d ∷ [])
+    split : port_numbers (take (i + 1) clocks) ≡ port_numbers (take i clocks) ++ (get_or clocks i d).0 ∷ []
+    split = ap port_numbers (take_more clocks i d within) ∙ map-append (λ (p : PortId). p.0) (take i clocks) (get_or clocks i d ∷ [])
 
-    onto : (q : ℕ) → ((initializing ≡ false) × Contains (numbers (take i clocks)) q) ⊎ (q ≡ (get_or clocks i d).0) → (initializing ≡ false) × Contains (numbers (take (i + 1) clocks)) q
-    onto q (inl h) = (h.0, subst (λ z. Contains z q) (sym split) (Contains-append_left (numbers (take i clocks)) ((get_or clocks i d).0 ∷ []) q h.1))
-    onto q (inr e) = (instants, subst (λ z. Contains z q) (sym split) (subst (Contains (numbers (take i clocks) ++ (get_or clocks i d).0 ∷ [])) (sym e) (Contains-push (numbers (take i clocks)) (get_or clocks i d).0)))
+    onto : (q : ℕ) → ((initializing ≡ false) × Contains (port_numbers (take i clocks)) q) ⊎ (q ≡ (get_or clocks i d).0) → (initializing ≡ false) × Contains (port_numbers (take (i + 1) clocks)) q
+    onto q (inl h) = (h.0, subst (λ z. Contains z q) (sym split) (Contains-append_left (port_numbers (take i clocks)) ((get_or clocks i d).0 ∷ []) q h.1))
+    onto q (inr e) = (instants, subst (λ z. Contains z q) (sym split) (subst (Contains (port_numbers (take i clocks) ++ (get_or clocks i d).0 ∷ [])) (sym e) (Contains-push (port_numbers (take i clocks)) (get_or clocks i d).0)))
 
-    turned : (q : ℕ) → Contains (numbers (take i clocks)) q ⊎ ((get_or clocks i d).0 ≡ q) → ((initializing ≡ false) × Contains (numbers (take i clocks)) q) ⊎ (q ≡ (get_or clocks i d).0)
+    turned : (q : ℕ) → Contains (port_numbers (take i clocks)) q ⊎ ((get_or clocks i d).0 ≡ q) → ((initializing ≡ false) × Contains (port_numbers (take i clocks)) q) ⊎ (q ≡ (get_or clocks i d).0)
     turned q (inl h) = inl (instants, h)
     turned q (inr e) = inr (sym e)
 
-    from : (q : ℕ) → (initializing ≡ false) × Contains (numbers (take (i + 1) clocks)) q → ((initializing ≡ false) × Contains (numbers (take i clocks)) q) ⊎ (q ≡ (get_or clocks i d).0)
-    from q h = turned q (Contains-push_cases (numbers (take i clocks)) (get_or clocks i d).0 q (subst (λ z. Contains z q) split h.1))
+    from : (q : ℕ) → (initializing ≡ false) × Contains (port_numbers (take (i + 1) clocks)) q → ((initializing ≡ false) × Contains (port_numbers (take i clocks)) q) ⊎ (q ≡ (get_or clocks i d).0)
+    from q h = turned q (Contains-push_cases (port_numbers (take i clocks)) (get_or clocks i d).0 q (subst (λ z. Contains z q) split h.1))
 
 pub referred_more : (taken : List Bool) (number : ℕ) (components : List Component) (port : Port) (on : List ℕ) (table : List (List ℕ)) (i : ℕ) (row : List ℕ) (a b c : List (List ℕ)) → i < length on → row ≡ row_at table (place_in components port (get_or on i 0))
     → Adds taken number (IsReferred components port (take i on) table) a b → Adds taken number (Contains row) b c → Adds taken number (IsReferred components port (take (i + 1) on) table) a c
@@ -160,12 +160,12 @@ adds_known_of (Ok u) taken number components initializing port on table a b is a
     (λ q h. subst (λ z. IsKnownOf components port z table q) (sym is) h) (λ q h. subst (λ z. IsKnownOf components port z table q) is h) adds
 
 pub adds_concerns : {E : Type 0} (r : Result (Unit {0}) E) (taken : List Bool) (number : ℕ) (components : List Component) (initializing : Bool) (port : Port) (table a b c d : List (List ℕ)) → Adds taken number (λ q. source_of port.role ≡ Some q) a b
-    → Adds taken number (λ q. (initializing ≡ false) × Contains (numbers port.clocks) q) b c → OnOk r (Adds taken number (IsKnown components initializing port table) c d) → OnOk r (Adds taken number (Concerns components initializing port table) a d)
+    → Adds taken number (λ q. (initializing ≡ false) × Contains (port_numbers port.clocks) q) b c → OnOk r (Adds taken number (IsKnown components initializing port table) c d) → OnOk r (Adds taken number (Concerns components initializing port table) a d)
 adds_concerns (Err e) taken number components initializing port table a b c d one two three = tt
 adds_concerns (Ok u) taken number components initializing port table a b c d one two three =
-    adds_more taken number (λ q. source_of port.role ≡ Some q) (λ q. ((initializing ≡ false) × Contains (numbers port.clocks) q) ⊎ IsKnown components initializing port table q) (Concerns components initializing port table) a b d
+    adds_more taken number (λ q. source_of port.role ≡ Some q) (λ q. ((initializing ≡ false) × Contains (port_numbers port.clocks) q) ⊎ IsKnown components initializing port table q) (Concerns components initializing port table) a b d
     (λ q h. h) (λ q h. h) one
-    (adds_more taken number (λ q. (initializing ≡ false) × Contains (numbers port.clocks) q) (IsKnown components initializing port table) (λ q. ((initializing ≡ false) × Contains (numbers port.clocks) q) ⊎ IsKnown components initializing port table q) b c d
+    (adds_more taken number (λ q. (initializing ≡ false) × Contains (port_numbers port.clocks) q) (IsKnown components initializing port table) (λ q. ((initializing ≡ false) × Contains (port_numbers port.clocks) q) ⊎ IsKnown components initializing port table q) b c d
     (λ q h. h) (λ q h. h) two three)
 
 pub row_below : (table : List (List ℕ)) (limit : ℕ) (place : Option ℕ) → AreBelow table limit → All (λ q. q < limit) (row_at table place)

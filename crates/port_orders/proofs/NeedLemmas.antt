@@ -25,7 +25,7 @@ use Rattle.system_model.specs.declared.system.Component.{Component}
 use Rattle.system_model.specs.declared.system.Port.{Port}
 use Rattle.system_model.specs.declared.system.System.{System}
 use Rattle.system_model.specs.Needs.{DependsOn, Needs, NeedsInitially, ByFeed, ByClock, ByDependency, InitiallyByFeed, InitiallyByDependency, is_unclocked, is_unclocked_at}
-use Rattle.system_model.specs.Ports.{is_output_role, numbers, source_of}
+use Rattle.system_model.specs.Ports.{is_output_role, port_numbers, source_of}
 use Rattle.port_orders.specs.Gathered.{AreNeeds, IsInputOf, IsNamed, group_in, group_of, has_part, is_input_in, knowns_in, knowns_of, place_in}
 use Rattle.port_orders.specs.Placed.{ArePlaced, IsPlaced}
 use Rattle.port_orders.specs.Outcome.{unordered}
@@ -200,11 +200,11 @@ module _ (components : List Component) (ports : List Port) (initializing : Bool)
     pub at : slice_get ports p ≡ Some port
     pub part : has_part initializing port ≡ true
     pub marked : IsMarked (map (has_part initializing) ports) q
-    pub why : (source_of port.role ≡ Some q) ⊎ (((initializing ≡ false) × Contains (numbers port.clocks) q)
+    pub why : (source_of port.role ≡ Some q) ⊎ (((initializing ≡ false) × Contains (port_numbers port.clocks) q)
         ⊎ ((d : DependsOn (unordered components ports) initializing p q) × (initializing ≡ false → d.component.shape.has_event_mode ≡ true)))
 
-  why_told : (p q : ℕ) (port : Port) → slice_get ports p ≡ Some port → (source_of port.role ≡ Some q) ⊎ (((initializing ≡ false) × Contains (numbers port.clocks) q) ⊎ IsNamed components ports (map (has_part initializing) ports) initializing port q)
-      → (source_of port.role ≡ Some q) ⊎ (((initializing ≡ false) × Contains (numbers port.clocks) q) ⊎ ((d : DependsOn (unordered components ports) initializing p q) × (initializing ≡ false → d.component.shape.has_event_mode ≡ true)))
+  why_told : (p q : ℕ) (port : Port) → slice_get ports p ≡ Some port → (source_of port.role ≡ Some q) ⊎ (((initializing ≡ false) × Contains (port_numbers port.clocks) q) ⊎ IsNamed components ports (map (has_part initializing) ports) initializing port q)
+      → (source_of port.role ≡ Some q) ⊎ (((initializing ≡ false) × Contains (port_numbers port.clocks) q) ⊎ ((d : DependsOn (unordered components ports) initializing p q) × (initializing ≡ false → d.component.shape.has_event_mode ≡ true)))
   why_told p q port at (inl e) = inl e
   why_told p q port at (inr (inl e)) = inr (inl e)
   why_told p q port at (inr (inr n)) = inr (inr (on_named p q port at n))
@@ -286,8 +286,8 @@ module _ (components : List Component) (ports : List Port) (initializing : Bool)
 
 -- ---- instants and Initialization Mode
 
-numbers_below : (count : ℕ) (clocks : List PortId) (q : ℕ) → All (λ (clock : PortId). clock.0 < count) clocks → Contains (numbers clocks) q → q < count
-numbers_below count clocks q all h = All-contains (λ z. z < count) (numbers clocks) q (All-map (λ z. z < count) (λ (clock : PortId). clock.0) clocks all) h
+numbers_below : (count : ℕ) (clocks : List PortId) (q : ℕ) → All (λ (clock : PortId). clock.0 < count) clocks → Contains (port_numbers clocks) q → q < count
+numbers_below count clocks q all h = All-contains (λ z. z < count) (port_numbers clocks) q (All-map (λ z. z < count) (λ (clock : PortId). clock.0) clocks all) h
 
 source_below : (count : ℕ) (o : Option ℕ) (q : ℕ) → IfSome o (λ z. z < count) → o ≡ Some q → q < count
 source_below count None q h e = absurd (none_some q e)
@@ -325,7 +325,7 @@ module _ (components : List Component) (ports : List Port) (placed : ArePlaced c
   pub needs_of : (initializing : Bool) (n : GroupedNeeds) → AreNeeds components ports (map (has_part initializing) ports) initializing n → (p q : ℕ) → NeedsGrouped n p q → NeedsBy initializing (unordered components ports) p q
   needs_of false n an p q h = by (needed_of components ports false n an p q h)
     where
-      of : (x : Needed components ports false p q) → (source_of x.port.role ≡ Some q) ⊎ (((false ≡ false) × Contains (numbers x.port.clocks) q) ⊎ ((d : DependsOn (unordered components ports) false p q) × (false ≡ false → d.component.shape.has_event_mode ≡ true))) → Needs (unordered components ports) p q
+      of : (x : Needed components ports false p q) → (source_of x.port.role ≡ Some q) ⊎ (((false ≡ false) × Contains (port_numbers x.port.clocks) q) ⊎ ((d : DependsOn (unordered components ports) false p q) × (false ≡ false → d.component.shape.has_event_mode ≡ true))) → Needs (unordered components ports) p q
       of x (inl e) = ByFeed x.port x.at e
       of x (inr (inl c)) = ByClock x.port x.at c.1
       of x (inr (inr d)) = ByDependency d.0 (d.1 refl)
@@ -334,7 +334,7 @@ module _ (components : List Component) (ports : List Port) (placed : ArePlaced c
       by x = of x x.why
   needs_of true n an p q h = by (needed_of components ports true n an p q h)
     where
-      of : (x : Needed components ports true p q) → (source_of x.port.role ≡ Some q) ⊎ (((true ≡ false) × Contains (numbers x.port.clocks) q) ⊎ ((d : DependsOn (unordered components ports) true p q) × (true ≡ false → d.component.shape.has_event_mode ≡ true))) → NeedsInitially (unordered components ports) p q
+      of : (x : Needed components ports true p q) → (source_of x.port.role ≡ Some q) ⊎ (((true ≡ false) × Contains (port_numbers x.port.clocks) q) ⊎ ((d : DependsOn (unordered components ports) true p q) × (true ≡ false → d.component.shape.has_event_mode ≡ true))) → NeedsInitially (unordered components ports) p q
       of x (inl e) = InitiallyByFeed (among_of true p (part_marked true ports p x.port x.at x.part)) (among_of true q x.marked) x.port x.at e
       of x (inr (inl c)) = absurd (false≢true (sym c.0))
       of x (inr (inr d)) = InitiallyByDependency (among_of true p (part_marked true ports p x.port x.at x.part)) (among_of true q x.marked) d.0

@@ -10,24 +10,24 @@ use Rattle.system_model.specs.Orders.{IsOrder}
 parted : (order : List ℕ) (i : ℕ) → i < length order → order ≡ take i order ++ get_or order i 0 ∷ drop (i + 1) order
 parted order i within = sym (take-append-drop i order) ∙ ap (λ z. take i order ++ z) (drop_more order i 0 within)
 
-pub by_fronts : (IsAmong : ℕ → Type 0) (NeedsOf : ℕ → ℕ → Type 0) (order : List ℕ) → IsOrder IsAmong NeedsOf order → graph.IsOrder IsAmong NeedsOf order
-by_fronts IsAmong NeedsOf order o = record {
+pub by_prefixes : (IsAmong : ℕ → Type 0) (NeedsOf : ℕ → ℕ → Type 0) (order : List ℕ) → IsOrder IsAmong NeedsOf order → graph.IsOrder IsAmong NeedsOf order
+by_prefixes IsAmong NeedsOf order o = record {
   each = o.each;
   only = o.only;
   once = λ i within h. o.once (take i order) (drop (i + 1) order) (get_or order i 0) (parted order i within) h;
-  behind = λ i q within r. o.after (take i order) (drop (i + 1) order) (get_or order i 0) q (parted order i within) r;
+  after = λ i q within r. o.after (take i order) (drop (i + 1) order) (get_or order i 0) q (parted order i within) r;
 }
 
-front_is : (order before behind : List ℕ) (p : ℕ) → order ≡ before ++ p ∷ behind → take (length before) order ≡ before
-front_is order before behind p e = ap (take (length before)) e ∙ take-append_seam before (p ∷ behind)
+prefix_is : (order before later : List ℕ) (p : ℕ) → order ≡ before ++ p ∷ later → take (length before) order ≡ before
+prefix_is order before later p e = ap (take (length before)) e ∙ take-append_seam before (p ∷ later)
 
-within_is : (order before behind : List ℕ) (p : ℕ) → order ≡ before ++ p ∷ behind → length before < length order
-within_is order before behind p e = let n = ap length e in let m = length-append before (p ∷ behind) in omega (arith, n, m)
+within_is : (order before later : List ℕ) (p : ℕ) → order ≡ before ++ p ∷ later → length before < length order
+within_is order before later p e = let n = ap length e in let m = length-append before (p ∷ later) in omega (arith, n, m)
 
-element_is : (order before behind : List ℕ) (p : ℕ) → order ≡ before ++ p ∷ behind → get_or order (length before) 0 ≡ p
-element_is order before behind p e = ap (λ z. get_or z (length before) 0) e ∙ seam before
+element_is : (order before later : List ℕ) (p : ℕ) → order ≡ before ++ p ∷ later → get_or order (length before) 0 ≡ p
+element_is order before later p e = ap (λ z. get_or z (length before) 0) e ∙ seam before
   where
-    seam : (xs : List ℕ) → get_or (xs ++ p ∷ behind) (length xs) 0 ≡ p
+    seam : (xs : List ℕ) → get_or (xs ++ p ∷ later) (length xs) 0 ≡ p
     seam [] = refl
     seam (x ∷ xs) = seam xs
 
@@ -35,10 +35,10 @@ pub by_parts : (IsAmong : ℕ → Type 0) (NeedsOf : ℕ → ℕ → Type 0) (or
 by_parts IsAmong NeedsOf order o = record {
   each = o.each;
   only = o.only;
-  once = λ before behind p e h.
-      o.once (length before) (within_is order before behind p e) (subst (λ z. Contains z (get_or order (length before) 0)) (sym (front_is order before behind p e)) (subst (Contains before) (sym (element_is order before behind p e)) h));
-  after = λ before behind p q e r.
-      subst (λ z. Contains z q) (front_is order before behind p e) (o.behind (length before) q (within_is order before behind p e) (subst (λ z. NeedsOf z q) (sym (element_is order before behind p e)) r));
+  once = λ before later p e h.
+      o.once (length before) (within_is order before later p e) (subst (λ z. Contains z (get_or order (length before) 0)) (sym (prefix_is order before later p e)) (subst (Contains before) (sym (element_is order before later p e)) h));
+  after = λ before later p q e r.
+      subst (λ z. Contains z q) (prefix_is order before later p e) (o.after (length before) q (within_is order before later p e) (subst (λ z. NeedsOf z q) (sym (element_is order before later p e)) r));
 }
 
 -- ---- another relation and other nodes that are the same
@@ -56,5 +56,5 @@ order_as A B R S order on back needs o = record {
   each = λ p b. o.each p (back p b);
   only = λ p h. on p (o.only p h);
   once = o.once;
-  behind = λ i q within r. o.behind i q within (needs (get_or order i 0) q r);
+  after = λ i q within r. o.after i q within (needs (get_or order i 0) q r);
 }

@@ -4,7 +4,7 @@ use Rattle.sim_base.specs.declared.numbers.PortId.{PortId}
 use Rattle.system_model.specs.declared.system.Component.{Component}
 use Rattle.system_model.specs.declared.system.Port.{Port}
 use Rattle.system_model.specs.Needs.{DependsOn, Needs, NeedsInitially, ByFeed, ByClock, ByDependency, InitiallyByFeed, InitiallyByDependency}
-use Rattle.system_model.specs.Ports.{numbers}
+use Rattle.system_model.specs.Ports.{port_numbers}
 use Rattle.port_orders.specs.declared.orders.OrderFault.{OrderFault}
 use Rattle.port_orders.specs.declared.orders.OrderFault.TheVariants.{Loop, Memory}
 use Rattle.port_orders.specs.Outcome.{HasCause, HasCauseIn, OfInitialization, HasOrders, IsOrderIn, in_orders, unordered}
@@ -22,10 +22,10 @@ module _ (components : List Component) (ports : List Port) (a b : List PortId) w
   initially_same p q (InitiallyByFeed u v port at e) = InitiallyByFeed u v port at e
   initially_same p q (InitiallyByDependency u v d) = InitiallyByDependency u v (depends_same true p q d)
 
-  pub has_orders : IsOrderIn false (unordered components ports) (numbers a) → IsOrderIn true (unordered components ports) (numbers b) → HasOrders (in_orders components ports a b)
+  pub has_orders : IsOrderIn false (unordered components ports) (port_numbers a) → IsOrderIn true (unordered components ports) (port_numbers b) → HasOrders (in_orders components ports a b)
   has_orders o i = record {
-    instant_order = record { each = o.each; only = o.only; once = o.once; after = λ before behind p q e h. o.after before behind p q e (needs_same p q h) };
-    initial_order = record { each = i.each; only = i.only; once = i.once; after = λ before behind p q e h. i.after before behind p q e (initially_same p q h) };
+    instant_order = record { each = o.each; only = o.only; once = o.once; after = λ before later p q e h. o.after before later p q e (needs_same p q h) };
+    initial_order = record { each = i.each; only = i.only; once = i.once; after = λ before later p q e h. i.after before later p q e (initially_same p q h) };
   }
 
 pub second_cause : (components : List Component) (ports : List Port) (order : List ℕ) → IsOrderIn false (unordered components ports) order → (fault : OrderFault) → HasCauseIn true (unordered components ports) fault → HasCause components ports fault

@@ -10,7 +10,7 @@ use Rattle.dependency_order.specs.Paths.{IsMarked}
 use Rattle.dependency_order.proofs.CallerLemmas.{contains_none}
 use Rattle.system_model.specs.declared.system.Component.{Component}
 use Rattle.system_model.specs.declared.system.Port.{Port}
-use Rattle.system_model.specs.Ports.{numbers, source_of}
+use Rattle.system_model.specs.Ports.{port_numbers, source_of}
 use Rattle.port_orders.specs.Gathered.{Adds, AreTables, Concerns, IsKnown, IsKnownOf, IsNamed, IsTold, knowns_in, place_in, row_at}
 
 abbrev pub AreTold : List Component → List Port → List Bool → Bool → ℕ → List (List ℕ) → Type 0
@@ -23,7 +23,7 @@ table_below components ports taken count c tables are k q h = ((are.stands c k q
 module _ (components : List Component) (ports : List Port) (taken : List Bool) (initializing : Bool) (number : ℕ) (port : Port) (tables : List (List (List ℕ))) (at : slice_get ports number ≡ Some port)
     (are : AreTables components ports taken (length ports) tables) where
   Why : ℕ → Type 0
-  Why q = (source_of port.role ≡ Some q) ⊎ (((initializing ≡ false) × Contains (numbers port.clocks) q) ⊎ IsNamed components ports taken initializing port q)
+  Why q = (source_of port.role ≡ Some q) ⊎ (((initializing ≡ false) × Contains (port_numbers port.clocks) q) ⊎ IsNamed components ports taken initializing port q)
 
   named : (q : ℕ) (o : Option Knowns) → knowns_in components initializing port ≡ o → IsKnownOf components port o (get_or tables port.component.0 []) q → IsNamed components ports taken initializing port q
   named q None e h = absurd h
@@ -67,8 +67,8 @@ module _ (components : List Component) (ports : List Port) (taken : List Bool) (
       back t (inr l) m =
           let e : p ≡ number = omega arith in
           let same : t.port ≡ port = same_Some t.port port (sym t.at ∙ ap (slice_get ports) e ∙ at) in
-          let w : (source_of port.role ≡ Some q) ⊎ (((initializing ≡ false) × Contains (numbers port.clocks) q) ⊎ IsNamed components ports taken initializing port q) =
-          subst (λ (z : Port). (source_of z.role ≡ Some q) ⊎ (((initializing ≡ false) × Contains (numbers z.clocks) q) ⊎ IsNamed components ports taken initializing z q)) same t.why in
+          let w : (source_of port.role ≡ Some q) ⊎ (((initializing ≡ false) × Contains (port_numbers port.clocks) q) ⊎ IsNamed components ports taken initializing port q) =
+          subst (λ (z : Port). (source_of z.role ≡ Some q) ⊎ (((initializing ≡ false) × Contains (port_numbers z.clocks) q) ⊎ IsNamed components ports taken initializing z q)) same t.why in
           (adds.cases p q).1 (inr (e, (concerns q w, t.marked)))
 
 pub told_left : (components : List Component) (ports : List Port) (taken : List Bool) (initializing : Bool) (number : ℕ) (lists : List (List ℕ)) → get_or taken number false ≡ false → AreTold components ports taken initializing number lists → AreTold components ports taken initializing (number + 1) lists

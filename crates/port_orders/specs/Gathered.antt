@@ -9,7 +9,7 @@ use Rattle.value_types.specs.declared.shape.Shape.{Shape}
 use Rattle.system_model.specs.declared.system.Component.{Component}
 use Rattle.system_model.specs.declared.system.Port.{Port}
 use Rattle.system_model.specs.Needs.{is_unclocked}
-use Rattle.system_model.specs.Ports.{is_output_role, numbers, source_of}
+use Rattle.system_model.specs.Ports.{is_output_role, port_numbers, source_of}
 use Rattle.dependency_order.specs.declared.grouped.GroupedNeeds.{GroupedNeeds}
 use Rattle.dependency_order.specs.Graph.{Needs}
 use Rattle.dependency_order.specs.Paths.{IsMarked}
@@ -129,7 +129,7 @@ IsKnown components initializing port table q =
 abbrev pub Concerns : List Component → Bool → Port → List (List ℕ) → ℕ → Type 0
 Concerns components initializing port table q =
     (source_of port.role ≡ Some q) ⊎
-    (((initializing ≡ false) × Contains (numbers port.clocks) q) ⊎
+    (((initializing ≡ false) × Contains (port_numbers port.clocks) q) ⊎
     IsKnown components initializing port table q)
 
 -- q is a known of the port that its list names, by the descriptions
@@ -151,7 +151,7 @@ pub record IsTold (components : List Component) (ports : List Port) (taken : Lis
   pub part : IsMarked taken p
   pub marked : IsMarked taken q
   pub why : (source_of port.role ≡ Some q) ⊎
-      (((initializing ≡ false) × Contains (numbers port.clocks) q) ⊎
+      (((initializing ≡ false) × Contains (port_numbers port.clocks) q) ⊎
       IsNamed components ports taken initializing port q)
 
 pub record AreNeeds (components : List Component) (ports : List Port) (taken : List Bool)

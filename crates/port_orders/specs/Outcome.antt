@@ -4,7 +4,7 @@ use Rattle.sim_base.specs.declared.numbers.PortId.{PortId}
 use Rattle.system_model.specs.declared.system.Component.{Component}
 use Rattle.system_model.specs.declared.system.Port.{Port}
 use Rattle.system_model.specs.declared.system.System.{System}
-use Rattle.system_model.specs.Ports.{numbers}
+use Rattle.system_model.specs.Ports.{port_numbers}
 use Rattle.system_model.specs.Needs.{Needs, NeedsInitially, is_unclocked_at}
 use Rattle.system_model.specs.Orders.{IsOrder}
 use Rattle.dependency_order.specs.Graph.{IsLoop, BeginsLeast}
@@ -28,9 +28,9 @@ unordered components ports = in_orders components ports [] []
 -- the orders are what a sound system has
 pub record HasOrders (system : System) : Type 0 where
   pub instant_order : IsOrder (λ p. p < length system.ports) (Needs system)
-      (numbers system.instant_order)
+      (port_numbers system.instant_order)
   pub initial_order : IsOrder (λ p. is_unclocked_at system.ports p ≡ true) (NeedsInitially system)
-      (numbers system.initial_order)
+      (port_numbers system.initial_order)
 
 abbrev pub AreOrders : List Component → List Port → Orders → Type 0
 AreOrders components ports orders =
@@ -61,9 +61,9 @@ pub data HasLoop (system : System) (nodes : List ℕ) : Type 0 where
       HasLoop system nodes
 
 abbrev pub HasCauseIn : Bool → System → OrderFault → Type 0
-HasCauseIn initializing system (Loop nodes) = IsLoopIn initializing system (numbers nodes)
+HasCauseIn initializing system (Loop nodes) = IsLoopIn initializing system (port_numbers nodes)
 HasCauseIn initializing system Memory = ⊤
 
 abbrev pub HasCause : List Component → List Port → OrderFault → Type 0
-HasCause components ports (Loop nodes) = HasLoop (unordered components ports) (numbers nodes)
+HasCause components ports (Loop nodes) = HasLoop (unordered components ports) (port_numbers nodes)
 HasCause components ports Memory = ⊤

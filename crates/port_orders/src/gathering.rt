@@ -2,7 +2,7 @@
 ghost use Rattle.std.specs.Prelude.{◌≡◌, ◌↔◌, ◌<◌, [], ℕ, All, Contains, IfOk, IfSome, IsTrue, OnOk, length, map, replicate, Some, false};
 ghost use Rattle.dependency_order.specs.Graph.{AreBelow, Needs};
 ghost use Rattle.sim_base.specs.declared.numbers.PortId.{PortId};
-ghost use Rattle.system_model.specs.Ports.{numbers, source_of};
+ghost use Rattle.system_model.specs.Ports.{port_numbers, source_of};
 ghost use Rattle.port_orders.specs.Gathered.{Adds, AreNeeds, Concerns, IsGathering, IsKnown, IsReferred, IsTold, group_in, has_part, row_at};
 ghost use Rattle.port_orders.specs.Placed.{ArePlaced, IsPlaced};
 
@@ -99,7 +99,8 @@ impl Gathering {
         ensures held { OnOk result
             (IsGathering (length taken.now) self.new.stamps.items self.new.lists) }
         ensures adds { OnOk result
-            (Adds taken.now port (λ q. (initializing ≡ false) × Contains (numbers clocks.now) q)
+            (Adds taken.now port (λ q. (initializing ≡ false) ×
+            Contains (port_numbers clocks.now) q)
             self.old.lists self.new.lists) }
     {
         if initializing {

@@ -1,6 +1,6 @@
 //! The two orders of a system.
 ghost use Rattle.std.specs.Prelude.{◌≡◌, ◌<◌, ◌^◌, All, IfErr, IfOk, false, filter, map, slice_index_or};
-ghost use Rattle.system_model.specs.Ports.{numbers};
+ghost use Rattle.system_model.specs.Ports.{port_numbers};
 ghost use Rattle.port_orders.specs.Gathered.{has_part};
 ghost use Rattle.port_orders.specs.Outcome.{AreOrders, HasCause, HasCauseIn, IsOrderIn, unordered};
 ghost use Rattle.port_orders.specs.Placed.{ArePlaced};
@@ -78,7 +78,7 @@ fn is_marked(marks: &[bool], node: usize) -> bool
 
 fn port_ids(alloc: Global, nodes: &[usize]) -> Result<Items<PortId>, AllocError>
     requires { All (λ p. p < 2 ^ 32) nodes.now }
-    ensures { IfOk result (λ ports. numbers ports ≡ nodes.now) }
+    ensures { IfOk result (λ ports. port_numbers ports ≡ nodes.now) }
 {
     let mut ports = Vec::new(alloc);
     for node in nodes {
@@ -96,7 +96,7 @@ fn order_in(
 ) -> Result<Items<PortId>, OrderFault>
     requires placed { ArePlaced components.now ports.now }
     ensures order { IfOk result (λ order. IsOrderIn initializing
-        (unordered components.now ports.now) (numbers order)) }
+        (unordered components.now ports.now) (port_numbers order)) }
     ensures cause { IfErr result (HasCauseIn initializing (unordered components.now ports.now)) }
 {
     let taken = marks_of(alloc, ports, initializing)?;

@@ -1,7 +1,7 @@
 //! What the program's call promises, over a body that is that call: the wrong bodies of `must-fail/` stand in its place.
 ghost use Rattle.command_line.specs.Line.{texts};
 ghost use Rattle.run_model.specs.Laws.{OneTrace};
-ghost use Rattle.run_program.specs.Happened.{happened, stage};
+ghost use Rattle.run_program.specs.Happened.{happened, outside};
 ghost use Rattle.run_program.specs.TraceCheck.{KeepsRows};
 
 use fmu_peer::Spawner;
@@ -21,8 +21,8 @@ pub fn answer_words<R: Threads + Sync, F: Folder, S: Spawner, O: Sink, E: Sink>(
     err: &mut E,
 ) -> u8
     ensures rows { KeepsRows (happened (texts words.now)
-        (stage (F.view folder.old) (S.view spawner.old) (O.view out.old))
-        (stage (F.view folder.new) (S.view spawner.new) (O.view out.new))
+        (outside (F.view folder.old) (S.view spawner.old) (O.view out.old))
+        (outside (F.view folder.new) (S.view spawner.new) (O.view out.new))
         (E.view err.old) (E.view err.new) result) }
     ensures one { OneTrace }
 {

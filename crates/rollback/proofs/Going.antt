@@ -20,7 +20,7 @@ use Rattle.rollback.specs.Standing.{Placed}
 use Rattle.rollback.specs.declared.agreeing.Turned.TheVariants.{Anew, Met}
 use Rattle.rollback.specs.declared.places.Who.TheVariants as W
 use Rattle.rollback.specs.declared.step_end.StepEnd.{StepEnd}
-use Rattle.rollback.proofs.Resting.{rest_by, so_behind}
+use Rattle.rollback.proofs.Resting.{after_part, rest_by}
 
 -- the FMU of a slot stands where these exchanges led, with the same state saved
 pub record Follows {L : Type 0} {g : Ghosts L} (view : L → View) (t : ℕ) (old : Slot L g) (es : List Exchange) (new : Slot L g) : Type 0 where
@@ -63,7 +63,7 @@ module _ {L : Type 0} {g : Ghosts L} (view : L → View) (t step b : ℕ) where
 
   module _ (olds : List (Slot L g)) (c : ℕ) (mids : List (Slot L g)) (so_far : Going view t step b olds c mids) where
     so_mid : (ss : List Stand) → StandSo view ss olds → StandSo view (stands_by t ss so_far.log) mids
-    so_mid ss so = so_behind view t so_far.log ss olds mids so so_far.len (λ i d w. (so_far.follows i d w).stand)
+    so_mid ss so = after_part view t so_far.log ss olds mids so so_far.len (λ i d w. (so_far.follows i d w).stand)
 
     stand_now : (o p n : Slot L g) (es fs : List Exchange) → Follows view t o es p → stand_in view n ≡ at_rest (stand_by t (stand_in view p) fs) → stand_in view n ≡ at_rest (stand_by t (stand_in view o) (es ++ fs))
     stand_now o p n es fs f is =

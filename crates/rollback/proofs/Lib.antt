@@ -10,3 +10,4 @@ mod Going
 mod SavedSteps
 mod Least
 mod EndsAsked
+mod AtOnce

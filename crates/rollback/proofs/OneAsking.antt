@@ -12,7 +12,7 @@ use Rattle.fmu_peer.specs.declared.peer.Exchange.{Exchange}
 use Rattle.fmu_peer.specs.declared.peer.Peer.{Ghosts}
 use Rattle.fmu_peer.specs.declared.slot.Slot.{Slot}
 use Rattle.fmu_peer.specs.View.{View}
-use Rattle.slot_calls.specs.Log.{Asking, Sent, part}
+use Rattle.slot_calls.specs.Log.{ComponentCall, Sent, part}
 use Rattle.slot_calls.specs.Slots.{instances}
 use Rattle.slot_calls.specs.Stage.{FailsIn, IsAnswered, shapes}
 use Rattle.slot_calls.specs.declared.bad_answer.BadAnswer.{BadAnswer}
@@ -87,7 +87,7 @@ module _ {L : Type 0} {g : Ghosts L} (view : L → View) where
               backs = back.log;
               steps = s.log;
               back = back.says;
-              stepped = subst (λ (cs : List Asking). IsAnswered (shapes (instances view olds)) cs s.log) (same_calls (C.DoStep t (e - t)))
+              stepped = subst (λ (cs : List ComponentCall). IsAnswered (shapes (instances view olds)) cs s.log) (same_calls (C.DoStep t (e - t)))
                   (subst (λ (ss : List Shape). IsAnswered ss (to_some (passes asked) (C.DoStep t (e - t)) (stands view mids)) s.log) same_view s.says);
               log_is = refl;
             },
@@ -101,7 +101,7 @@ module _ {L : Type 0} {g : Ghosts L} (view : L → View) where
         log = back.log ++ s.log;
         told = told_on (instances view olds) (instances view mids) (instances view news) back.log s.log back.told s.told;
         says = InSteps back.log s.log back.says
-            (subst (λ (cs : List Asking). FailsIn (shapes (instances view olds)) cs bad s.log) (same_calls (C.DoStep t (e - t)))
+            (subst (λ (cs : List ComponentCall). FailsIn (shapes (instances view olds)) cs bad s.log) (same_calls (C.DoStep t (e - t)))
             (subst (λ (ss : List Shape). FailsIn ss (to_some (passes asked) (C.DoStep t (e - t)) (stands view mids)) bad s.log) same_view s.says)) refl;
       }
 
@@ -178,12 +178,12 @@ module _ {L : Type 0} {g : Ghosts L} (view : L → View) where
       answered_so : (ss : List Stand) → StandSo view ss olds → (p : Stand → Bool) (call : Call) (log : List Sent) → to_some p call ss ≡ to_some p call (stands view olds) →
           IsAnswered (shapes (instances view olds)) (to_some p call (stands view olds)) log → IsAnswered (shapes_in ss) (to_some p call ss) log
       answered_so ss so p call log calls a =
-          subst (λ (xs : List Shape). IsAnswered xs (to_some p call ss) log) (sym (shapes_so view ss olds so)) (subst (λ (cs : List Asking). IsAnswered (shapes (instances view olds)) cs log) (sym calls) a)
+          subst (λ (xs : List Shape). IsAnswered xs (to_some p call ss) log) (sym (shapes_so view ss olds so)) (subst (λ (cs : List ComponentCall). IsAnswered (shapes (instances view olds)) cs log) (sym calls) a)
 
       fails_so : (ss : List Stand) → StandSo view ss olds → (p : Stand → Bool) (call : Call) (bad : BadAnswer) (log : List Sent) → to_some p call ss ≡ to_some p call (stands view olds) →
           FailsIn (shapes (instances view olds)) (to_some p call (stands view olds)) bad log → FailsIn (shapes_in ss) (to_some p call ss) bad log
       fails_so ss so p call bad log calls a =
-          subst (λ (xs : List Shape). FailsIn xs (to_some p call ss) bad log) (sym (shapes_so view ss olds so)) (subst (λ (cs : List Asking). FailsIn (shapes (instances view olds)) cs bad log) (sym calls) a)
+          subst (λ (xs : List Shape). FailsIn xs (to_some p call ss) bad log) (sym (shapes_so view ss olds so)) (subst (λ (cs : List ComponentCall). FailsIn (shapes (instances view olds)) cs bad log) (sym calls) a)
 
       pub asked_over : RoundsOver {T = Unit {0}} view t step asked e olds news (Ok tt) → AskedOver {T = Unit {0}} view t step sized asked e olds news (Ok tt)
       asked_over r = record {

@@ -25,7 +25,7 @@ use Rattle.rollback.specs.declared.places.Who.TheVariants as W
 use Rattle.rollback.specs.declared.step_end.StepEnd.{StepEnd}
 use Rattle.rollback.proofs.Moving.{lower, moved_both, moved_lower}
 use Rattle.rollback.proofs.OneAsking.{fits_by}
-use Rattle.rollback.proofs.Resting.{are_at_so, reached_so, shapes_own, shapes_so, so_behind, stand_at, stands_own}
+use Rattle.rollback.proofs.Resting.{after_part, are_at_so, reached_so, shapes_own, shapes_so, stand_at, stands_own}
 use Rattle.rollback.proofs.Turning.{unequal, are_all_at, least, there_by}
 
 equal : (a b : ℕ) → (a == b) ≡ true → a ≡ b
@@ -70,7 +70,7 @@ module _ {L : Type 0} {g : Ghosts L} (view : L → View) where
 
     module _ (mids : List (Slot L g)) (len : length mids ≡ length olds) (first : AskedOver {T = Unit {0}} view t step W.Everyone W.Early b olds mids (Ok tt)) (m : ℕ) (m_is : m ≡ least view t b mids) where
       so_mid : (ss : List Stand) → StandSo view ss olds → StandSo view (stands_by t ss first.log) mids
-      so_mid ss so = so_behind view t first.log ss olds mids so len (λ i d w. (first.says.1 i d w).stand)
+      so_mid ss so = after_part view t first.log ss olds mids so len (λ i d w. (first.says.1 i d w).stand)
 
       m_at : (ss : List Stand) → StandSo view ss olds → m ≡ reached t b (stands_by t ss first.log)
       m_at ss so = m_is ∙ sym (reached_so view (stands_by t ss first.log) mids (so_mid ss so) t b)
@@ -156,9 +156,9 @@ module _ {L : Type 0} {g : Ghosts L} (view : L → View) where
             ∙ ap (λ (x : Bool). not ((if x then b else t) == m)) (same_number t t refl)
             ∙ ap not (other_number b m (λ e. apart m b other (sym e))))
 
-      module _ (behind : are_all_at view m mids ≡ false) where
-        behind_at : (ss : List Stand) → StandSo view ss olds → are_at m (stands_by t ss first.log) ≡ false
-        behind_at ss so = are_at_so view (stands_by t ss first.log) mids (so_mid ss so) m ∙ behind
+      module _ (after : are_all_at view m mids ≡ false) where
+        after_at : (ss : List Stand) → StandSo view ss olds → are_at m (stands_by t ss first.log) ≡ false
+        after_at ss so = are_at_so view (stands_by t ss first.log) mids (so_mid ss so) m ∙ after
 
         pub others_stop : (news : List (Slot L g)) (end : StepEnd) → AskedOver {T = Unit {0}} view t step (W.EndElsewhere t b m) (W.Elsewhere m) m mids news (Err end) → AgreedOver view might_return_early t step b olds news (Err end)
         others_stop news end a = record {
@@ -166,14 +166,14 @@ module _ {L : Type 0} {g : Ghosts L} (view : L → View) where
           told = told_on (instances view olds) (instances view mids) (instances view news) first.log a.log first.told a.told;
           says = record {
             from = a.says.0;
-            comes = λ ss so. NextStops b ss (first.log ++ a.log) (outcome_of end) m first.log a.log (stands_by t ss first.log) (first.says.0 ss so) refl (m_at ss so) (behind_at ss so)
+            comes = λ ss so. NextStops b ss (first.log ++ a.log) (outcome_of end) m first.log a.log (stands_by t ss first.log) (first.says.0 ss so) refl (m_at ss so) (after_at ss so)
                 (a.says.1 (stands_by t ss first.log) (so_mid ss so)) refl;
           };
         }
 
         module _ (news : List (Slot L g)) (len2 : length news ≡ length mids) (next : AskedOver {T = Unit {0}} view t step (W.EndElsewhere t b m) (W.Elsewhere m) m mids news (Ok tt)) where
           so_new : (ss : List Stand) → StandSo view ss olds → StandSo view (stands_by t (stands_by t ss first.log) next.log) news
-          so_new ss so = so_behind view t next.log (stands_by t ss first.log) mids news (so_mid ss so) len2 (λ i d w. (next.says.1 i d w).stand)
+          so_new ss so = after_part view t next.log (stands_by t ss first.log) mids news (so_mid ss so) len2 (λ i d w. (next.says.1 i d w).stand)
 
           all_there : are_all_at view m news ≡ true
           all_there = by (are_all_at view m news) refl where
@@ -194,7 +194,7 @@ module _ {L : Type 0} {g : Ghosts L} (view : L → View) where
             log = first.log ++ next.log;
             told = told_on (instances view olds) (instances view mids) (instances view news) first.log next.log first.told next.told;
             says = record {
-              comes = λ ss so. NextMeet b ss (first.log ++ next.log) (Meets m) m first.log next.log (stands_by t ss first.log) (first.says.0 ss so) refl (m_at ss so) (behind_at ss so)
+              comes = λ ss so. NextMeet b ss (first.log ++ next.log) (Meets m) m first.log next.log (stands_by t ss first.log) (first.says.0 ss so) refl (m_at ss so) (after_at ss so)
                   (next.says.0 (stands_by t ss first.log) (so_mid ss so)) (are_at_so view (stands_by t (stands_by t ss first.log) next.log) news (so_new ss so) m ∙ all_there) refl refl;
               moved = λ i d w.
                   let inside : i < length mids = omega (arith, len, w) in
@@ -226,7 +226,7 @@ module _ {L : Type 0} {g : Ghosts L} (view : L → View) where
         comes = λ ss so. FirstMeet b ss a.log (Meets b) b (a.says.0 ss so) (sym (m_whole t step b later ss a.log (a.says.0 ss so) (counted ss so))) (all_whole t step b later ss a.log (a.says.0 ss so) (counted ss so)) refl;
         moved = a.says.1;
         there = there_by view b news
-            (sym (are_at_so view (stands_by t (stands view olds) a.log) news (so_behind view t a.log (stands view olds) olds news (stands_own view olds) len (λ i d w. (a.says.1 i d w).stand)) b)
+            (sym (are_at_so view (stands_by t (stands view olds) a.log) news (after_part view t a.log (stands view olds) olds news (stands_own view olds) len (λ i d w. (a.says.1 i d w).stand)) b)
             ∙ all_whole t step b later (stands view olds) a.log (a.says.0 (stands view olds) (stands_own view olds)) (counted (stands view olds) (stands_own view olds)));
         later = later;
         within = omega arith;

@@ -15,7 +15,7 @@ use Rattle.fmu_peer.specs.declared.slot.Slot.{Slot}
 use Rattle.fmu_peer.specs.CloseAll.{Instance, instance_in}
 use Rattle.fmu_peer.specs.View.{View}
 use Rattle.run_model.specs.Steps.{least_or}
-use Rattle.slot_calls.specs.Log.{Asking, Sent, part}
+use Rattle.slot_calls.specs.Log.{ComponentCall, Sent, part}
 use Rattle.slot_calls.specs.Slots.{instances}
 use Rattle.slot_calls.specs.Stage.{shapes}
 use Rattle.slot_calls.proofs.CallerLemmas.{first_same, rest_same}
@@ -41,7 +41,7 @@ rest_by t s (x ∷ es) =
 
 pub some_map : {A B : Type 0} (f : A → B) (test : B → Bool) (call : Call) (k : ℕ) (xs : List A) → to_some_from k test call (map f xs) ≡ to_some_from k (λ x. test (f x)) call xs
 some_map f test call k [] = refl
-some_map f test call k (x ∷ xs) = ap (λ (rest : List Asking). if test (f x) then record { component = k; call = call } ∷ rest else rest) (some_map f test call (k + 1) xs)
+some_map f test call k (x ∷ xs) = ap (λ (rest : List ComponentCall). if test (f x) then record { component = k; call = call } ∷ rest else rest) (some_map f test call (k + 1) xs)
 
 -- where the tests agree place by place
 pub some_same : {A B : Type 0} (p : A → Bool) (q : B → Bool) (call : Call) (k : ℕ) (xs : List A) (ys : List B) → length ys ≡ length xs → ((i : ℕ) (d : A) (e : B) → i < length xs → q (get_or ys i e) ≡ p (get_or xs i d)) →
@@ -50,7 +50,7 @@ some_same p q call k [] [] len same = refl
 some_same p q call k [] (y ∷ ys) len same = absurd (omega (arith, len))
 some_same p q call k (x ∷ xs) [] len same = absurd (omega (arith, len))
 some_same p q call k (x ∷ xs) (y ∷ ys) len same =
-    ap₂ (λ (b : Bool) (rest : List Asking). if b then record { component = k; call = call } ∷ rest else rest) (same 0 x y (omega arith))
+    ap₂ (λ (b : Bool) (rest : List ComponentCall). if b then record { component = k; call = call } ∷ rest else rest) (same 0 x y (omega arith))
     (some_same p q call (k + 1) xs ys (omega (arith, len)) (λ i d e w. same (suc i) d e (omega (arith, w))))
 
 passes_rest : (who : Who) (call : Call) (ss : List Stand) → to_some (λ s. passes who (at_rest s)) call ss ≡ to_some (passes who) call ss
@@ -136,9 +136,9 @@ module _ {L : Type 0} {g : Ghosts L} (view : L → View) where
         (so_from (suc k) ss os ns (rest_same (at_rest s) (stand_in view o) (map at_rest ss) (stands view os) so) (omega (arith, len))
         (λ i d w. let next : suc k + i ≡ k + suc i = omega arith in each (suc i) d (omega (arith, w)) ∙ ap (λ (j : ℕ). at_rest (stand_by t (stand_in view (get_or os i d)) (part j log))) (sym next)))
 
-    pub so_behind : (ss : List Stand) (olds news : List (Slot L g)) → StandSo view ss olds → length news ≡ length olds →
+    pub after_part : (ss : List Stand) (olds news : List (Slot L g)) → StandSo view ss olds → length news ≡ length olds →
         ((i : ℕ) (d : Slot L g) → i < length olds → stand_in view (get_or news i d) ≡ at_rest (stand_by t (stand_in view (get_or olds i d)) (part i log))) → StandSo view (stands_by t ss log) news
-    so_behind ss olds news so len each =
+    after_part ss olds news so len each =
         so_from 0 ss olds news so len (λ i d w. let place : 0 + i ≡ i = omega arith in each i d w ∙ ap (λ (j : ℕ). at_rest (stand_by t (stand_in view (get_or olds i d)) (part j log))) (sym place))
 
 -- ---- the code's words

@@ -19,7 +19,7 @@ use Rattle.fmu_peer.specs.CloseAll.{Instance, instance_in, peer_in}
 use Rattle.fmu_peer.specs.View.{View}
 use Rattle.system_model.specs.EarlyReturn.{early_count}
 use Rattle.run_model.specs.Stepping.{asked_first}
-use Rattle.slot_calls.specs.Log.{Asking, Sent, part}
+use Rattle.slot_calls.specs.Log.{ComponentCall, Sent, part}
 use Rattle.slot_calls.specs.SavedStates.{if_good, saved_by}
 use Rattle.slot_calls.specs.Slots.{instances}
 use Rattle.slot_calls.specs.Stage.{FailsIn, IsAnswered, shapes}
@@ -43,7 +43,7 @@ use Rattle.rollback.proofs.Resting.{count_map, some_map, unfit_so}
 use Rattle.rollback.proofs.Standing.{now_freed, now_saved}
 
 module _ {L : Type 0} {g : Ghosts L} (view : L → View) where
-  abbrev early_in : List (Slot L g) → ℕ
+  abbrev pub early_in : List (Slot L g) → ℕ
   early_in slots = early_count (shapes (instances view slots))
 
   -- ---- which are selected
@@ -147,7 +147,7 @@ module _ {L : Type 0} {g : Ghosts L} (view : L → View) where
 
       module _ (fits : unfit step (b - t) A.everyone (all_at t (shapes (instances view olds))) ≡ None) where
         saves_answered : IsAnswered (shapes (instances view olds)) (to_saved C.Save (shapes (instances view olds))) sends.log
-        saves_answered = subst (λ (cs : List Asking). IsAnswered (shapes (instances view olds)) cs sends.log) (saved_calls olds (shapes (instances view olds)) early C.Save refl early_is) sends.says
+        saves_answered = subst (λ (cs : List ComponentCall). IsAnswered (shapes (instances view olds)) cs sends.log) (saved_calls olds (shapes (instances view olds)) early C.Save refl early_is) sends.says
 
         -- the step isn't made
         pub agreement_stops : (news : List (Slot L g)) (end : StepEnd) → AgreedOver view (asked_first early) t step b mids news (Err end) → StepsOver view t step b olds news (Err end)
@@ -178,30 +178,30 @@ module _ {L : Type 0} {g : Ghosts L} (view : L → View) where
 
         -- ---- the end of a step that is made
 
-        module _ (behind : List (Slot L g)) (len2 : length behind ≡ length mids) (m : ℕ) (a : AgreedOver view (asked_first early) t step b mids behind (Ok m)) where
-          shapes_behind : shapes (instances view behind) ≡ shapes (instances view olds)
-          shapes_behind = shapes_same a.log (instances view mids) (instances view behind) a.told ∙ shapes_mid
+        module _ (after : List (Slot L g)) (len2 : length after ≡ length mids) (m : ℕ) (a : AgreedOver view (asked_first early) t step b mids after (Ok m)) where
+          shapes_after : shapes (instances view after) ≡ shapes (instances view olds)
+          shapes_after = shapes_same a.log (instances view mids) (instances view after) a.told ∙ shapes_mid
 
-          inside2 : (k : ℕ) → k < length behind → k < length mids
+          inside2 : (k : ℕ) → k < length after → k < length mids
           inside2 k w = omega (arith, len2, w)
 
-          shape_behind : (k : ℕ) (d : Slot L g) → k < length mids → is_some (get_or behind k d).saved ≡ is_saved early (stand_in view (get_or behind k d)).shape
-          shape_behind k d w =
+          shape_after : (k : ℕ) (d : Slot L g) → k < length mids → is_some (get_or after k d).saved ≡ is_saved early (stand_in view (get_or after k d)).shape
+          shape_after k d w =
               let x = a.says.moved k d w in
               x.saved ∙ (now k d (inside k w)).saved ∙ ap (is_saved early) (sym (ap (λ (s : Stand). s.shape) x.stand ∙ shape_kept t (stand_in view (get_or mids k d)) (part k a.log)))
 
-          pub can_free : All (CanDo view (W.Saved early) T.Free) behind
-          can_free = λ k d w. can_be_freed view t m step (W.Saved early) (get_or behind k d) (a.says.moved k d (inside2 k w)).placed (λ h. shape_behind k d (inside2 k w) ∙ h)
+          pub can_free : All (CanDo view (W.Saved early) T.Free) after
+          can_free = λ k d w. can_be_freed view t m step (W.Saved early) (get_or after k d) (a.says.moved k d (inside2 k w)).placed (λ h. shape_after k d (inside2 k w) ∙ h)
 
-          frees_calls : to_some (passes (W.Saved early)) C.Free (stands view behind) ≡ to_saved C.Free (shapes (instances view olds))
-          frees_calls = saved_calls behind (shapes (instances view olds)) early C.Free shapes_behind early_is
+          frees_calls : to_some (passes (W.Saved early)) C.Free (stands view after) ≡ to_saved C.Free (shapes (instances view olds))
+          frees_calls = saved_calls after (shapes (instances view olds)) early C.Free shapes_after early_is
 
           module _ (news : List (Slot L g)) where
-            pub frees_bad : (bad : BadAnswer) → Sends {T = Unit {0}} view (W.Saved early) T.Free behind news (Err bad) → StepsOver view t step b olds news (Err (Bad bad))
+            pub frees_bad : (bad : BadAnswer) → Sends {T = Unit {0}} view (W.Saved early) T.Free after news (Err bad) → StepsOver view t step b olds news (Err (Bad bad))
             frees_bad bad f = record {
               log = sends.log ++ (a.log ++ f.log);
               told = told_on (instances view olds) (instances view mids) (instances view news) sends.log (a.log ++ f.log) sends.told
-                  (told_on (instances view mids) (instances view behind) (instances view news) a.log f.log a.told f.told);
+                  (told_on (instances view mids) (instances view after) (instances view news) a.log f.log a.told f.told);
               steps = FreesBadly bad m f.log (record {
                 fits = fits;
                 saves = sends.log;
@@ -209,11 +209,11 @@ module _ {L : Type 0} {g : Ghosts L} (view : L → View) where
                 saved = saves_answered;
                 agrees = by_count a.log (Meets m) (a.says.comes (all_at t (shapes (instances view olds))) so_mid);
                 log_is = refl;
-              }) (subst (λ (ss : List Shape). FailsIn ss (to_saved C.Free (shapes (instances view olds))) bad f.log) shapes_behind
-                  (subst (λ (cs : List Asking). FailsIn (shapes (instances view behind)) cs bad f.log) frees_calls f.says)) refl;
+              }) (subst (λ (ss : List Shape). FailsIn ss (to_saved C.Free (shapes (instances view olds))) bad f.log) shapes_after
+                  (subst (λ (cs : List ComponentCall). FailsIn (shapes (instances view after)) cs bad f.log) frees_calls f.says)) refl;
             }
 
-            module _ (len3 : length news ≡ length behind) (f : Sends {T = Unit {0}} view (W.Saved early) T.Free behind news (Ok tt)) where
+            module _ (len3 : length news ≡ length after) (f : Sends {T = Unit {0}} view (W.Saved early) T.Free after news (Ok tt)) where
               -- each has stepped there, and no state is saved
               at_end : (x : Bool) → x ≡ false → (v : View) → v.phase.point ≡ m → InStep t m step x v → InStep m m step x v × (none_marked v.phase.marks ≡ true)
               at_end x is v at h =
@@ -236,10 +236,10 @@ module _ {L : Type 0} {g : Ghosts L} (view : L → View) where
                   subst (HasStepped view m step) (sym w.new_is) (record { ready = record { placed = record { live = p.live; stands = end.0 }; unsaved = none; at = at }; unset = end.1 })
 
               pub all_stepped : All (HasStepped view m step) news
-              all_stepped = λ k d w. let here : k < length behind = omega (arith, len3, w) in by k d here (is_saved early (stand_in view (get_or behind k d)).shape) refl (f.well k d here) where
-                by : (k : ℕ) (d : Slot L g) → k < length behind → (x : Bool) → is_saved early (stand_in view (get_or behind k d)).shape ≡ x → SentTo view C.Free x (get_or behind k d) (part k f.log) (get_or news k d) → HasStepped view m step (get_or news k d)
-                by k d w true h s = freed_sent (get_or behind k d) (get_or news k d) (part k f.log) (a.says.moved k d (inside2 k w)).placed (a.says.there k d w) s
-                by k d w false h s = freed_left (get_or behind k d) (get_or news k d) (part k f.log) (a.says.moved k d (inside2 k w)).placed (a.says.there k d w) (shape_behind k d (inside2 k w) ∙ h) s
+              all_stepped = λ k d w. let here : k < length after = omega (arith, len3, w) in by k d here (is_saved early (stand_in view (get_or after k d)).shape) refl (f.well k d here) where
+                by : (k : ℕ) (d : Slot L g) → k < length after → (x : Bool) → is_saved early (stand_in view (get_or after k d)).shape ≡ x → SentTo view C.Free x (get_or after k d) (part k f.log) (get_or news k d) → HasStepped view m step (get_or news k d)
+                by k d w true h s = freed_sent (get_or after k d) (get_or news k d) (part k f.log) (a.says.moved k d (inside2 k w)).placed (a.says.there k d w) s
+                by k d w false h s = freed_left (get_or after k d) (get_or news k d) (part k f.log) (a.says.moved k d (inside2 k w)).placed (a.says.there k d w) (shape_after k d (inside2 k w) ∙ h) s
 
               asked_from : (k : ℕ) (ss : List Shape) (slots : List (Slot L g)) → length slots ≡ length ss → ((i : ℕ) (d : Slot L g) → i < length slots → (get_or slots i d).answer ≡ Some (Ok (asks_last false (part (k + i) a.log)))) →
                   list_any (λ (s : Slot L g). asks_in s.answer) slots ≡ some_ask_from k ss a.log
@@ -251,16 +251,16 @@ module _ {L : Type 0} {g : Ghosts L} (view : L → View) where
                   ap₂ ◌||◌ (ap asks_in (each 0 x (omega arith)) ∙ ap (λ (n : ℕ). asks_last false (part n a.log)) place)
                   (asked_from (suc k) ss slots (omega (arith, len)) (λ i d w. let next : suc k + i ≡ k + suc i = omega arith in each (suc i) d (omega (arith, w)) ∙ ap (λ (n : ℕ). Some (Ok (asks_last false (part n a.log)))) (sym next)))
 
-              asked_is : (asked : Bool) → asked ≡ list_any (λ (s : Slot L g). asks_in s.answer) behind → asked ≡ some_ask_from 0 (shapes (instances view olds)) a.log
+              asked_is : (asked : Bool) → asked ≡ list_any (λ (s : Slot L g). asks_in s.answer) after → asked ≡ some_ask_from 0 (shapes (instances view olds)) a.log
               asked_is asked is =
-                  is ∙ asked_from 0 (shapes (instances view olds)) behind (let x = length-map olds (λ (s : Slot L g). instance_in view s) in let y = length-map (instances view olds) (λ (i : Instance). i.view.fixed.shape) in omega (arith, x, y, len, len2))
+                  is ∙ asked_from 0 (shapes (instances view olds)) after (let x = length-map olds (λ (s : Slot L g). instance_in view s) in let y = length-map (instances view olds) (λ (i : Instance). i.view.fixed.shape) in omega (arith, x, y, len, len2))
                   (λ i d w. let place : 0 + i ≡ i = omega arith in (a.says.moved i d (inside2 i w)).tells refl false ∙ ap (λ (n : ℕ). Some (Ok (asks_last false (part n a.log)))) (sym place))
 
-              pub done : (asked : Bool) → asked ≡ list_any (λ (s : Slot L g). asks_in s.answer) behind → StepsOver view t step b olds news (Ok (record { point = m; asked = asked }))
+              pub done : (asked : Bool) → asked ≡ list_any (λ (s : Slot L g). asks_in s.answer) after → StepsOver view t step b olds news (Ok (record { point = m; asked = asked }))
               done asked is = record {
                 log = sends.log ++ (a.log ++ f.log);
                 told = told_on (instances view olds) (instances view mids) (instances view news) sends.log (a.log ++ f.log) sends.told
-                    (told_on (instances view mids) (instances view behind) (instances view news) a.log f.log a.told f.told);
+                    (told_on (instances view mids) (instances view after) (instances view news) a.log f.log a.told f.told);
                 steps = Done m f.log (record {
                   fits = fits;
                   saves = sends.log;
@@ -268,8 +268,8 @@ module _ {L : Type 0} {g : Ghosts L} (view : L → View) where
                   saved = saves_answered;
                   agrees = by_count a.log (Meets m) (a.says.comes (all_at t (shapes (instances view olds))) so_mid);
                   log_is = refl;
-                }) (subst (λ (ss : List Shape). IsAnswered ss (to_saved C.Free (shapes (instances view olds))) f.log) shapes_behind
-                    (subst (λ (cs : List Asking). IsAnswered (shapes (instances view behind)) cs f.log) frees_calls f.says))
+                }) (subst (λ (ss : List Shape). IsAnswered ss (to_saved C.Free (shapes (instances view olds))) f.log) shapes_after
+                    (subst (λ (cs : List ComponentCall). IsAnswered (shapes (instances view after)) cs f.log) frees_calls f.says))
                     (ap (λ (x : Bool). Ok (record { point = m; asked = x })) (asked_is asked is));
               }
 
@@ -296,5 +296,5 @@ module _ {L : Type 0} {g : Ghosts L} (view : L → View) where
     saves_badly early early_is news bad is s = record {
       log = s.log;
       told = s.told;
-      steps = SavesBadly bad (fits_all is) (subst (λ (cs : List Asking). FailsIn (shapes (instances view olds)) cs bad s.log) (saved_calls olds (shapes (instances view olds)) early C.Save refl early_is) s.says) refl;
+      steps = SavesBadly bad (fits_all is) (subst (λ (cs : List ComponentCall). FailsIn (shapes (instances view olds)) cs bad s.log) (saved_calls olds (shapes (instances view olds)) early C.Save refl early_is) s.says) refl;
     }

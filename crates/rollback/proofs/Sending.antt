@@ -1,5 +1,5 @@
 -- A turn sent over slots is a round over a log.
-use Rattle.std.proofs.Common.{◌≡◌, ℕ, zero, suc, ◌+◌, ◌-◌, ◌<◌, ◌==◌, Bool, true, false, not, List, [], ◌∷◌, Option, Some, None, Result, Ok, Err, refl, sym, ap, ap₂, ◌∙◌, subst, arith, length, get_or}
+use Rattle.std.proofs.Common.{◌≡◌, ℕ, zero, suc, ◌+◌, ◌-◌, ◌<◌, ◌==◌, Bool, true, false, not, List, [], ◌∷◌, Option, Some, None, Result, Ok, Err, refl, sym, ap, ap₂, ◌∙◌, subst, arith, is_some, length, get_or}
 use Rattle.std.specs.Prelude.{All, MatchOption, OnOk, nat_lt, ◌&&◌, ◌||◌, if◌then◌else◌}
 use Rattle.std.specs.List.{list_any}
 use Rattle.std.proofs.lemmas.List.Elements.{All-nil}
@@ -14,7 +14,7 @@ use Rattle.fmu_peer.specs.declared.slot.Slot.{Slot}
 use Rattle.fmu_peer.specs.CloseAll.{Instance, instance_in}
 use Rattle.fmu_peer.specs.View.{View}
 use Rattle.slot_calls.specs.Carried.{asks_to_end}
-use Rattle.slot_calls.specs.Log.{Asking, Told, Worth, part}
+use Rattle.slot_calls.specs.Log.{ComponentCall, Told, Worth, part}
 use Rattle.slot_calls.specs.Slots.{IsLive, instances}
 use Rattle.slot_calls.specs.Stage.{IsGoodOf, shapes}
 use Rattle.slot_calls.proofs.CallerLemmas.{told_none}
@@ -23,7 +23,7 @@ use Rattle.step_agreement.specs.Agreement.{Stand, to_some, to_some_from}
 use Rattle.parallel_step.specs.Lifted.{AllSent, IsOwn, Lifted, ask_of, bad_from, bad_of, bad_or, jobs_from}
 use Rattle.parallel_step.specs.Round.{CanWork, EachPair, WasSent, Works, call_in}
 use Rattle.parallel_step.proofs.CallerLemmas.{lifted, pairs_head, pairs_map, pairs_tail}
-use Rattle.rollback.specs.Places.{CanDo, GoodSent, SentTo, Sends, WithJob, call_of, is_sent, job_of, passes, stand_in, stands, with_job}
+use Rattle.rollback.specs.Places.{CanDo, GoodSent, SentTo, Sends, WithJob, call_of, is_sent, job_of, passes, stand_in, stands, told_by, with_job}
 use Rattle.rollback.specs.declared.asking.Turn.{Turn}
 use Rattle.rollback.specs.declared.asking.Turn.TheVariants as T
 use Rattle.rollback.specs.declared.places.Who.{Who}
@@ -51,11 +51,11 @@ job_call who T.Free s = by (passes who s) where
   by true = refl
   by false = refl
 
-ask_if : (b : Bool) (k : ℕ) (call : Call) (rest : List Asking) → ask_of k (if b then Some call else None) rest ≡ (if b then record { component = k; call = call } ∷ rest else rest)
+ask_if : (b : Bool) (k : ℕ) (call : Call) (rest : List ComponentCall) → ask_of k (if b then Some call else None) rest ≡ (if b then record { component = k; call = call } ∷ rest else rest)
 ask_if true k call rest = refl
 ask_if false k call rest = refl
 
-one_job : (who : Who) (turn : Turn) (k : ℕ) (s : Stand) (rest : List Asking) → ask_of k (call_in (job_of who turn s)) rest ≡ (if is_sent who turn s then record { component = k; call = call_of turn } ∷ rest else rest)
+one_job : (who : Who) (turn : Turn) (k : ℕ) (s : Stand) (rest : List ComponentCall) → ask_of k (call_in (job_of who turn s)) rest ≡ (if is_sent who turn s then record { component = k; call = call_of turn } ∷ rest else rest)
 one_job who turn k s rest = ap (λ (o : Option Call). ask_of k o rest) (job_call who turn s) ∙ ask_if (is_sent who turn s) k (call_of turn) rest
 
 -- where no two might return early, nobody is selected
@@ -126,7 +126,7 @@ module _ {L : Type 0} {g : Ghosts L} (view : L → View) (who : Who) (turn : Tur
   jobs_are k (o ∷ os) (m ∷ ms) p =
       let is : m ≡ with_job view who turn o = pairs_head (WithJob view who turn) o m os ms p in
       let place : suc k ≡ k + 1 = omega arith in
-      ap₂ (λ (s : Slot L g) (rest : List Asking). ask_of k (call_in s.job) rest) is (jobs_are (suc k) os ms (pairs_tail (WithJob view who turn) o m os ms p) ∙ ap (λ (n : ℕ). to_some_from n (is_sent who turn) (call_of turn) (stands view os)) place)
+      ap₂ (λ (s : Slot L g) (rest : List ComponentCall). ask_of k (call_in s.job) rest) is (jobs_are (suc k) os ms (pairs_tail (WithJob view who turn) o m os ms p) ∙ ap (λ (n : ℕ). to_some_from n (is_sent who turn) (call_of turn) (stands view os)) place)
       ∙ one_job who turn k (stand_in view o) (to_some_from (k + 1) (is_sent who turn) (call_of turn) (stands view os))
 
   same_instances : (olds mids : List (Slot L g)) → EachPair (WithJob view who turn) olds mids → instances view mids ≡ instances view olds
@@ -141,7 +141,7 @@ module _ {L : Type 0} {g : Ghosts L} (view : L → View) (who : Who) (turn : Tur
   none_asked : (k : ℕ) (olds : List (Slot L g)) → list_any (λ (s : Slot L g). is_sent who turn (stand_in view s)) olds ≡ false → to_some_from k (is_sent who turn) (call_of turn) (stands view olds) ≡ []
   none_asked k [] h = refl
   none_asked k (o ∷ os) h = by (is_sent who turn (stand_in view o)) h (none_asked (k + 1) os) where
-    rest : List Asking
+    rest : List ComponentCall
     rest = to_some_from (k + 1) (is_sent who turn) (call_of turn) (stands view os)
 
     others : Bool
@@ -175,7 +175,7 @@ module _ {L : Type 0} {g : Ghosts L} (view : L → View) (who : Who) (turn : Tur
 
     says : (b : Option BadAnswer) → bad_from 0 news ≡ b → AllSent (shapes (instances view olds)) (to_some (is_sent who turn) (call_of turn) (stands view olds)) l.log b
     says b is =
-        subst (λ (cs : List Asking). AllSent (shapes (instances view olds)) cs l.log b) (jobs_are 0 olds mids jobs)
+        subst (λ (cs : List ComponentCall). AllSent (shapes (instances view olds)) cs l.log b) (jobs_are 0 olds mids jobs)
         (subst (λ (x : List Instance). AllSent (shapes x) (jobs_from 0 mids) l.log b) (same_instances olds mids jobs) (subst (AllSent (shapes (instances view mids)) (jobs_from 0 mids) l.log) is l.says))
 
     pub sends_ok : bad_from 0 news ≡ None → Sends {T = Unit {0}} view who turn olds news (Ok tt)
@@ -190,3 +190,19 @@ module _ {L : Type 0} {g : Ghosts L} (view : L → View) (who : Who) (turn : Tur
 
     pub sends_bad : (bad : BadAnswer) → bad_from 0 news ≡ Some bad → Sends {T = Unit {0}} view who turn olds news (Err bad)
     sends_bad bad is = record { log = l.log; told = told; says = says (Some bad) is; well = tt }
+
+    -- by the first answer that isn't good, where there is one
+    pub sends_by : Sends view who turn olds news (told_by (bad_from 0 news))
+    sends_by = by (bad_from 0 news) refl where
+      by : (o : Option BadAnswer) → bad_from 0 news ≡ o → Sends view who turn olds news (told_by o)
+      by None is = sends_ok is
+      by (Some bad) is = sends_bad bad is
+
+-- where it is known whether one isn't good
+pub none_bad : (o : Option BadAnswer) → true ≡ not (is_some o) → o ≡ None
+none_bad None h = refl
+none_bad (Some bad) h = absurd (cc)
+
+pub some_bad : (o : Option BadAnswer) → false ≡ not (is_some o) → is_some o ≡ true
+some_bad None h = absurd (cc)
+some_bad (Some bad) h = refl

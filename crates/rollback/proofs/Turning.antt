@@ -23,7 +23,7 @@ use Rattle.rollback.specs.declared.agreeing.Turned.TheVariants.{Anew, Met}
 use Rattle.rollback.specs.declared.places.Who.TheVariants as W
 use Rattle.rollback.specs.declared.step_end.StepEnd.{StepEnd}
 use Rattle.rollback.proofs.Moving.{lower, moved_lower, moved_on}
-use Rattle.rollback.proofs.Resting.{are_at_so, reached_so, shapes_own, so_behind, stand_at, stands_own}
+use Rattle.rollback.proofs.Resting.{after_part, are_at_so, reached_so, shapes_own, stand_at, stands_own}
 
 pub unequal : (a b : ℕ) → not (a == b) ≡ true → a ≢ b
 unequal a b q = by (a == b) refl q where
@@ -74,7 +74,7 @@ module _ {L : Type 0} {g : Ghosts L} (view : L → View) where
 
     module _ (mids : List (Slot L g)) (len : length mids ≡ length olds) (first : AskedOver {T = Unit {0}} view t step W.Everyone W.Everyone b olds mids (Ok tt)) (m : ℕ) (m_is : m ≡ least t b mids) where
       so_mid : (ss : List Stand) → StandSo view ss olds → StandSo view (stands_by t ss first.log) mids
-      so_mid ss so = so_behind view t first.log ss olds mids so len (λ i d w. (first.says.1 i d w).stand)
+      so_mid ss so = after_part view t first.log ss olds mids so len (λ i d w. (first.says.1 i d w).stand)
 
       m_at : (ss : List Stand) → StandSo view ss olds → m ≡ reached t b (stands_by t ss first.log)
       m_at ss so = m_is ∙ sym (reached_so view (stands_by t ss first.log) mids (so_mid ss so) t b)
@@ -181,7 +181,7 @@ module _ {L : Type 0} {g : Ghosts L} (view : L → View) where
               (moved_on view t b m step (passes (W.Elsewhere m) (stand_in view (get_or mids i d))) (get_or olds i d) (get_or mids i d) (get_or news i d) (part i first.log) (part i next.log) (first.says.1 i d w) (next.says.1 i d inside)))
 
           so_new : (ss : List Stand) → StandSo view ss olds → StandSo view (stands_by t (stands_by t ss first.log) next.log) news
-          so_new ss so = so_behind view t next.log (stands_by t ss first.log) mids news (so_mid ss so) len2 (λ i d w. (next.says.1 i d w).stand)
+          so_new ss so = after_part view t next.log (stands_by t ss first.log) mids news (so_mid ss so) len2 (λ i d w. (next.says.1 i d w).stand)
 
           -- they met then
           pub met_next : are_all_at m news ≡ true → TurnOver view t step b olds news (Ok (Met m))
@@ -199,7 +199,7 @@ module _ {L : Type 0} {g : Ghosts L} (view : L → View) where
           }
 
           -- they didn't
-          module _ (behind : are_all_at m news ≡ false) (c : ℕ) (c_is : c ≡ least t m news) where
+          module _ (after : are_all_at m news ≡ false) (c : ℕ) (c_is : c ≡ least t m news) where
             abbrev mid : List Stand
             mid = stands_by t (stands view olds) first.log
 
@@ -209,8 +209,8 @@ module _ {L : Type 0} {g : Ghosts L} (view : L → View) where
             asks2 : Asks t step (ends_elsewhere t b r) (is_elsewhere r) r mid next.log
             asks2 = subst (λ (n : ℕ). Asks t step (ends_elsewhere t b n) (is_elsewhere n) n mid next.log) m_own (next.says.0 mid (so_mid (stands view olds) own_so))
 
-            behind_at : (ss : List Stand) → StandSo view ss olds → are_at m (stands_by t (stands_by t ss first.log) next.log) ≡ false
-            behind_at ss so = are_at_so view (stands_by t (stands_by t ss first.log) next.log) news (so_new ss so) m ∙ behind
+            after_at : (ss : List Stand) → StandSo view ss olds → are_at m (stands_by t (stands_by t ss first.log) next.log) ≡ false
+            after_at ss so = are_at_so view (stands_by t (stands_by t ss first.log) next.log) news (so_new ss so) m ∙ after
 
             c_at : (ss : List Stand) → StandSo view ss olds → c ≡ reached t m (stands_by t (stands_by t ss first.log) next.log)
             c_at ss so = c_is ∙ sym (reached_so view (stands_by t (stands_by t ss first.log) next.log) news (so_new ss so) t m)
@@ -218,19 +218,19 @@ module _ {L : Type 0} {g : Ghosts L} (view : L → View) where
             c_own : c ≡ reached t r (stands_by t mid next.log)
             c_own = c_at (stands view olds) own_so ∙ ap (λ (n : ℕ). reached t n (stands_by t mid next.log)) m_own
 
-            behind_own : are_at r (stands_by t mid next.log) ≡ false
-            behind_own = ap (λ (n : ℕ). are_at n (stands_by t mid next.log)) (sym m_own) ∙ behind_at (stands view olds) own_so
+            after_own : are_at r (stands_by t mid next.log) ≡ false
+            after_own = ap (λ (n : ℕ). are_at n (stands_by t mid next.log)) (sym m_own) ∙ after_at (stands view olds) own_so
 
             pub next_later : t < c
             next_later = subst (λ (n : ℕ). t < n) (sym c_own) (c_later t step b later (stands view olds) first.log asks next.log asks2)
 
             next_before : c < m
             next_before =
-                let l : reached t r (stands_by t mid next.log) < r = c_before t step b later (stands view olds) first.log asks next.log asks2 behind_own in
+                let l : reached t r (stands_by t mid next.log) < r = c_before t step b later (stands view olds) first.log asks next.log asks2 after_own in
                 let p = c_own in let q = m_own in omega (arith, l, p, q)
 
             two : 1 < early_count (shapes (instances view olds))
-            two = subst (λ (n : ℕ). 1 < n) early_same (two_at_last t step b later (stands view olds) first.log asks next.log asks2 behind_own)
+            two = subst (λ (n : ℕ). 1 < n) early_same (two_at_last t step b later (stands view olds) first.log asks next.log asks2 after_own)
 
             kept : All IsKept news
             kept = λ k d w.
@@ -245,7 +245,7 @@ module _ {L : Type 0} {g : Ghosts L} (view : L → View) where
               says = record {
                 goes = λ ss rest outcome so h.
                     GoesAnew b ss ((first.log ++ next.log) ++ rest) outcome m c first.log next.log rest (stands_by t ss first.log) (stands_by t (stands_by t ss first.log) next.log) (first.says.0 ss so) refl (m_at ss so) (apart_at ss so)
-                    (next.says.0 (stands_by t ss first.log) (so_mid ss so)) refl (behind_at ss so) (c_at ss so)
+                    (next.says.0 (stands_by t ss first.log) (so_mid ss so)) refl (after_at ss so) (c_at ss so)
                     (subst (λ (xs : List Stand). Agrees t step everyone c xs rest outcome) (stands_on t ss first.log next.log) h) (append_assoc first.log next.log rest);
                 moved = moved c (let l = next_before in omega (arith, l));
                 kept = kept;

@@ -34,6 +34,10 @@ abbrev pub IsFrom : ℕ → StepEnd → Type 0
 IsFrom t (FixedStep component at end) = at ≡ t
 IsFrom t (Bad bad) = Unit {0}
 
+-- it isn't made, by this answer
+abbrev pub IsBadStep : Option BadAnswer → StepEnd → Type 0
+IsBadStep answer end = (bad : BadAnswer) × answer ≡ Some bad × end ≡ Bad bad
+
 -- ---- what holds of a slot before an asking
 
 -- one that is selected is selected still once it stands at t again

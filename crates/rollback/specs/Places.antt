@@ -115,6 +115,11 @@ abbrev pub bad_in : {T : Type 0} → Result T BadAnswer → Option BadAnswer
 bad_in (Ok x) = None
 bad_in (Err bad) = Some bad
 
+-- as a result: the first answer that isn't good, where there is one
+abbrev pub told_by : Option BadAnswer → Result (Unit {0}) BadAnswer
+told_by None = Ok tt
+told_by (Some bad) = Err bad
+
 -- each FMU that is selected was sent the call and answered well
 abbrev pub SentWell : {L T : Type 0} {g : _} → (L → View) → Who → Turn → List (Slot L g) →
     List Sent → List (Slot L g) → Result T BadAnswer → Type 0

@@ -25,7 +25,7 @@ pub(crate) enum Turned {
 }
 
 /// Asks for steps from t to at most a bound until all stand at one point. Of `early` FMUs that might return early one alone is
-/// asked first; where there is none, all end at the bound.
+/// asked first.
 pub(crate) fn agree<R: Threads + Sync, L: Peer>(
     rt: &R,
     slots: &mut [Slot<L>],
@@ -43,44 +43,10 @@ pub(crate) fn agree<R: Threads + Sync, L: Peer>(
     requires home { All (IsAt L.view t) slots.old }
     ensures { AgreedOver L.view (asked_first early) t step bound slots.old slots.new result }
 {
-    if early == 0 {
-        ask_once(rt, slots, t, bound, step, workers)
-    } else if early == 1 {
+    if early == 1 {
         follow_one(rt, slots, t, bound, step, workers)
     } else {
         agree_all(rt, slots, t, bound, step, workers)
-    }
-}
-
-// Asks all for a step to the bound, where none might return early.
-#[inline(always)]
-fn ask_once<R: Threads + Sync, L: Peer>(
-    rt: &R,
-    slots: &mut [Slot<L>],
-    t: u64,
-    bound: u64,
-    step: u64,
-    workers: u32,
-) -> Result<u64, StepEnd>
-    requires few { length slots.old ≤ 2 ^ 32 }
-    requires later { t < bound }
-    requires none { early_count (shapes (instances L.view slots.old)) ≡ 0 }
-    requires placed { All (Placed L.view t bound step) slots.old }
-    requires home { All (IsAt L.view t) slots.old }
-    ensures { AgreedOver L.view everyone t step bound slots.old slots.new result }
-{
-    match ask_home(
-        rt,
-        slots,
-        Who::Everyone,
-        Who::Everyone,
-        t,
-        bound,
-        step,
-        workers,
-    ) {
-        Ok(()) => Ok(bound),
-        Err(end) => Err(end),
     }
 }
 

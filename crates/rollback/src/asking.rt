@@ -1,11 +1,12 @@
-ghost use Rattle.std.specs.Prelude.{◌≡◌, ◌≤◌, ◌^◌, All, length};
+ghost use Rattle.std.specs.Prelude.{◌≡◌, ◌≤◌, ◌^◌, All, Some, is_some, length, not, true};
+ghost use Rattle.parallel_step.specs.Lifted.{bad_from};
 ghost use Rattle.parallel_step.specs.Round.{EachPair};
 ghost use Rattle.std.specs.List.{list_any};
-ghost use Rattle.rollback.specs.Places.{CanAsk, CanDo, Sends, WithJob, is_sent, job_of, stand_in};
+ghost use Rattle.rollback.specs.Places.{CanAsk, CanDo, Sends, WithJob, is_sent, job_of, stand_in, told_by};
 
 use crate::places::{Who, passes, point_of};
 use fmu_peer::{Job, Peer, Slot};
-use parallel_step::{first_bad, round};
+use parallel_step::{first_bad, has_bad, round};
 use slot_calls::BadAnswer;
 use std::thread::Threads;
 
@@ -116,10 +117,43 @@ fn send_meant<R: Threads + Sync, L: Peer>(
     requires can { All (CanDo L.view who turn) slots.old }
     ensures { Sends L.view who turn slots.old slots.new result }
 {
+    if send_well(rt, slots, who, turn, workers) {
+        Ok(())
+    } else {
+        Err(bad_in(slots))
+    }
+}
+
+/// Sends the call of a turn to those that are selected, whatever they answer, and tells whether each answer is good.
+#[inline(always)]
+pub(crate) fn send_well<R: Threads + Sync, L: Peer>(
+    rt: &R,
+    slots: &mut [Slot<L>],
+    who: Who,
+    turn: Turn,
+    workers: u32,
+) -> bool
+    requires turn { CanAsk turn }
+    requires can { All (CanDo L.view who turn) slots.old }
+    ensures sends { Sends L.view who turn slots.old slots.new
+        (told_by (bad_from 0 slots.new)) }
+    ensures well { result ≡ not (is_some (bad_from 0 slots.new)) }
+{
     set_jobs(slots, who, turn);
     round(rt, slots, workers);
+    !has_bad(slots)
+}
+
+/// The first answer that isn't good, where there is one.
+#[cold]
+#[inline(never)]
+pub(crate) fn bad_in<L: Peer>(slots: &[Slot<L>]) -> BadAnswer
+    requires few { length slots.now ≤ 2 ^ 32 }
+    requires some { is_some (bad_from 0 slots.now) ≡ true }
+    ensures { bad_from 0 slots.now ≡ Some result }
+{
     match first_bad(slots) {
-        None => Ok(()),
-        Some(bad) => Err(bad),
+        Some(bad) => bad,
+        None => unreachable!(),
     }
 }

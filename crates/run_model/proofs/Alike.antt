@@ -22,7 +22,7 @@ use Rattle.system_model.specs.Carried.{carried}
 use Rattle.system_model.specs.declared.system.Feed.{Feed}
 use Rattle.system_model.specs.declared.system.Port.{Port}
 use Rattle.system_model.specs.declared.system.System.{System}
-use Rattle.system_model.specs.Ports.{numbers, is_output_role, is_clock_role}
+use Rattle.system_model.specs.Ports.{port_numbers, is_output_role, is_clock_role}
 use Rattle.system_model.specs.Needs.{DependsOn, Needs, ByClock, ByDependency}
 use Rattle.system_model.specs.Sound.{IsSound}
 use Rattle.system_model.proofs.CallerLemmas.{at_contains, found_under, true_false, Placed, place_of, is_output_of, is_input_of, events_of}
@@ -54,7 +54,7 @@ pub present_alike : (system : System) (p : ℕ) (port : Port) (V W : List (Optio
     ((q : ℕ) → Needs system p q → value V q ≡ value W q) → is_present port V ≡ is_present port W
 present_alike system p port V W is h =
     ap (λ b. is_clock_role port.role || length port.clocks == 0 || b)
-    (clocks_alike port.clocks V W (λ k c at. h c.0 (ByClock port is (at_contains (numbers port.clocks) k c.0 (slice_get-map (λ (x : PortId). x.0) port.clocks k ∙ ap (option_map (λ (x : PortId). x.0)) at)))))
+    (clocks_alike port.clocks V W (λ k c at. h c.0 (ByClock port is (at_contains (port_numbers port.clocks) k c.0 (slice_get-map (λ (x : PortId). x.0) port.clocks k ∙ ap (option_map (λ (x : PortId). x.0)) at)))))
 
 -- ---- what is written
 

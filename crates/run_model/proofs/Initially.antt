@@ -13,7 +13,7 @@ use Rattle.system_model.specs.declared.system.Role.{Role}
 use Rattle.system_model.specs.declared.system.Role.TheVariants.{Input, Output, ClockInput, ClockOutput, TimeClock}
 use Rattle.system_model.specs.declared.system.Port.{Port}
 use Rattle.system_model.specs.declared.system.System.{System}
-use Rattle.system_model.specs.Ports.{numbers, is_clock_role, is_output_role, source_of}
+use Rattle.system_model.specs.Ports.{port_numbers, is_clock_role, is_output_role, source_of}
 use Rattle.system_model.specs.Needs.{DependsOn, NeedsInitially, InitiallyByFeed, InitiallyByDependency, is_unclocked, is_unclocked_at}
 use Rattle.system_model.specs.Sound.{IsSound}
 use Rattle.system_model.proofs.CallerLemmas.{true_false, order_from, place_of}
@@ -160,7 +160,7 @@ needed_unclocked system p q (InitiallyByDependency here there d) = there
 pub solves_initially_same : (r : Run) → IsSound r.system → AreMachines r → (W Z : List (Option ℤ)) → SolvesInitially r W → SolvesInitially r Z → W ≡ Z
 solves_initially_same r sound machines W Z w z =
     let ports = r.system.ports in
-    let order = numbers r.system.initial_order in
+    let order = port_numbers r.system.initial_order in
     let none : Both r W Z = record { w = none_outside r W w; z = none_outside r Z z } in
     let at_port : (p : ℕ) → AlikeInitially r.system p W Z → value W p ≡ value Z p = λ p alike.
     (elim (slice_get ports p) as (λ o. slice_get ports p ≡ o → value W p ≡ value Z p) [

@@ -5,7 +5,7 @@ use Rattle.std.proofs.lemmas.List.{length-set, get_or-set_same, get_or-set_other
 use Rattle.std.proofs.lemmas.Bool.{cases_lt}
 use Rattle.std.proofs.lemmas.Option.{none-some as none_some, same_Some, slice_get_within}
 use Rattle.system_model.specs.declared.system.Port.{Port}
-use Rattle.system_model.specs.Ports.{numbers}
+use Rattle.system_model.specs.Ports.{port_numbers}
 use Rattle.system_model.specs.Needs.{NeedsInitially, is_unclocked, is_unclocked_at}
 use Rattle.system_model.specs.Sound.{IsSound}
 use Rattle.system_model.proofs.CallerLemmas.{IsOrderFrom, order_from}
@@ -86,7 +86,7 @@ length_nones n = length-replicate n None
 pub solvable_initially : (r : Run) → IsSound r.system → AreMachines r → (W : List (Option ℤ)) × SolvesInitially r W
 solvable_initially r sound machines =
     let n = length r.system.ports in
-    let order = numbers r.system.initial_order in
+    let order = port_numbers r.system.initial_order in
     let made = solve_from r sound machines [] order
     (record { values = nones n; places = length_nones n; outside = λ q port is out. none_at n q; solved = λ q port m is. absurd (none_in q m) })
     (λ p q m a. absurd (none_in p m)) (order_from (λ p. is_unclocked_at r.system.ports p ≡ true) (NeedsInitially r.system) order sound.initial_order [] order refl) in (

@@ -10,7 +10,7 @@ use Rattle.fmu_peer.specs.Machine.{written, all_written, IsLawful, IsMachineOf}
 use Rattle.system_model.specs.declared.system.Component.{Component}
 use Rattle.system_model.specs.declared.system.Port.{Port}
 use Rattle.system_model.specs.declared.system.System.{System}
-use Rattle.system_model.specs.Ports.{numbers, is_output_role}
+use Rattle.system_model.specs.Ports.{port_numbers, is_output_role}
 use Rattle.system_model.specs.Needs.{ByDependency, InitiallyByDependency, is_unclocked}
 use Rattle.system_model.specs.Sound.{IsSound}
 use Rattle.system_model.proofs.CallerLemmas.{contains_at, at_contains, true_false, own, place_of}
@@ -191,7 +191,7 @@ either false o e = sym e
 
 pub all_at_last : AllAtLast
 all_at_last system sound V i m s =
-    let order = numbers system.instant_order in
+    let order = port_numbers system.instant_order in
     let at_port = written_at_port system.ports V in
     ap (λ w. state_written system.ports w i m s) (funext (only_at order at_port) at_port (λ q.
     (elim (slice_get system.ports q) as (λ o. slice_get system.ports q ≡ o → only_at order at_port q ≡ at_port q) [
@@ -250,7 +250,7 @@ looks_initially r sound machines p port is output read W solves taken needed c m
 
 pub all_at_last_initially : AllAtLastInitially
 all_at_last_initially r sound W solves i m s =
-    let order = numbers r.system.initial_order in
+    let order = port_numbers r.system.initial_order in
     let at_port = written_at_port r.system.ports W in
     ap (λ w. state_written r.system.ports w i m s) (funext (only_at order at_port) at_port (λ q.
     (elim (slice_get r.system.ports q) as (λ o. slice_get r.system.ports q ≡ o → only_at order at_port q ≡ at_port q) [

@@ -6,7 +6,7 @@ use Rattle.std.proofs.lemmas.Option.{none-some as none_some, same_Some, slice_ge
 use Rattle.system_model.specs.declared.system.Role.{Role}
 use Rattle.system_model.specs.declared.system.Role.TheVariants.{Input, Output, ClockInput, ClockOutput, TimeClock}
 use Rattle.system_model.specs.declared.system.Port.{Port}
-use Rattle.system_model.specs.Ports.{numbers}
+use Rattle.system_model.specs.Ports.{port_numbers}
 use Rattle.system_model.specs.Needs.{Needs}
 use Rattle.system_model.specs.Sound.{IsSound}
 use Rattle.system_model.proofs.CallerLemmas.{IsOrderFrom, order_from}
@@ -82,7 +82,7 @@ solve_from r sound machines s fit decided V len taken (p ∷ rest) closed solved
 -- there is a solution
 pub solvable : (r : Run) → IsSound r.system → AreMachines r → (s : Situation) → AreStates r false s.states → AreDecided r s → (V : List (Option ℤ)) × Solves r s V
 solvable r sound machines s fit decided =
-    let order = numbers r.system.instant_order in
+    let order = port_numbers r.system.instant_order in
     let made = solve_from r sound machines s fit decided (replicate (length r.system.ports) None) (length-replicate (length r.system.ports) None) [] order
     (λ p q m n. absurd (none_in p m)) (λ q port m is. absurd (none_in q m)) (order_from (λ p. p < length r.system.ports) (Needs r.system) order sound.instant_order [] order refl) in
     (made.0, record { places = made.1; equations = λ p port is. made.2 p port (sound.instant_order.each p (slice_get_within r.system.ports p port is)) is })

@@ -7,7 +7,7 @@ use Rattle.std.proofs.lemmas.Option.{none-some as none_some}
 use Rattle.system_model.specs.declared.system.Role.{Role}
 use Rattle.system_model.specs.declared.system.Role.TheVariants.{Input, Output, ClockInput, ClockOutput, TimeClock}
 use Rattle.system_model.specs.declared.system.Port.{Port}
-use Rattle.system_model.specs.Ports.{numbers, is_output_role, is_clock_role, source_of}
+use Rattle.system_model.specs.Ports.{port_numbers, is_output_role, is_clock_role, source_of}
 use Rattle.system_model.specs.Needs.{Needs, ByFeed}
 use Rattle.system_model.specs.Sound.{IsSound}
 use Rattle.system_model.proofs.CallerLemmas.{IsOrderFrom, order_from}
@@ -87,12 +87,12 @@ value_past V p n len h = get_or_past V p None (subst (λ k. k ≤ p) (sym len) h
 pub solves_same : (r : Run) → IsSound r.system → AreMachines r → (s : Situation) → AreStates r false s.states → (V W : List (Option ℤ)) → Solves r s V → Solves r s W → V ≡ W
 solves_same r sound machines s fit V W v w =
     let ports = r.system.ports in
-    let agree : AgreeOn (numbers r.system.instant_order) V W = agree_along (Needs r.system) V W (λ taken p closed agree needed.
+    let agree : AgreeOn (port_numbers r.system.instant_order) V W = agree_along (Needs r.system) V W (λ taken p closed agree needed.
     (elim (slice_get ports p) as (λ o. slice_get ports p ≡ o → value V p ≡ value W p) [
       | None ↦ λ e. value_past V p (length ports) v.places (past ports p e) ∙ sym (value_past W p (length ports) w.places (past ports p e))
       | Some port ↦ λ e.
           let alike : Alike r.system p V W = record { direct = λ q n. agree q (needed q n); further = λ q c n m. agree c (closed q c (needed q n) m) } in
           value_same r sound machines s fit p port (value s.before p) V W e alike port.role refl (value V p) (value W p) (v.equations p port e) (w.equations p port e)
-    ]) refl) [] (numbers r.system.instant_order) (λ p q m n. absurd (none_in p m)) (λ q m. absurd (none_in q m))
-    (order_from (λ p. p < length ports) (Needs r.system) (numbers r.system.instant_order) sound.instant_order [] (numbers r.system.instant_order) refl) in
+    ]) refl) [] (port_numbers r.system.instant_order) (λ p q m n. absurd (none_in p m)) (λ q m. absurd (none_in q m))
+    (order_from (λ p. p < length ports) (Needs r.system) (port_numbers r.system.instant_order) sound.instant_order [] (port_numbers r.system.instant_order) refl) in
     ext_get_or None V W (v.places ∙ sym w.places) (λ p lt. agree p (sound.instant_order.each p (subst (λ n. p < n) v.places lt)))

@@ -6,7 +6,7 @@ use Rattle.fmu_peer.specs.Machine.{MachineState, Machine, output_of, written}
 use Rattle.system_model.specs.declared.system.Component.{Component}
 use Rattle.system_model.specs.declared.system.Port.{Port}
 use Rattle.system_model.specs.declared.system.System.{System}
-use Rattle.system_model.specs.Ports.{numbers, is_output_role}
+use Rattle.system_model.specs.Ports.{port_numbers, is_output_role}
 use Rattle.system_model.specs.Needs.{Needs, NeedsInitially}
 use Rattle.system_model.specs.Sound.{IsSound}
 use Rattle.run_model.specs.Run.{Run, Situation, IsFmu}
@@ -66,7 +66,7 @@ abbrev pub AllAtLast : Type 0
 AllAtLast =
     (system : System) → IsSound system →
     (V : List (Option ℤ)) (i : ℕ) (m : Machine) (s : MachineState) →
-    state_written system.ports (only_at (numbers system.instant_order)
+    state_written system.ports (only_at (port_numbers system.instant_order)
     (written_at_port system.ports V)) i m s ≡ state_with system.ports V i m s
 
 -- so it is in Initialization Mode once all ports without Clocks were
@@ -74,7 +74,7 @@ abbrev pub AllAtLastInitially : Type 0
 AllAtLastInitially =
     (r : Run) → IsSound r.system → (W : List (Option ℤ)) → SolvesInitially r W →
     (i : ℕ) (m : Machine) (s : MachineState) →
-    state_written r.system.ports (only_at (numbers r.system.initial_order)
+    state_written r.system.ports (only_at (port_numbers r.system.initial_order)
     (written_at_port r.system.ports W)) i m s ≡ state_with r.system.ports W i m s
 
 -- once what it needs was taken, an output shows what it shows with all values written

@@ -20,7 +20,7 @@ use Rattle.system_model.specs.declared.system.System.{System}
 use Rattle.run_model.specs.Behaved.{WellBehaved}
 use Rattle.run_model.specs.Run.{Run}
 use Rattle.calling_sequence.specs.declared.run_end.RunEnd.{RunEnd}
-use Rattle.step_master.specs.Traced.{TellMachines}
+use Rattle.step_master.specs.Traced.{AreMachinesOf}
 use Rattle.system_files.specs.declared.loaded.Loaded.{Loaded}
 use Rattle.run_program.specs.Runs.{Broke, HasRun, Task, Traces, Went}
 use Rattle.run_program.specs.Happened.{Scene}
@@ -62,7 +62,7 @@ module _ (behave : BuiltInsBehaveWell) (task : Task) (system : System) (end : Ru
   abbrev run : Run
   run = record { system = system; bound = task.bound; machines = map machine_in olds; plan = task.plan }
 
-  tell : TellMachines olds (map machine_in olds)
+  tell : AreMachinesOf olds (map machine_in olds)
   tell = record {
     count = length-map olds machine_in;
     each = λ i v m of_v of_m.

@@ -19,7 +19,7 @@ use Rattle.system_model.specs.declared.system.System.{System}
 use Rattle.slot_calls.specs.declared.bad_answer.BadAnswer.{BadAnswer}
 use Rattle.calling_sequence.specs.declared.run_end.RunEnd.{RunEnd}
 use Rattle.calling_sequence.specs.declared.run_end.RunEnd.TheVariants as E
-use Rattle.step_master.specs.Lives.{AreGood, AreLives, EndsLives, IsLeastBad, IsLife, Life, shape_in, talk_in, talks_in}
+use Rattle.step_master.specs.Histories.{AreGood, ArePeerHistories, EndsHistories, IsLeastBad, IsPeerHistory, PeerHistory, shape_in, talk_in, talks_in}
 use Rattle.slot_calls.specs.SavedStates.{IsOfClosing, IsParted, Talk}
 use Rattle.slot_calls.specs.Log.{Sent}
 use Rattle.run_program.specs.declared.outcome.Outcome.{Outcome}
@@ -32,41 +32,41 @@ use Rattle.run_program.specs.Runs.{Broke, HasRun, IsEndOf, IsUnasked, RunsPeers,
 use Rattle.run_program.proofs.Exactly.{answers}
 use Rattle.run_program.proofs.FirstBad.{in_run, no_bad, one_bad}
 use Rattle.run_program.proofs.Outs.{TellsOut, tells_out}
-use Rattle.run_program.proofs.PeerLemmas.{all_got, compare, mapped_at, slice_get-take_front, started_at}
+use Rattle.run_program.proofs.PeerLemmas.{all_got, compare, mapped_at, slice_get-take_prefix, started_at}
 use Rattle.run_program.proofs.Runs.{HasRunOne, ran_put}
 use Rattle.run_program.proofs.When.{HasPut}
 
 -- the histories of a run's peers, and how its end is told by them
-pub record Lives (task : Task) (system : System) (end : RunEnd) (old new : Scene) : Type 0 where
+pub record Histories (task : Task) (system : System) (end : RunEnd) (old new : Scene) : Type 0 where
   pub olds : List View
   pub news : List View
   pub peers : RunsPeers task system olds news old.spawner new.spawner
   pub log : List Sent
-  pub lives : List Life
-  pub are : AreLives system olds news log lives
-  pub ends : EndsLives end lives
+  pub histories : List PeerHistory
+  pub are : ArePeerHistories system olds news log histories
+  pub ends : EndsHistories end histories
 
-pub lives_of : (task : Task) (system : System) (end : RunEnd) (old new : Scene) → HasRun task system end old new → Lives task system end old new
-lives_of task system end old new (Went g) =
+pub histories_of : (task : Task) (system : System) (end : RunEnd) (old new : Scene) → HasRun task system end old new → Histories task system end old new
+histories_of task system end old new (Went g) =
     let t = g.traces in
     let a = t.account in
     record {
       olds = a.olds;
       news = a.news;
       peers = t.peers;
-      log = g.lived.made ++ g.lived.log;
-      lives = g.lived.lives;
-      are = subst (λ (s : System). AreLives s a.olds a.news (g.lived.made ++ g.lived.log) g.lived.lives) t.system_is g.lived.are;
-      ends = subst (λ (e : RunEnd). EndsLives e g.lived.lives) t.end_is g.lived.ends;
+      log = g.session.made ++ g.session.log;
+      histories = g.session.histories;
+      are = subst (λ (s : System). ArePeerHistories s a.olds a.news (g.session.made ++ g.session.log) g.session.histories) t.system_is g.session.are;
+      ends = subst (λ (e : RunEnd). EndsHistories e g.session.histories) t.end_is g.session.ends;
     }
-lives_of task system end old new (Broke bad is f) = record {
+histories_of task system end old new (Broke bad is f) = record {
   olds = f.traces.account.olds;
   news = f.traces.account.news;
   peers = f.traces.peers;
   log = f.unmade.log;
-  lives = f.unmade.lives;
+  histories = f.unmade.histories;
   are = f.unmade.are;
-  ends = subst (λ (e : RunEnd). EndsLives e f.unmade.lives) (sym is) f.unmade.least;
+  ends = subst (λ (e : RunEnd). EndsHistories e f.unmade.histories) (sym is) f.unmade.least;
 }
 
 -- ---- lists
@@ -82,18 +82,18 @@ talk_there peers talks k v same here =
 -- ---- a peer
 
 -- the history of a peer that tells its talk
-record Found (talks : List Talk) (lives : List Life) (olds : List View) (k : ℕ) (v : View) (talk : List Exchange) : Type 0 where
-  life : Life
-  here : slice_get lives k ≡ Some life
-  is : IsLife life
-  old : slice_get olds k ≡ Some life.old
-  new : life.new ≡ v
-  talk_is : talk ≡ life.run ++ life.closing
-  parted : IsParted talks (shape_in life) life.run life.closing
+record Found (talks : List Talk) (histories : List PeerHistory) (olds : List View) (k : ℕ) (v : View) (talk : List Exchange) : Type 0 where
+  history : PeerHistory
+  here : slice_get histories k ≡ Some history
+  is : IsPeerHistory history
+  old : slice_get olds k ≡ Some history.old
+  new : history.new ≡ v
+  talk_is : talk ≡ history.run ++ history.closing
+  parted : IsParted talks (shape_in history) history.run history.closing
 
-told_talk : (life : Life) (v : View) (talk : List Exchange) → life.new ≡ v → v.talk ≡ Some talk → IfSome life.new.talk (λ (es : List Exchange). es ≡ talk_in life) → talk ≡ talk_in life
-told_talk life v talk same told h =
-    subst (λ (o : Option (List Exchange)). IfSome o (λ (es : List Exchange). es ≡ talk_in life)) (ap (λ (x : View). x.talk) same ∙ told) h
+told_talk : (history : PeerHistory) (v : View) (talk : List Exchange) → history.new ≡ v → v.talk ≡ Some talk → IfSome history.new.talk (λ (es : List Exchange). es ≡ talk_in history) → talk ≡ talk_in history
+told_talk history v talk same told h =
+    subst (λ (o : Option (List Exchange)). IfSome o (λ (es : List Exchange). es ≡ talk_in history)) (ap (λ (x : View). x.talk) same ∙ told) h
 
 talk_at : (peers : List View) (talks : List (List Exchange)) (k : ℕ) (v : View) (talk : List Exchange) → map (λ (x : View). x.talk) peers ≡ map (λ (es : List Exchange). Some es) talks →
     slice_get peers k ≡ Some v → slice_get talks k ≡ Some talk → v.talk ≡ Some talk
@@ -103,22 +103,22 @@ talk_at peers talks k v talk same here there =
     ∙ slice_get-map (λ (es : List Exchange). Some es) talks k ∙ ap (option_map (λ (es : List Exchange). Some es)) there)
 
 -- the talks that peers tell are those of their histories
-whole_talk : (life : Life) (talk : List Exchange) → IsLife life → life.new.talk ≡ Some talk → unwrap_or life.new.talk [] ≡ talk_in life
-whole_talk life talk is told = ap (λ (o : Option (List Exchange)). unwrap_or o []) told ∙ told_talk life life.new talk refl told is.talk
+whole_talk : (history : PeerHistory) (talk : List Exchange) → IsPeerHistory history → history.new.talk ≡ Some talk → unwrap_or history.new.talk [] ≡ talk_in history
+whole_talk history talk is told = ap (λ (o : Option (List Exchange)). unwrap_or o []) told ∙ told_talk history history.new talk refl told is.talk
 
 abbrev talk_record : Shape → List Exchange → Talk
 talk_record shape exchanges = record { shape = shape; exchanges = exchanges }
 
-told_life : (life : Life) (talk : List Exchange) → IsLife life → life.new.talk ≡ Some talk →
-    talk_record life.new.fixed.shape (unwrap_or life.new.talk []) ≡ talk_record (shape_in life) (talk_in life)
-told_life life talk is told = ap₂ talk_record (ap (λ (f : Fixed). f.shape) is.fixed) (whole_talk life talk is told)
+told_history : (history : PeerHistory) (talk : List Exchange) → IsPeerHistory history → history.new.talk ≡ Some talk →
+    talk_record history.new.fixed.shape (unwrap_or history.new.talk []) ≡ talk_record (shape_in history) (talk_in history)
+told_history history talk is told = ap₂ talk_record (ap (λ (f : Fixed). f.shape) is.fixed) (whole_talk history talk is told)
 
-talks_same : (lives : List Life) (talks : List (List Exchange)) → All IsLife lives → map (λ (v : View). v.talk) (map (λ (l : Life). l.new) lives) ≡ map (λ (es : List Exchange). Some es) talks →
-    talks_of (map (λ (l : Life). l.new) lives) ≡ talks_in lives
+talks_same : (histories : List PeerHistory) (talks : List (List Exchange)) → All IsPeerHistory histories → map (λ (v : View). v.talk) (map (λ (l : PeerHistory). l.new) histories) ≡ map (λ (es : List Exchange). Some es) talks →
+    talks_of (map (λ (l : PeerHistory). l.new) histories) ≡ talks_in histories
 talks_same [] talks each same = refl
-talks_same (l ∷ lives) [] each same = absurd (cc)
-talks_same (l ∷ lives) (es ∷ talks) each same =
-    ap₂ ◌∷◌ (told_life l es (All-head IsLife l lives each) (first same)) (talks_same lives talks (All-tail IsLife l lives each) (rest same))
+talks_same (l ∷ histories) [] each same = absurd (cc)
+talks_same (l ∷ histories) (es ∷ talks) each same =
+    ap₂ ◌∷◌ (told_history l es (All-head IsPeerHistory l histories each) (first same)) (talks_same histories talks (All-tail IsPeerHistory l histories each) (rest same))
   where
     first : {a b : Option (List Exchange)} {xs ys : List (Option (List Exchange))} → a ∷ xs ≡ b ∷ ys → a ≡ b
     first h = cc
@@ -126,101 +126,101 @@ talks_same (l ∷ lives) (es ∷ talks) each same =
     rest : {a b : Option (List Exchange)} {xs ys : List (Option (List Exchange))} → a ∷ xs ≡ b ∷ ys → xs ≡ ys
     rest h = cc
 
-module _ (task : Task) (system : System) (end : RunEnd) (old new : Scene) (l : Lives task system end old new) where
+module _ (task : Task) (system : System) (end : RunEnd) (old new : Scene) (l : Histories task system end old new) where
   found : (talks : List (List Exchange)) (k : ℕ) (v : View) (talk : List Exchange) → map (λ (x : View). x.talk) l.news ≡ map (λ (es : List Exchange). Some es) talks →
-      slice_get l.news k ≡ Some v → slice_get talks k ≡ Some talk → Found (talks_of l.news) l.lives l.olds k v talk
+      slice_get l.news k ≡ Some v → slice_get talks k ≡ Some talk → Found (talks_of l.news) l.histories l.olds k v talk
   found talks k v talk same here there =
-      let at = mapped_at (λ (x : Life). x.new) l.lives k v (ap (λ xs. slice_get xs k) l.are.news_are ∙ here) in
-      let life : Life = at.0 in
-      let is : IsLife life = all_got IsLife l.lives k life l.are.each at.1 in
+      let at = mapped_at (λ (x : PeerHistory). x.new) l.histories k v (ap (λ xs. slice_get xs k) l.are.news_are ∙ here) in
+      let history : PeerHistory = at.0 in
+      let is : IsPeerHistory history = all_got IsPeerHistory l.histories k history l.are.each at.1 in
       record {
-        life = life;
+        history = history;
         here = at.1;
         is = is;
-        old = ap (λ xs. slice_get xs k) (sym l.are.olds_are) ∙ slice_get-map (λ (x : Life). x.old) l.lives k ∙ ap (option_map (λ (x : Life). x.old)) at.1;
+        old = ap (λ xs. slice_get xs k) (sym l.are.olds_are) ∙ slice_get-map (λ (x : PeerHistory). x.old) l.histories k ∙ ap (option_map (λ (x : PeerHistory). x.old)) at.1;
         new = at.2;
-        talk_is = told_talk life v talk at.2 (talk_at l.news talks k v talk same here there) is.talk;
-        parted = all_got (λ (x : Life). IsParted (talks_of l.news) (shape_in x) x.run x.closing) l.lives k life
-            (subst (λ (ts : List Talk). All (λ (x : Life). IsParted ts (shape_in x) x.run x.closing) l.lives)
-            (sym (talks_same l.lives talks l.are.each (ap (map (λ (x : View). x.talk)) l.are.news_are ∙ same)) ∙ ap talks_of l.are.news_are) l.are.parted) at.1;
+        talk_is = told_talk history v talk at.2 (talk_at l.news talks k v talk same here there) is.talk;
+        parted = all_got (λ (x : PeerHistory). IsParted (talks_of l.news) (shape_in x) x.run x.closing) l.histories k history
+            (subst (λ (ts : List Talk). All (λ (x : PeerHistory). IsParted ts (shape_in x) x.run x.closing) l.histories)
+            (sym (talks_same l.histories talks l.are.each (ap (map (λ (x : View). x.talk)) l.are.news_are ∙ same)) ∙ ap talks_of l.are.news_are) l.are.parted) at.1;
       }
 
-  shape_same : (k : ℕ) (v : View) (talk : List Exchange) (f : Found (talks_of l.news) l.lives l.olds k v talk) → v.fixed.shape ≡ f.life.old.fixed.shape
+  shape_same : (k : ℕ) (v : View) (talk : List Exchange) (f : Found (talks_of l.news) l.histories l.olds k v talk) → v.fixed.shape ≡ f.history.old.fixed.shape
   shape_same k v talk f = ap (λ (x : Fixed). x.shape) (sym (ap (λ (x : View). x.fixed) f.new) ∙ f.is.fixed)
 
   -- a first bad answer that the peer tells is one of its run
-  bad_in : (k : ℕ) (v : View) (talk : List Exchange) (why : Why) (f : Found (talks_of l.news) l.lives l.olds k v talk) → (b : IsFirstBadOf (talks_of l.news) v.fixed.shape why talk) →
-      (rest : List Exchange) × (f.life.run ≡ b.front ++ b.last ∷ rest)
-  bad_in k v talk why f b = in_run (talks_of l.news) (shape_in f.life) f.life.run f.life.closing talk b.front b.rest b.last f.talk_is f.parted b.is
-      (subst (λ (shape : Shape). IsOfClosing (talks_of l.news) shape b.front b.last.call b.rest → ⊥) (shape_same k v talk f) b.of_run)
+  bad_in : (k : ℕ) (v : View) (talk : List Exchange) (why : Why) (f : Found (talks_of l.news) l.histories l.olds k v talk) → (b : IsFirstBadOf (talks_of l.news) v.fixed.shape why talk) →
+      (rest : List Exchange) × (f.history.run ≡ b.prefix ++ b.last ∷ rest)
+  bad_in k v talk why f b = in_run (talks_of l.news) (shape_in f.history) f.history.run f.history.closing talk b.prefix b.rest b.last f.talk_is f.parted b.is
+      (subst (λ (shape : Shape). IsOfClosing (talks_of l.news) shape b.prefix b.last.call b.rest → ⊥) (shape_same k v talk f) b.of_run)
 
   -- its name is that of its component
-  name_is : (k : ℕ) (v : View) (talk : List Exchange) (name : List ℕ) (f : Found (talks_of l.news) l.lives l.olds k v talk) → IsSomeAnd v.fixed.origin (λ (o : Origin). o.name ≡ name) → slice_get (names_of system).components k ≡ Some name
+  name_is : (k : ℕ) (v : View) (talk : List Exchange) (name : List ℕ) (f : Found (talks_of l.news) l.histories l.olds k v talk) → IsSomeAnd v.fixed.origin (λ (o : Origin). o.name ≡ name) → slice_get (names_of system).components k ≡ Some name
   name_is k v talk name f h =
-      let s = started_at task.host task.folders system.components l.olds k f.life.old l.peers.are f.old in
+      let s = started_at task.host task.folders system.components l.olds k f.history.old l.peers.are f.old in
       let origin = ap (λ (x : Fixed). x.origin) (sym (ap (λ (x : View). x.fixed) f.new) ∙ f.is.fixed) ∙ s.2.1.origin in
       let same : s.0.name ≡ name = subst (λ (o : Option Origin). IsSomeAnd o (λ (x : Origin). x.name ≡ name)) origin h in
       slice_get-map (λ (c : Component). c.name) system.components k ∙ ap (option_map (λ (c : Component). c.name)) s.1 ∙ ap Some same
 
-  bad_here : (k : ℕ) (v : View) (talk : List Exchange) (why : Why) (f : Found (talks_of l.news) l.lives l.olds k v talk) → (b : IsFirstBadOf (talks_of l.news) v.fixed.shape why talk) → IsWhy f.life.old.fixed.shape why b.last
+  bad_here : (k : ℕ) (v : View) (talk : List Exchange) (why : Why) (f : Found (talks_of l.news) l.histories l.olds k v talk) → (b : IsFirstBadOf (talks_of l.news) v.fixed.shape why talk) → IsWhy f.history.old.fixed.shape why b.last
   bad_here k v talk why f b = subst (λ (s : Shape). IsWhy s why b.last) (shape_same k v talk f) b.bad
 
-  front_here : (k : ℕ) (v : View) (talk : List Exchange) (why : Why) (f : Found (talks_of l.news) l.lives l.olds k v talk) → (b : IsFirstBadOf (talks_of l.news) v.fixed.shape why talk) → T.AllGood f.life.old.fixed.shape b.front
-  front_here k v talk why f b = subst (λ (s : Shape). T.AllGood s b.front) (shape_same k v talk f) b.good
+  prefix_here : (k : ℕ) (v : View) (talk : List Exchange) (why : Why) (f : Found (talks_of l.news) l.histories l.olds k v talk) → (b : IsFirstBadOf (talks_of l.news) v.fixed.shape why talk) → T.AllGood f.history.old.fixed.shape b.prefix
+  prefix_here k v talk why f b = subst (λ (s : Shape). T.AllGood s b.prefix) (shape_same k v talk f) b.good
 
   -- where the run's answers are good there is none
-  good_none : {A : Type 0} (k : ℕ) (v : View) (talk : List Exchange) (why : Why) (f : Found (talks_of l.news) l.lives l.olds k v talk) → IsFirstBadOf (talks_of l.news) v.fixed.shape why talk → T.AllGood f.life.old.fixed.shape f.life.run → A
+  good_none : {A : Type 0} (k : ℕ) (v : View) (talk : List Exchange) (why : Why) (f : Found (talks_of l.news) l.histories l.olds k v talk) → IsFirstBadOf (talks_of l.news) v.fixed.shape why talk → T.AllGood f.history.old.fixed.shape f.history.run → A
   good_none k v talk why f b good =
       let r = bad_in k v talk why f b in
-      no_bad f.life.old.fixed.shape f.life.run why b.front r.0 b.last good r.1 (bad_here k v talk why f b)
+      no_bad f.history.old.fixed.shape f.history.run why b.prefix r.0 b.last good r.1 (bad_here k v talk why f b)
 
   -- the peer of the least bad answer tells it
-  tells_bad : (talks : List (List Exchange)) (bad : BadAnswer) (least : IsLeastBad bad l.lives) (v : View) (talk : List Exchange) → (f : Found (talks_of l.news) l.lives l.olds bad.component.0 v talk) → IsFirstBadOf (talks_of l.news) v.fixed.shape bad.why talk
+  tells_bad : (talks : List (List Exchange)) (bad : BadAnswer) (least : IsLeastBad bad l.histories) (v : View) (talk : List Exchange) → (f : Found (talks_of l.news) l.histories l.olds bad.component.0 v talk) → IsFirstBadOf (talks_of l.news) v.fixed.shape bad.why talk
   tells_bad talks bad least v talk f =
-      let same : least.life ≡ f.life = same_Some least.life f.life (sym least.here ∙ f.here) in
-      let first : IsFirstBad f.life.old.fixed.shape bad.why f.life.run = subst (λ (x : Life). IsFirstBad x.old.fixed.shape bad.why x.run) same least.first in
-      let back = λ (P : Shape → Type 0) (p : P f.life.old.fixed.shape). subst P (sym (shape_same bad.component.0 v talk f)) p in
+      let same : least.history ≡ f.history = same_Some least.history f.history (sym least.here ∙ f.here) in
+      let first : IsFirstBad f.history.old.fixed.shape bad.why f.history.run = subst (λ (x : PeerHistory). IsFirstBad x.old.fixed.shape bad.why x.run) same least.first in
+      let back = λ (P : Shape → Type 0) (p : P f.history.old.fixed.shape). subst P (sym (shape_same bad.component.0 v talk f)) p in
       record {
-        front = first.front;
+        prefix = first.prefix;
         last = first.last;
-        rest = f.life.closing;
-        is = f.talk_is ∙ ap (λ (es : List Exchange). es ++ f.life.closing) first.is ∙ append_assoc first.front (first.last ∷ []) f.life.closing;
-        good = back (λ s. T.AllGood s first.front) first.good;
+        rest = f.history.closing;
+        is = f.talk_is ∙ ap (λ (es : List Exchange). es ++ f.history.closing) first.is ∙ append_assoc first.prefix (first.last ∷ []) f.history.closing;
+        good = back (λ s. T.AllGood s first.prefix) first.good;
         bad = back (λ s. IsWhy s bad.why first.last) first.bad;
-        of_run = f.parted.of_run first.front [] first.last first.is;
+        of_run = f.parted.of_run first.prefix [] first.last first.is;
       }
 
   -- of two answers that aren't good the one is the other
   module _ (talks : List (List Exchange)) (told : map (λ (x : View). x.talk) l.news ≡ map (λ (es : List Exchange). Some es) talks) (name : List ℕ) (why : Why) (b : IsLeastBadOf l.news talks name why) where
-    mine : Found (talks_of l.news) l.lives l.olds b.place b.peer b.talk
+    mine : Found (talks_of l.news) l.histories l.olds b.place b.peer b.talk
     mine = found talks b.place b.peer b.talk told b.here b.told
 
-    pub all_good : {A : Type 0} → AreGood l.lives → A
-    all_good good = good_none b.place b.peer b.talk why mine b.first (all_got (λ (x : Life). T.AllGood (shape_in x) x.run) l.lives b.place mine.life good mine.here)
+    pub all_good : {A : Type 0} → AreGood l.histories → A
+    all_good good = good_none b.place b.peer b.talk why mine b.first (all_got (λ (x : PeerHistory). T.AllGood (shape_in x) x.run) l.histories b.place mine.history good mine.here)
 
-    pub same_bad : (bad : BadAnswer) (other : List ℕ) → IsLeastBad bad l.lives → slice_get (names_of system).components bad.component.0 ≡ Some other → (other ≡ name) × (bad.why ≡ why)
+    pub same_bad : (bad : BadAnswer) (other : List ℕ) → IsLeastBad bad l.histories → slice_get (names_of system).components bad.component.0 ≡ Some other → (other ≡ name) × (bad.why ≡ why)
     same_bad bad other least named = by (compare b.place bad.component.0)
       where
         by : (b.place < bad.component.0) ⊎ ((b.place ≡ bad.component.0) ⊎ (bad.component.0 < b.place)) → (other ≡ name) × (bad.why ≡ why)
         by (inl before) =
-            let there : slice_get (take bad.component.0 l.lives) b.place ≡ Some mine.life = slice_get-take_front l.lives bad.component.0 b.place before ∙ mine.here in
-            good_none b.place b.peer b.talk why mine b.first (all_got (λ (x : Life). T.AllGood (shape_in x) x.run) (take bad.component.0 l.lives) b.place mine.life least.before there)
+            let there : slice_get (take bad.component.0 l.histories) b.place ≡ Some mine.history = slice_get-take_prefix l.histories bad.component.0 b.place before ∙ mine.here in
+            good_none b.place b.peer b.talk why mine b.first (all_got (λ (x : PeerHistory). T.AllGood (shape_in x) x.run) (take bad.component.0 l.histories) b.place mine.history least.before there)
         by (inr (inl same)) =
-            let life_is : least.life ≡ mine.life = same_Some least.life mine.life (sym least.here ∙ ap (slice_get l.lives) (sym same) ∙ mine.here) in
-            let first : IsFirstBad mine.life.old.fixed.shape bad.why mine.life.run = subst (λ (x : Life). IsFirstBad x.old.fixed.shape bad.why x.run) life_is least.first in
+            let history_is : least.history ≡ mine.history = same_Some least.history mine.history (sym least.here ∙ ap (slice_get l.histories) (sym same) ∙ mine.here) in
+            let first : IsFirstBad mine.history.old.fixed.shape bad.why mine.history.run = subst (λ (x : PeerHistory). IsFirstBad x.old.fixed.shape bad.why x.run) history_is least.first in
             let r = bad_in b.place b.peer b.talk why mine b.first in (
               same_Some other name (sym named ∙ ap (slice_get (names_of system).components) (sym same) ∙ name_is b.place b.peer b.talk name mine b.named),
-              one_bad mine.life.old.fixed.shape mine.life.run b.first.front r.0 b.first.last bad.why why first r.1 (front_here b.place b.peer b.talk why mine b.first) (bad_here b.place b.peer b.talk why mine b.first),
+              one_bad mine.history.old.fixed.shape mine.history.run b.first.prefix r.0 b.first.last bad.why why first r.1 (prefix_here b.place b.peer b.talk why mine b.first) (bad_here b.place b.peer b.talk why mine b.first),
             )
-        by (inr (inr behind)) =
-            let v = least.life.new in
-            let at : slice_get l.news bad.component.0 ≡ Some v = ap (λ xs. slice_get xs bad.component.0) (sym l.are.news_are) ∙ slice_get-map (λ (x : Life). x.new) l.lives bad.component.0 ∙ ap (option_map (λ (x : Life). x.new)) least.here in
+        by (inr (inr after)) =
+            let v = least.history.new in
+            let at : slice_get l.news bad.component.0 ≡ Some v = ap (λ xs. slice_get xs bad.component.0) (sym l.are.news_are) ∙ slice_get-map (λ (x : PeerHistory). x.new) l.histories bad.component.0 ∙ ap (option_map (λ (x : PeerHistory). x.new)) least.here in
             let talk = talk_there l.news talks bad.component.0 v told at in
-            absurd (b.before bad.component.0 v talk.0 bad.why behind at talk.1 (tells_bad talks bad least v talk.0 (found talks bad.component.0 v talk.0 told at talk.1)))
+            absurd (b.before bad.component.0 v talk.0 bad.why after at talk.1 (tells_bad talks bad least v talk.0 (found talks bad.component.0 v talk.0 told at talk.1)))
 
 -- ---- the outcome
 
-end_decides : (task : Task) (system : System) (end : RunEnd) (e : End) (h : Happened) (l : Lives task system end h.old.run h.new.run) (talks : List (List Exchange)) →
+end_decides : (task : Task) (system : System) (end : RunEnd) (e : End) (h : Happened) (l : Histories task system end h.old.run h.new.run) (talks : List (List Exchange)) →
     map (λ (x : View). x.talk) l.news ≡ map (λ (es : List Exchange). Some es) talks → (name : List ℕ) (why : Why) → IsLeastBadOf l.news talks name why → IsEndOf (names_of system) end e →
     Reports (end_message e) (end_status e) h.status h.err h.err_after → (Rose h.old.run.out.faults h.new.run.out.faults → ⊥) → TellsOut end h.old.run.out.faults h.new.run.out.faults → Answers h (why_status why) (bad_message name why)
 end_decides task system E.Stop e h l talks told name why b named p quiet outs = all_good task system E.Stop h.old.run h.new.run l talks told name why b l.ends
@@ -241,15 +241,15 @@ decides o h p (inl idle) peers talks name why told b =
     let same : peers ≡ idle.peers = append_cancel_left h.old.run.spawner.retired peers idle.peers (sym told.retired ∙ idle.retired) in
     let quiet : IsUnasked b.peer = all_got IsUnasked idle.peers b.place b.peer idle.unasked (ap (λ xs. slice_get xs b.place) (sym same) ∙ b.here) in
     let none : b.talk ≡ [] = subst (λ (x : Option (List Exchange)). IfSome x (λ es. es ≡ [])) (talk_at peers talks b.place b.peer b.talk told.talks_are b.here b.told) quiet.talk in
-    absurd (no_last b.first.front b.first.rest b.first.last (sym none ∙ b.first.is))
+    absurd (no_last b.first.prefix b.first.rest b.first.last (sym none ∙ b.first.is))
   where
-    no_last : (front rest : List Exchange) (last : Exchange) → [] ≡ front ++ last ∷ rest → ⊥
+    no_last : (prefix rest : List Exchange) (last : Exchange) → [] ≡ prefix ++ last ∷ rest → ⊥
     no_last [] rest last e = cc
-    no_last (x ∷ front) rest last e = cc
+    no_last (x ∷ prefix) rest last e = cc
 decides o h p (inr one) peers talks name why told b =
     let task = task_of one.it.asked one.it.loaded in
     let system = one.it.loaded.system in
-    let l = lives_of task system one.end h.old.run h.new.run one.run in
+    let l = histories_of task system one.end h.old.run h.new.run one.run in
     let retired : h.new.run.spawner.retired ≡ h.old.run.spawner.retired ++ l.news = ap (λ (s : SpawnerView). s.retired) l.peers.told in
     let same : peers ≡ l.news = append_cancel_left h.old.run.spawner.retired peers l.news (sym told.retired ∙ retired) in
     end_decides task system one.end one.e h l talks (ap (map (λ (x : View). x.talk)) (sym same) ∙ told.talks_are) name why (subst (λ (vs : List View). IsLeastBadOf vs talks name why) same b) one.named

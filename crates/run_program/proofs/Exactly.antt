@@ -29,11 +29,11 @@ use Rattle.run_program.specs.declared.outcome.Outcome.TheVariants.{Words, Memory
 use Rattle.run_program.specs.declared.outcome.StartCause.TheVariants.{Failed, Unknown}
 use Rattle.run_program.specs.Message.{Reports, status_of, file_message, start_message}
 use Rattle.run_program.specs.Facts.{LineFacts, LoadFacts, LoadsLine, OfSystem, RunFacts, SystemFacts, Unloaded, WithLine, WithoutLine, search_for, task_of}
-use Rattle.run_program.specs.Happened.{Happened, Scene, Stage}
+use Rattle.run_program.specs.Happened.{Happened, Outside, Scene}
 use Rattle.run_program.specs.Peers.{AreKnown, IsFirstUnknown}
 use Rattle.run_program.specs.Runs.{Broke, FailsToStart, HasRun, Task, Went}
-use Rattle.run_program.specs.Rows.{Answers, AnswersOr11, Failing, IsToFind, ReadsAlike, ReadsFiles, TellsRule, Wanting, Whole, memory_line}
-use Rattle.run_program.proofs.PeerLemmas.{all_got, compare, slice_get-take_front}
+use Rattle.run_program.specs.Rows.{Answers, AnswersOr11, Failing, IsToFind, OutOfMemory, ReadsAlike, ReadsFiles, TellsRule, Whole, memory_line}
+use Rattle.run_program.proofs.PeerLemmas.{all_got, compare, slice_get-take_prefix}
 use Rattle.run_program.proofs.When.{HasFacts, HasPut, by_run, start_rose}
 
 -- ---- the line that the arguments are
@@ -45,7 +45,7 @@ pub of_line : (o : Outcome) (h : Happened) → HasFacts o h → (line : Line) �
 of_line o h (WithLine r) line is = subst (λ (l : Line). LineFacts o l h.old h.new) (r.only line is) r.facts
 of_line Words h (WithoutLine w) line is = absurd (w.why line is)
 of_line Memory h (WithoutLine w) line is =
-    Unloaded (ap (λ (s : Stage). s.run) w.same) (reads_none line h.old.folder h.new.folder (ap (λ (s : Stage). s.folder) w.same))
+    Unloaded (ap (λ (s : Outside). s.run) w.same) (reads_none line h.old.folder h.new.folder (ap (λ (s : Outside). s.folder) w.same))
 of_line (File path fault) h (WithoutLine w) line is = absurd w.why
 of_line (Start component fault) h (WithoutLine w) line is = absurd w.why
 of_line (Ran end) h (WithoutLine w) line is = absurd w.why
@@ -135,10 +135,10 @@ failed_more : {A : Type 0} (line : Line) (path : List ℕ) (h : Happened) (reads
 failed_more line path h reads f alike =
     let read : ReadNote = record { path = path; answer = Err r.Failed } in
     let old = h.old.folder.reads in
-    let behind : h.new.folder.reads ≡ (old ++ f.reads) ++ read ∷ [] =
+    let after : h.new.folder.reads ≡ (old ++ f.reads) ++ read ∷ [] =
     ap (λ (v : FolderView). v.reads) f.told ∙ ap (λ (v : FolderView). v.reads ++ read ∷ []) f.asks.told in
     let same : f.reads ++ read ∷ [] ≡ reads =
-    append_cancel_left old (f.reads ++ read ∷ []) reads (sym (append_assoc old f.reads (read ∷ [])) ∙ sym behind ∙ ap (λ (v : FolderView). v.reads) alike.told) in
+    append_cancel_left old (f.reads ++ read ∷ []) reads (sym (append_assoc old f.reads (read ∷ [])) ∙ sym after ∙ ap (λ (v : FolderView). v.reads) alike.told) in
     absurd (last_unfailed f.reads read (subst AreUnfailed (sym same) alike.unfailed) refl)
 
 file_suits : (fault : FileFault) (path : List ℕ) (line : Line) (h : Happened) (found : Finding) → FileFails (search_for line) fault path h.old.folder h.new.folder →
@@ -198,7 +198,7 @@ run_known task system end old new (Broke bad is f) = f.traces.peers.known
 first_place : (host : List ℕ) (spawner : SpawnerView) (cs : List Component) (i j : ℕ) (c d : Component) → slice_get cs i ≡ Some c → spawner.knows host c.shape.identifier ≡ false → AreKnown host spawner (take j cs) → i < j → ⊥
 first_place host spawner cs i j c d here unknown before less =
     known_unknown (spawner.knows host c.shape.identifier)
-    (all_got (λ (x : Component). spawner.knows host x.shape.identifier ≡ true) (take j cs) i c before (slice_get-take_front cs j i less ∙ here)) unknown
+    (all_got (λ (x : Component). spawner.knows host x.shape.identifier ≡ true) (take j cs) i c before (slice_get-take_prefix cs j i less ∙ here)) unknown
 
 one_unknown : (host : List ℕ) (spawner : SpawnerView) (cs : List Component) (i j : ℕ) (c d : Component) → IsFirstUnknown host spawner cs i c → IsFirstUnknown host spawner cs j d → c ≡ d
 one_unknown host spawner cs i j c d a b = by (compare i j)
@@ -255,7 +255,7 @@ file_read (Broken rule place ports) path line h f p = Whole (Fails path (Faulty 
 
 unloaded_reads : (o : Outcome) (line : Line) (h : Happened) → LoadFacts o line h.old.folder h.new.folder → HasPut o h → ReadsFiles h line
 unloaded_reads Words line h f p = absurd f
-unloaded_reads Memory line h f p = Wanting f (answers memory_line 11 h p)
+unloaded_reads Memory line h f p = OutOfMemory f (answers memory_line 11 h p)
 unloaded_reads (File path fault) line h f p = file_read fault path line h f p
 unloaded_reads (Start component fault) line h f p = absurd f
 unloaded_reads (Ran e) line h f p = absurd f

@@ -44,7 +44,7 @@ finished line numbers old new end is (Went g) has = record {
   end = end;
   finished = is;
   run = g;
-  text_is = same_line numbers (length g.lived.is) (exchanges_in g.lived.lives) (restores_in g.lived.lives) has.instants has.calls has.rollbacks;
+  text_is = same_line numbers (length g.session.is) (exchanges_in g.session.histories) (restores_in g.session.histories) has.instants has.calls has.rollbacks;
 }
 finished line numbers old new end is (Broke bad e f) has = absurd (subst IsFinished e is)
 

@@ -64,19 +64,19 @@ at_middle P [] x b h = All-head P x b h
 at_middle P (y ∷ a) x b h = at_middle P a x b (All-tail P y (a ++ x ∷ b) h)
 
 -- an exchange of a talk that is none of the closing's stands in the run
-pub in_run : (talks : List Talk) (shape : Shape) (run closing talk front rest : List Exchange) (last : Exchange) → talk ≡ run ++ closing → IsParted talks shape run closing → talk ≡ front ++ last ∷ rest → (IsOfClosing talks shape front last.call rest → ⊥) →
-    (after : List Exchange) × (run ≡ front ++ last ∷ after)
-in_run talks shape run closing talk front rest last parts apart is of_run = choose (parted run closing front rest last (sym parts ∙ is))
+pub in_run : (talks : List Talk) (shape : Shape) (run closing talk prefix rest : List Exchange) (last : Exchange) → talk ≡ run ++ closing → IsParted talks shape run closing → talk ≡ prefix ++ last ∷ rest → (IsOfClosing talks shape prefix last.call rest → ⊥) →
+    (after : List Exchange) × (run ≡ prefix ++ last ∷ after)
+in_run talks shape run closing talk prefix rest last parts apart is of_run = choose (parted run closing prefix rest last (sym parts ∙ is))
   where
-    choose : ((after : List Exchange) × (run ≡ front ++ last ∷ after)) ⊎ ((more : List Exchange) × (front ≡ run ++ more) × (closing ≡ more ++ last ∷ rest)) →
-        (after : List Exchange) × (run ≡ front ++ last ∷ after)
+    choose : ((after : List Exchange) × (run ≡ prefix ++ last ∷ after)) ⊎ ((more : List Exchange) × (prefix ≡ run ++ more) × (closing ≡ more ++ last ∷ rest)) →
+        (after : List Exchange) × (run ≡ prefix ++ last ∷ after)
     choose (inl h) = h
     choose (inr h) = absurd (of_run (subst (λ (es : List Exchange). IsOfClosing talks shape es last.call rest) (sym h.1) (apart.of_closing h.0 rest last h.2)))
 
 -- a run of good answers has none that isn't
-pub no_bad : {A : Type 0} (shape : Shape) (run : List Exchange) (why : Why) (front rest : List Exchange) (last : Exchange) → T.AllGood shape run → run ≡ front ++ last ∷ rest → IsWhy shape why last → A
-no_bad shape run why front rest last good is bad =
-    absurd (why_bad shape why last bad (at_middle (T.IsGood shape) front last rest (subst (T.AllGood shape) is good)))
+pub no_bad : {A : Type 0} (shape : Shape) (run : List Exchange) (why : Why) (prefix rest : List Exchange) (last : Exchange) → T.AllGood shape run → run ≡ prefix ++ last ∷ rest → IsWhy shape why last → A
+no_bad shape run why prefix rest last good is bad =
+    absurd (why_bad shape why last bad (at_middle (T.IsGood shape) prefix last rest (subst (T.AllGood shape) is good)))
 
 -- an exchange is one why alone
 abbrev SameResult : Result Reply PeerFault → Result Reply PeerFault → Type 0
@@ -118,14 +118,14 @@ one_why shape (Link c f) (Link d h) e a b =
     ap (λ (k : Call). Link k f) (sym a.0 ∙ b.0) ∙ ap (λ (x : PeerFault). Link d x) (err_same f h (sym a.1 ∙ b.1))
 
 -- two first answers that aren't good are one
-pub one_bad : (shape : Shape) (run front rest : List Exchange) (last : Exchange) (w u : Why) → IsFirstBad shape w run → run ≡ front ++ last ∷ rest → T.AllGood shape front → IsWhy shape u last → w ≡ u
-one_bad shape run front rest last w u b is good bad = choose (parted b.front (b.last ∷ []) front rest last (sym b.is ∙ is))
+pub one_bad : (shape : Shape) (run prefix rest : List Exchange) (last : Exchange) (w u : Why) → IsFirstBad shape w run → run ≡ prefix ++ last ∷ rest → T.AllGood shape prefix → IsWhy shape u last → w ≡ u
+one_bad shape run prefix rest last w u b is good bad = choose (parted b.prefix (b.last ∷ []) prefix rest last (sym b.is ∙ is))
   where
     last_of : (more : List Exchange) (b : Exchange) → b ∷ [] ≡ more ++ last ∷ rest → b ≡ last
     last_of [] b e = cc
     last_of (x ∷ []) b e = absurd (cc)
     last_of (x ∷ (y ∷ more)) b e = absurd (cc)
 
-    choose : ((after : List Exchange) × (b.front ≡ front ++ last ∷ after)) ⊎ ((more : List Exchange) × (front ≡ b.front ++ more) × (b.last ∷ [] ≡ more ++ last ∷ rest)) → w ≡ u
-    choose (inl h) = no_bad shape b.front u front h.0 last b.good h.1 bad
+    choose : ((after : List Exchange) × (b.prefix ≡ prefix ++ last ∷ after)) ⊎ ((more : List Exchange) × (prefix ≡ b.prefix ++ more) × (b.last ∷ [] ≡ more ++ last ∷ rest)) → w ≡ u
+    choose (inl h) = no_bad shape b.prefix u prefix h.0 last b.good h.1 bad
     choose (inr h) = one_why shape w u last (subst (IsWhy shape w) (last_of h.0 b.last h.2) b.bad) bad

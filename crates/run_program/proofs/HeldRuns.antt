@@ -6,8 +6,8 @@ use Rattle.system_model.specs.declared.plan.Plan.{Plan}
 use Rattle.system_model.specs.declared.system.System.{System}
 use Rattle.system_checkpoint.specs.declared.snapshot.Snapshot.{Snapshot}
 use Rattle.system_files.specs.declared.loaded.Loaded.{Loaded}
-use Rattle.system_files.specs.declared.loading.LoadEnd.{LoadEnd}
-use Rattle.system_files.specs.declared.loading.LoadEnd.TheVariants as e
+use Rattle.system_files.specs.declared.loading.LoadError.{LoadError}
+use Rattle.system_files.specs.declared.loading.LoadError.TheVariants as e
 use Rattle.system_files.specs.declared.named.FileFault.{FileFault}
 use Rattle.system_files.specs.declared.named.FileFault.TheVariants.{Unread, Missing, TooBig, Broken}
 use Rattle.system_files.specs.Files.{Faulty, Flaw}
@@ -61,7 +61,7 @@ file_facts (Broken rule place ports) o s plan path old new f (inl tells) = subst
 file_facts (Broken rule place ports) o s plan path old new f (inr tells) =
     subst (λ (x : Outcome). LoadHeldFacts x s plan old new) (sym tells) (held_reads_some s plan (Fails path (Faulty rule place ports)) old new f)
 
-pub held_end_facts : (end : LoadEnd) (o : Outcome) (s : Search) (plan : Plan) (old new : FolderView) → EndsHeld s plan end old new → TellsEnd end o → LoadHeldFacts o s plan old new
+pub held_end_facts : (end : LoadError) (o : Outcome) (s : Search) (plan : Plan) (old new : FolderView) → EndsHeld s plan end old new → TellsEnd end o → LoadHeldFacts o s plan old new
 held_end_facts (e.File file fault) o s plan old new ends tells = file_facts fault o s plan file.path old new ends tells
 held_end_facts e.Memory o s plan old new ends tells = subst (λ (x : Outcome). LoadHeldFacts x s plan old new) (sym tells) ends
 

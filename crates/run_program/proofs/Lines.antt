@@ -18,8 +18,8 @@ use Rattle.system_files.specs.Files.{Faulty, Flaw}
 use Rattle.system_files.specs.Loads.{AsksSome, EndsLoading, FileFails, Loads, OfMapping, OfValues, ReadsSome, TakenBindings, TakenDocuments, ToDocument, ToPart, ToShape, UpTo}
 use Rattle.system_files.specs.Order.{Comes, Fails, Finding, Found, InMapping, InValues, IsValuesPart, LacksBinding, NoBinding, NoOutline, NoSet, NoShape, NoSystem, ReachesBindings, Search, Whole, asked_with, binding_files, folder_of, mapping_files, part_files, part_path}
 use Rattle.system_files.specs.declared.subject.Subject.TheVariants as what
-use Rattle.system_files.specs.declared.loading.LoadEnd.{LoadEnd}
-use Rattle.system_files.specs.declared.loading.LoadEnd.TheVariants as e
+use Rattle.system_files.specs.declared.loading.LoadError.{LoadError}
+use Rattle.system_files.specs.declared.loading.LoadError.TheVariants as e
 use Rattle.system_files.specs.declared.named.FileFault.{FileFault}
 use Rattle.system_files.specs.declared.named.FileFault.TheVariants.{Unread, Missing, TooBig, Broken}
 use Rattle.run_program.specs.declared.outcome.Outcome.{Outcome}
@@ -104,6 +104,6 @@ file_facts (Broken rule place ports) o line path old new f (inl tells) = subst (
 file_facts (Broken rule place ports) o line path old new f (inr tells) =
     subst (λ (x : Outcome). LoadFacts x line old new) (sym tells) (reads_some (search_for line) (Fails path (Faulty rule place ports)) old new f)
 
-pub end_facts : (end : LoadEnd) (o : Outcome) (line : Line) (old new : FolderView) → EndsLoading (search_for line) end old new → TellsEnd end o → LoadFacts o line old new
+pub end_facts : (end : LoadError) (o : Outcome) (line : Line) (old new : FolderView) → EndsLoading (search_for line) end old new → TellsEnd end o → LoadFacts o line old new
 end_facts (e.File file fault) o line old new ends tells = file_facts fault o line file.path old new ends tells
 end_facts e.Memory o line old new ends tells = subst (λ (x : Outcome). LoadFacts x line old new) (sym tells) ends

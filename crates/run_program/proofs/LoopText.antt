@@ -15,9 +15,9 @@ numbers_text-append (p ∷ ports) port =
     ap (λ (xs : List ℕ). spaced p ++ xs) (numbers_text-append ports port) ∙ sym (append_assoc (spaced p) (numbers_text ports) (spaced port))
 
 -- one more port is written
-pub one_more : (front a b c : List ℕ) (ports : List PortId) (k : ℕ) (port : PortId) → slice_get ports k ≡ Some port → a ≡ front ++ numbers_text (take k ports) →
-    b ≡ a ++ codes " " → c ≡ b ++ decimal port.0 → c ≡ front ++ numbers_text (take (k + 1) ports)
-one_more front a b c ports k port here first second third =
+pub one_more : (prefix a b c : List ℕ) (ports : List PortId) (k : ℕ) (port : PortId) → slice_get ports k ≡ Some port → a ≡ prefix ++ numbers_text (take k ports) →
+    b ≡ a ++ codes " " → c ≡ b ++ decimal port.0 → c ≡ prefix ++ numbers_text (take (k + 1) ports)
+one_more prefix a b c ports k port here first second third =
     third ∙ ap (λ (xs : List ℕ). xs ++ decimal port.0) second ∙ append_assoc a (codes " ") (decimal port.0)
-    ∙ ap (λ (xs : List ℕ). xs ++ spaced port) first ∙ append_assoc front (numbers_text (take k ports)) (spaced port)
-    ∙ ap (λ (xs : List ℕ). front ++ xs) (sym (numbers_text-append (take k ports) port) ∙ ap numbers_text (sym (take_more_at ports k port here)))
+    ∙ ap (λ (xs : List ℕ). xs ++ spaced port) first ∙ append_assoc prefix (numbers_text (take k ports)) (spaced port)
+    ∙ ap (λ (xs : List ℕ). prefix ++ xs) (sym (numbers_text-append (take k ports) port) ∙ ap numbers_text (sym (take_more_at ports k port here)))

@@ -22,14 +22,14 @@ escaped_short (byte ∷ name) =
 over_all : (at : ℕ) (xs ys : List ℕ) → at ≤ length xs → length ys ≡ length xs - at → take (at + length ys) (put_mid at (length xs - at) xs ys) ≡ take at xs ++ ys
 over_all at xs ys within same = take-put_mid at (length xs - at) xs ys (at + length ys) refl within
 
-front_of : (at k : ℕ) (xs ys text : List ℕ) → at ≤ length xs → k ≤ length ys → take (at + length ys) text ≡ take at xs ++ ys → take (at + k) text ≡ take at xs ++ take k ys
-front_of at k xs ys text within short whole =
+prefix_of : (at k : ℕ) (xs ys text : List ℕ) → at ≤ length xs → k ≤ length ys → take (at + length ys) text ≡ take at xs ++ ys → take (at + k) text ≡ take at xs ++ take k ys
+prefix_of at k xs ys text within short whole =
     let count : length (take at xs) ≡ at = simp length-take (omega arith) in
     let n : at + k ≤ at + length ys = omega arith in
     sym (take-take (at + k) (at + length ys) text n) ∙ ap (take (at + k)) whole ∙ ap (λ (m : ℕ). take (m + k) (take at xs ++ ys)) (sym count) ∙ take-append-add (take at xs) ys k
 
 -- a name that is written to the start of what comes after a place
-pub name_behind : (at k : ℕ) (xs ys name : List ℕ) → at ≤ length xs → length ys ≡ length xs - at → k ≤ length ys → take k ys ≡ escaped name →
+pub name_after : (at k : ℕ) (xs ys name : List ℕ) → at ≤ length xs → length ys ≡ length xs - at → k ≤ length ys → take k ys ≡ escaped name →
     take (at + k) (put_mid at (length xs - at) xs ys) ≡ take at xs ++ escaped name
-name_behind at k xs ys name within same short front =
-    front_of at k xs ys (put_mid at (length xs - at) xs ys) within short (over_all at xs ys within same) ∙ ap (λ (tail : List ℕ). take at xs ++ tail) front
+name_after at k xs ys name within same short prefix =
+    prefix_of at k xs ys (put_mid at (length xs - at) xs ys) within short (over_all at xs ys within same) ∙ ap (λ (tail : List ℕ). take at xs ++ tail) prefix

@@ -10,7 +10,7 @@ use Rattle.calling_sequence.specs.declared.run_end.RunEnd.{RunEnd}
 use Rattle.calling_sequence.specs.declared.run_end.RunEnd.TheVariants as E
 use Rattle.calling_sequence.specs.Ends.{EndsBy, PutsWhole, kind_of_end, trace_pieces}
 use Rattle.slot_calls.specs.Log.{Sent}
-use Rattle.calling_sequence.specs.Puts.{CutsPiece, with_pieces}
+use Rattle.calling_sequence.specs.Puts.{PutsPrefixOf, with_pieces}
 use Rattle.run_program.specs.Happened.{Scene}
 use Rattle.run_program.specs.Runs.{Broke, HasRun, Task, Went}
 
@@ -21,7 +21,7 @@ pieces_faults view (piece ∷ pieces) = pieces_faults (with_piece view piece) pi
 raised : (before after : ℕ) → after ≡ one_more before → Rose before after
 raised before after e = omega arith
 
-pub cut_rose : (view : SinkView) (pieces : List (List ℕ)) (piece : List ℕ) (new : SinkView) → CutsPiece (with_pieces view pieces) piece new → Rose view.faults new.faults
+pub cut_rose : (view : SinkView) (pieces : List (List ℕ)) (piece : List ℕ) (new : SinkView) → PutsPrefixOf (with_pieces view pieces) piece new → Rose view.faults new.faults
 cut_rose view pieces piece new cut = raised view.faults new.faults (ap (λ (s : SinkView). s.faults) cut.1 ∙ ap one_more (pieces_faults view pieces))
 
 -- the count stays, and rises where a put failed
@@ -56,6 +56,6 @@ tells_out task system end old new (Went g) =
     subst (λ (e : RunEnd). TellsOut e old.out.faults new.out.faults) t.end_is
     (subst (λ (s : SinkView). TellsOut a.end s.faults new.out.faults) t.before_is
     (subst (λ (s : SinkView). TellsOut a.end a.before.faults s.faults) t.after_is
-    (tells a.system a.bound a.plan g.lived.log g.lived.is a.end a.before a.after g.lived.text)))
+    (tells a.system a.bound a.plan g.session.log g.session.is a.end a.before a.after g.session.text)))
 tells_out task system end old new (Broke bad is fails) =
     subst (λ (e : RunEnd). TellsOut e old.out.faults new.out.faults) (sym is) (ap (λ (s : SinkView). s.faults) fails.out)

@@ -118,11 +118,11 @@ compare (suc a) (suc b) = by (compare a b)
     by (inr (inl same)) = inr (inl (ap suc same))
     by (inr (inr more)) = inr (inr (omega (arith, more)))
 
-pub slice_get-take_front : {X : Type 0} (xs : List X) (n k : ℕ) → k < n → slice_get (take n xs) k ≡ slice_get xs k
-slice_get-take_front xs zero k less = absurd (omega (arith, less))
-slice_get-take_front [] (suc n) k less = refl
-slice_get-take_front (x ∷ xs) (suc n) zero less = refl
-slice_get-take_front (x ∷ xs) (suc n) (suc k) less = slice_get-take_front xs n k (omega (arith, less))
+pub slice_get-take_prefix : {X : Type 0} (xs : List X) (n k : ℕ) → k < n → slice_get (take n xs) k ≡ slice_get xs k
+slice_get-take_prefix xs zero k less = absurd (omega (arith, less))
+slice_get-take_prefix [] (suc n) k less = refl
+slice_get-take_prefix (x ∷ xs) (suc n) zero less = refl
+slice_get-take_prefix (x ∷ xs) (suc n) (suc k) less = slice_get-take_prefix xs n k (omega (arith, less))
 
 -- ---- starts that fail
 

@@ -31,7 +31,7 @@ use Rattle.calling_sequence.specs.Ready.{IsPlanOf}
 use Rattle.calling_sequence.specs.declared.run_end.RunEnd.{RunEnd}
 use Rattle.step_master.specs.declared.master.Master.{Master}
 use Rattle.step_master.specs.Holding.{PreparesRest, RunsFrom}
-use Rattle.step_master.specs.Lived.{RestIsLived, RestLived}
+use Rattle.step_master.specs.Sessions.{ResumedIsSession, ResumedSession}
 use Rattle.step_master.specs.Master.{Closes}
 use Rattle.step_master.specs.Standing.{IsReady, IsResumed, MayRun, standing}
 use Rattle.step_master.specs.System.{ArePeersOf}
@@ -148,11 +148,11 @@ resumed_binds view m system held ready held_is system_is =
     let resumed : IsResumed view held m = subst (λ (h : Option Snapshot). MayRun view m h) held_is ready.begins in
     subst (λ (s : System). BindsParameters s m.experiment.bound) system_is resumed.may.ready.may.binds
 
-pub rest_lived : {L : Type 0} {g : _} (view : L → View) (laws : RestIsLived) (ready done : Master L g) (system : System) (held : Snapshot) (workers link : ℕ) (olds news : List View) (before after : SinkView) (end : RunEnd) →
+pub rest_session : {L : Type 0} {g : _} (view : L → View) (laws : ResumedIsSession) (ready done : Master L g) (system : System) (held : Snapshot) (workers link : ℕ) (olds news : List View) (before after : SinkView) (end : RunEnd) →
     IsSound system → CountsBy system held.plan → ArePeersOf system olds → CanBeHeld system held → IsHoldable system held.plan → IsReady view ready → PreparesRest system (plan_with held workers link) held olds (standing view ready) →
     RunsFrom ready.held (standing view ready) (standing view done) before after end → Closes (standing view done).instances news →
-    RestLived (account_of system ready.experiment.bound (plan_with held workers link) olds news before after (standing view done) end) held
-rest_lived view laws ready done system held workers link olds news before after end sound counts peers can holdable is prepared runs closes =
+    ResumedSession (account_of system ready.experiment.bound (plan_with held workers link) olds news before after (standing view done) end) held
+rest_session view laws ready done system held workers link olds news before after end sound counts peers can holdable is prepared runs closes =
     laws (account_of system ready.experiment.bound (plan_with held workers link) olds news before after (standing view done) end) held (standing view ready) (standing view done) sound
     (resumed_binds view ready system held is prepared.held_is prepared.system_is) counts peers can (rest_holdable system held workers link holdable) refl prepared
     (subst (λ (h : Option Snapshot). RunsFrom h (standing view ready) (standing view done) before after end) prepared.held_is runs) closes refl

@@ -8,7 +8,7 @@ use Rattle.system_files.specs.Order.{Fails, Found}
 use Rattle.run_program.specs.declared.outcome.Outcome.TheVariants as O
 use Rattle.run_program.specs.Facts as W
 use Rattle.run_program.specs.Facts.{WithLine, WithoutLine}
-use Rattle.run_program.specs.Happened.{Happened, Stage}
+use Rattle.run_program.specs.Happened.{Happened, Outside}
 use Rattle.run_program.specs.Message.{Reports, message, status_of}
 use Rattle.run_program.specs.Rows.{IsNoLine, AnswersOr11, IsStatus, StatusRow, KeepsSystemRows}
 use Rattle.run_program.proofs.Exactly.{of_line, answers, memory_or, suits, file_exact, rule_exact, unknown_exact, reading_some}
@@ -33,7 +33,7 @@ words_exact o h (WithoutLine w) p none = by_why o w.why p
 
 reading_none : (o : Outcome) (h : Happened) → HasFacts o h → IsNoLine h → h.new.folder ≡ h.old.folder
 reading_none o h (WithLine r) none = absurd (none r.line r.is)
-reading_none o h (WithoutLine w) none = ap (λ (s : Stage). s.folder) w.same
+reading_none o h (WithoutLine w) none = ap (λ (s : Outside). s.folder) w.same
 
 known : (s : Status) → IsStatus (number s)
 known Done = inl refl

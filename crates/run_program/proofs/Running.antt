@@ -43,19 +43,19 @@ use Rattle.system_checkpoint.specs.declared.snapshot.Snapshot.{Snapshot}
 use Rattle.system_model.specs.declared.plan.EndKind.TheVariants as K
 use Rattle.step_master.specs.declared.prepare_end.PrepareFault.{PrepareFault}
 use Rattle.step_master.specs.declared.prepare_end.PrepareFault.TheVariants as F
-use Rattle.step_master.specs.Lived.{Account, HeldLived, Lived, LivesAreOver, RestLived, Unmade, UnmadeIsClosed, experiment_in}
+use Rattle.step_master.specs.Sessions.{Account, FailedStart, FailedStartIsClosed, HeldSession, HistoriesAreOver, ResumedSession, Session, experiment_in}
 use Rattle.step_master.specs.Master.{FailsToPrepare, Standing}
-use Rattle.step_master.specs.Traced.{IsRunOf, ToldHeld, ToldHeldWell, ToldNone, ToldRest, ToldRestWell, ToldRun, ToldTrace, ToldUnmade, TracesWell}
+use Rattle.step_master.specs.Traced.{IsRunOf, ToldFailedStart, ToldHeld, ToldHeldWell, ToldNone, ToldRest, ToldRestWell, ToldRun, ToldTrace, TracesWell}
 use Rattle.system_model.specs.Bounds.{BindsParameters}
 use Rattle.system_model.specs.Sound.{IsSound}
-use Rattle.step_master.specs.Lives.{AreLives, EndsLives, IsLife, Life}
+use Rattle.step_master.specs.Histories.{ArePeerHistories, EndsHistories, IsPeerHistory, PeerHistory}
 use Rattle.slot_calls.specs.Log.{Sent}
 use Rattle.system_model.specs.Plans.{IsPlan}
-use Rattle.step_master.specs.System.{ArePeersOf, TellTheirs}
+use Rattle.step_master.specs.System.{ArePeersOf, MachinesMatchShapes}
 use Rattle.run_program.specs.Peers.{AreStarted}
 use Rattle.run_program.specs.Happened.{Scene}
 use Rattle.run_program.specs.Held.{GoesOn, Holds}
-use Rattle.run_program.specs.Runs.{CanRun, Fails, Goes, HasOneTrace, Names, NamesOne, NamesPort, RunsPeers, Task, TracesOnce, names_of, port_name}
+use Rattle.run_program.specs.Runs.{CanRun, Fails, HasOneTrace, Names, NamesOne, NamesPort, RunCompletes, RunsPeers, Task, TracesOnce, names_of, port_name}
 use Rattle.run_program.specs.declared.naming.PortName.{PortName}
 use Rattle.event_iteration.specs.declared.lost.LostValue.{LostValue}
 use Rattle.calling_sequence.specs.Ends.{LostAtFirst, LostThere}
@@ -102,11 +102,11 @@ stands_count t step stands log mids is =
 agrees_within : (t step : ℕ) (first : Shape → Bool) (b : ℕ) (stands : List Stand) (log : List Sent) (o : Outcome) (k end : ℕ) → o ≡ A.Unfit k end → Agrees t step first b stands log o → k < length stands
 agrees_within t step first _ _ _ _ k end at (A.FirstStops b stands log o stops) = stops_within t step A.everyone (comes_first first) b stands log o k end at stops
 agrees_within t step first _ _ _ _ k end at (A.FirstMeet b stands log o m asks m_is there is) = absurd (let wrong = sym at ∙ is in cc)
-agrees_within t step first _ _ _ _ k end at (A.NextStops b stands log o m front back mids asks mids_is m_is apart stops log_is) =
-    subst (λ (n : ℕ). k < n) (stands_count t step stands front mids mids_is) (stops_within t step (ends_elsewhere t b m) (is_elsewhere m) m mids back o k end at stops)
-agrees_within t step first _ _ _ _ k end at (A.NextMeet b stands log o m front back mids asks mids_is m_is apart others there is log_is) = absurd (let wrong = sym at ∙ is in cc)
-agrees_within t step first _ _ _ _ k end at (A.GoesAnew b stands log o m c front back rest mids ends asks mids_is m_is apart others ends_is behind c_is more log_is) =
-    subst (λ (n : ℕ). k < n) (stands_count t step mids back ends ends_is ∙ stands_count t step stands front mids mids_is) (agrees_within t step first c ends rest o k end at more)
+agrees_within t step first _ _ _ _ k end at (A.NextStops b stands log o m prefix back mids asks mids_is m_is apart stops log_is) =
+    subst (λ (n : ℕ). k < n) (stands_count t step stands prefix mids mids_is) (stops_within t step (ends_elsewhere t b m) (is_elsewhere m) m mids back o k end at stops)
+agrees_within t step first _ _ _ _ k end at (A.NextMeet b stands log o m prefix back mids asks mids_is m_is apart others there is log_is) = absurd (let wrong = sym at ∙ is in cc)
+agrees_within t step first _ _ _ _ k end at (A.GoesAnew b stands log o m c prefix back rest mids ends asks mids_is m_is apart others ends_is later c_is more log_is) =
+    subst (λ (n : ℕ). k < n) (stands_count t step mids back ends ends_is ∙ stands_count t step stands prefix mids mids_is) (agrees_within t step first c ends rest o k end at more)
 
 -- so does the run of a system: before that of one of its components
 short_leads : (system : System) (plan : Plan) (p : Place) (values : List (Option ℤ)) (log : List Sent) (w : Way) (k end : ℕ) → LeadsTo system plan p values log (Short w k end) → k < length system.components
@@ -122,7 +122,7 @@ begins_elsewhere (FromHeld s) w k end at = cc
 
 short_comes : (system : System) (bound : Bound) (plan : Plan) (extent : Extent) (p : Place) (w : Way) (k end : ℕ) (log : List Sent) (is : List Instant) → p ≡ Short w k end → CourseIn system bound plan extent p log is → k < length system.components
 short_comes system bound plan extent _ w k end _ _ at AtFirst = absurd (begins_elsewhere extent w k end at)
-short_comes system bound plan extent _ w k end _ _ at (On p q values front more is course does leads within) =
+short_comes system bound plan extent _ w k end _ _ at (On p q values prefix more is course does leads within) =
     short_leads system plan p values more w k end (subst (λ (r : Place). LeadsTo system plan p values more r) at leads)
 
 ends_within : (system : System) (bound : Bound) (plan : Plan) (extent : Extent) (component : CompId) (at end : ℕ) (p : Place) (log : List Sent) (is : List Instant) → EndsAt system plan (E.FixedStep component at end) p →
@@ -135,9 +135,9 @@ finished_within : (system : System) (bound : Bound) (plan : Plan) (extent : Exte
     component.0 < length system.components
 finished_within system bound plan extent _ component at end _ _ (Well p _ log is course ends may) = ends_within system bound plan extent component at end p log is ends course
 
-lives_count : (system : System) (olds news : List View) (log : List Sent) (lives : List Life) → AreLives system olds news log lives → length lives ≡ length system.components
-lives_count system olds news log lives are =
-    sym (length-map lives (λ (l : Life). l.source)) ∙ ap (λ (xs : List ℕ). length xs) are.sources_are ∙ length-map system.components (λ (c : Component). c.source.0)
+histories_count : (system : System) (olds news : List View) (log : List Sent) (histories : List PeerHistory) → ArePeerHistories system olds news log histories → length histories ≡ length system.components
+histories_count system olds news log histories are =
+    sym (length-map histories (λ (l : PeerHistory). l.source)) ∙ ap (λ (xs : List ℕ). length xs) are.sources_are ∙ length-map system.components (λ (c : Component). c.source.0)
 
 -- the names of a system's components are as many
 names_count : (system : System) → length (names_of system).components ≡ length system.components
@@ -173,10 +173,10 @@ finishes_named system bound plan extent point sound (E.Bad answer) log is by bad
 finishes_named system bound plan extent point sound E.WriteFault log is by bad = tt
 
 -- the first bad answer is one of a component's
-bad_named : (system : System) (olds news : List View) (log : List Sent) (lives : List Life) (end : RunEnd) → AreLives system olds news log lives → EndsLives end lives → (bad : BadAnswer) → end ≡ E.Bad bad → bad.component.0 < length (names_of system).components
-bad_named system olds news log lives end are ends bad is =
-    let least = subst (λ (e : RunEnd). EndsLives e lives) is ends in
-    subst (λ (n : ℕ). bad.component.0 < n) (lives_count system olds news log lives are ∙ sym (names_count system)) (slice_get_within lives bad.component.0 least.life least.here)
+bad_named : (system : System) (olds news : List View) (log : List Sent) (histories : List PeerHistory) (end : RunEnd) → ArePeerHistories system olds news log histories → EndsHistories end histories → (bad : BadAnswer) → end ≡ E.Bad bad → bad.component.0 < length (names_of system).components
+bad_named system olds news log histories end are ends bad is =
+    let least = subst (λ (e : RunEnd). EndsHistories e histories) is ends in
+    subst (λ (n : ℕ). bad.component.0 < n) (histories_count system olds news log histories are ∙ sym (names_count system)) (slice_get_within histories bad.component.0 least.history least.here)
 
 pub ends_named : (system : System) (bound : Bound) (plan : Plan) (extent : Extent) (log : List Sent) (is : List Instant) (end : RunEnd) (before after : SinkView) → IsSound system → EndsIn system bound plan extent log is end before after →
     ((bad : BadAnswer) → end ≡ E.Bad bad → bad.component.0 < length (names_of system).components) → NamesOne (names_of system) end
@@ -189,8 +189,8 @@ ends_named system bound plan extent log is (E.Held point) before after sound by 
 ends_named system bound plan extent log is (E.Bad answer) before after sound by bad = bad answer refl
 ends_named system bound plan extent log is E.WriteFault before after sound by bad = tt
 
-pub lived_names : (a : Account) → IsSound a.system → Lived a → NamesOne (names_of a.system) a.end
-lived_names a sound l = ends_named a.system a.bound a.plan Whole l.log l.is a.end a.before a.after sound l.text (bad_named a.system a.olds a.news (l.made ++ l.log) l.lives a.end l.are l.ends)
+pub session_names : (a : Account) → IsSound a.system → Session a → NamesOne (names_of a.system) a.end
+session_names a sound l = ends_named a.system a.bound a.plan Whole l.log l.is a.end a.before a.after sound l.text (bad_named a.system a.olds a.news (l.made ++ l.log) l.histories a.end l.are l.ends)
 
 -- a piece was put with this end, or its put failed
 piece_named : (names : Names) (outcome end : RunEnd) (piece : List ℕ) (before after : SinkView) → PutsPiece outcome piece before after end → (end ≡ outcome → NamesOne names outcome) → NamesOne names end
@@ -200,14 +200,14 @@ piece_named names outcome end piece before after (inr puts) named = subst (Names
 held_outcome : (e : Experiment) (at : ℕ) (starts : List Instance) (outcome : RunEnd) (log : List Sent) (piece : List ℕ) → IsSound e.system → HoldsWith e at starts outcome log piece →
     ((bad : BadAnswer) → outcome ≡ E.Bad bad → bad.component.0 < length (names_of e.system).components) → NamesOne (names_of e.system) outcome
 held_outcome e at starts _ _ _ sound (Early end point log is by) bad = finishes_named e.system e.bound e.plan (UpToHeld at) point sound end log is by bad
-held_outcome e at starts _ _ _ sound (BadlyHeld s answer front more is comes stops) bad = bad answer refl
-held_outcome e at starts _ _ _ sound (WellHeld s front entered kept is mids states comes entering told packed keeping can) bad = tt
+held_outcome e at starts _ _ _ sound (BadlyHeld s answer prefix more is comes stops) bad = bad answer refl
+held_outcome e at starts _ _ _ sound (WellHeld s prefix entered kept is mids states comes entering told packed keeping can) bad = tt
 
-pub held_names : (a : Account) (at : ℕ) → IsSound a.system → HeldLived a at → NamesOne (names_of a.system) a.end
+pub held_names : (a : Account) (at : ℕ) → IsSound a.system → HeldSession a at → NamesOne (names_of a.system) a.end
 held_names a at sound l =
     piece_named (names_of a.system) l.outcome a.end l.piece a.before a.after l.puts
     (λ same. held_outcome (experiment_in a) at l.starts l.outcome l.log l.piece sound l.holds
-    (λ bad is. bad_named a.system a.olds a.news (l.made ++ l.log) l.lives a.end l.are l.ends bad (same ∙ is)))
+    (λ bad is. bad_named a.system a.olds a.news (l.made ++ l.log) l.histories a.end l.are l.ends bad (same ∙ is)))
 
 rest_outcome : (e : Experiment) (s : Spot) (states : List (List ℕ)) (olds news : List Instance) (before after : SinkView) (counted : ℕ) (end : RunEnd) → IsSound e.system → ResumesSlots e s states olds news before after counted end →
     ((bad : BadAnswer) → end ≡ E.Bad bad → bad.component.0 < length (names_of e.system).components) → NamesOne (names_of e.system) end
@@ -216,14 +216,14 @@ rest_outcome e s states olds news before after counted end sound (Back mids log 
 rest_outcome e s states olds news before after counted end sound (NotBack answer log told stops restored none puts) bad =
     piece_named (names_of e.system) (E.Bad answer) end (end_text K.Fault s.t) before after puts (λ same. bad answer same)
 
-pub rest_names : (a : Account) (held : Snapshot) → IsSound a.system → RestLived a held → NamesOne (names_of a.system) a.end
+pub rest_names : (a : Account) (held : Snapshot) → IsSound a.system → ResumedSession a held → NamesOne (names_of a.system) a.end
 rest_names a held sound l =
     rest_outcome (experiment_in a) (spot_in a.system held) held.states l.starts l.lasts a.before a.after a.instants a.end sound l.resumes
-    (bad_named a.system (map without_machine a.olds) (map without_machine a.news) (l.made ++ l.log) l.lives a.end l.are l.ends)
+    (bad_named a.system (map without_machine a.olds) (map without_machine a.news) (l.made ++ l.log) l.histories a.end l.are l.ends)
 
-pub unmade_names : (system : System) (link : ℕ) (olds news : List View) (bad : BadAnswer) → Unmade system link olds bad news → bad.component.0 < length system.components
+pub unmade_names : (system : System) (link : ℕ) (olds news : List View) (bad : BadAnswer) → FailedStart system link olds bad news → bad.component.0 < length system.components
 unmade_names system link olds news bad u =
-    subst (λ (n : ℕ). bad.component.0 < n) (lives_count system olds news u.log u.lives u.are) (slice_get_within u.lives bad.component.0 u.least.life u.least.here)
+    subst (λ (n : ℕ). bad.component.0 < n) (histories_count system olds news u.log u.histories u.are) (slice_get_within u.histories bad.component.0 u.least.history u.least.here)
 
 -- ---- from what the master says
 
@@ -232,18 +232,18 @@ abbrev pub account_of : System → Bound → Plan → List View → List View �
 account_of system bound plan olds news before after done end =
     record { system = system; bound = bound; plan = plan; olds = olds; news = news; before = before; after = after; instants = done.instants; end = end }
 
-lives_news : (system : System) (olds news : List View) (log : List Sent) (lives : List Life) → AreLives system olds news log lives → length news ≡ length system.components
-lives_news system olds news log lives are =
-    sym (ap (λ (vs : List View). length vs) are.news_are) ∙ length-map lives (λ (l : Life). l.new) ∙ lives_count system olds news log lives are
+histories_news : (system : System) (olds news : List View) (log : List Sent) (histories : List PeerHistory) → ArePeerHistories system olds news log histories → length news ≡ length system.components
+histories_news system olds news log histories are =
+    sym (ap (λ (vs : List View). length vs) are.news_are) ∙ length-map histories (λ (l : PeerHistory). l.new) ∙ histories_count system olds news log histories are
 
-pub lived_news : (a : Account) → Lived a → length a.news ≡ length a.system.components
-lived_news a l = lives_news a.system a.olds a.news (l.made ++ l.log) l.lives l.are
+pub session_news : (a : Account) → Session a → length a.news ≡ length a.system.components
+session_news a l = histories_news a.system a.olds a.news (l.made ++ l.log) l.histories l.are
 
-pub held_news : (a : Account) (at : ℕ) → HeldLived a at → length a.news ≡ length a.system.components
-held_news a at l = lives_news a.system a.olds a.news (l.made ++ l.log) l.lives l.are
+pub held_news : (a : Account) (at : ℕ) → HeldSession a at → length a.news ≡ length a.system.components
+held_news a at l = histories_news a.system a.olds a.news (l.made ++ l.log) l.histories l.are
 
-pub rest_news : (a : Account) (held : Snapshot) → RestLived a held → length a.news ≡ length a.system.components
-rest_news a held l = sym (length-map a.news without_machine) ∙ lives_news a.system (map without_machine a.olds) (map without_machine a.news) (l.made ++ l.log) l.lives l.are
+pub rest_news : (a : Account) (held : Snapshot) → ResumedSession a held → length a.news ≡ length a.system.components
+rest_news a held l = sym (length-map a.news without_machine) ∙ histories_news a.system (map without_machine a.olds) (map without_machine a.news) (l.made ++ l.log) l.histories l.are
 
 -- a peer for each machine
 peer_there : (machines : List Machine) (views : List View) (i : ℕ) (m : Machine) → length machines ≡ length views → slice_get machines i ≡ Some m → (v : View) × (slice_get views i ≡ Some v)
@@ -253,7 +253,7 @@ peer_there (x ∷ ms) (v ∷ vs) zero m len at = (v, refl)
 peer_there (x ∷ ms) (v ∷ vs) (suc i) m len at = peer_there ms vs i m (omega (arith, len)) at
 
 -- what the peers tell are machines of their components' shapes
-lawful : (r : Run) (system : System) (bound : Bound) (olds : List View) → IsRunOf system bound olds r → TellTheirs system olds → length olds ≡ length system.components → AreMachines r
+lawful : (r : Run) (system : System) (bound : Bound) (olds : List View) → IsRunOf system bound olds r → MachinesMatchShapes system olds → length olds ≡ length system.components → AreMachines r
 lawful r system bound olds of theirs len = record {
   count = of.tell.count ∙ len ∙ ap (λ (s : System). length s.components) (sym of.system_is);
   each = λ i c m at_c at_m.
@@ -263,7 +263,7 @@ lawful r system bound olds of theirs len = record {
 }
 
 -- and the run of them has one trace at most
-pub one_trace : (r : Run) (system : System) (bound : Bound) (olds : List View) → IsSound system → IsRunOf system bound olds r → TellTheirs system olds → length olds ≡ length system.components → HasOneTrace r
+pub one_trace : (r : Run) (system : System) (bound : Bound) (olds : List View) → IsSound system → IsRunOf system bound olds r → MachinesMatchShapes system olds → length olds ≡ length system.components → HasOneTrace r
 one_trace r system bound olds sound of theirs len =
     let machines = lawful r system bound olds of theirs len in
     record {
@@ -272,15 +272,15 @@ one_trace r system bound olds sound of theirs len =
     }
 
 -- a peer keeps what stays through its life
-pub lives_same : (system : System) (olds news : List View) (log : List Sent) (lives : List Life) → AreLives system olds news log lives → map (λ (v : View). v.fixed) news ≡ map (λ (v : View). v.fixed) olds
-lives_same system olds news log lives are =
-    ap (map (λ (v : View). v.fixed)) (sym are.news_are) ∙ same lives are.each ∙ ap (map (λ (v : View). v.fixed)) are.olds_are
+pub histories_same : (system : System) (olds news : List View) (log : List Sent) (histories : List PeerHistory) → ArePeerHistories system olds news log histories → map (λ (v : View). v.fixed) news ≡ map (λ (v : View). v.fixed) olds
+histories_same system olds news log histories are =
+    ap (map (λ (v : View). v.fixed)) (sym are.news_are) ∙ same histories are.each ∙ ap (map (λ (v : View). v.fixed)) are.olds_are
   where
-    same : (ls : List Life) → All IsLife ls → map (λ (v : View). v.fixed) (map (λ (l : Life). l.new) ls) ≡ map (λ (v : View). v.fixed) (map (λ (l : Life). l.old) ls)
+    same : (ls : List PeerHistory) → All IsPeerHistory ls → map (λ (v : View). v.fixed) (map (λ (l : PeerHistory). l.new) ls) ≡ map (λ (v : View). v.fixed) (map (λ (l : PeerHistory). l.old) ls)
     same [] each = refl
     same (l ∷ ls) each =
-        ap (λ (f : Fixed). f ∷ map (λ (v : View). v.fixed) (map (λ (x : Life). x.new) ls)) (All-head IsLife l ls each).fixed
-        ∙ ap (λ (fs : List Fixed). l.old.fixed ∷ fs) (same ls (All-tail IsLife l ls each))
+        ap (λ (f : Fixed). f ∷ map (λ (v : View). v.fixed) (map (λ (x : PeerHistory). x.new) ls)) (All-head IsPeerHistory l ls each).fixed
+        ∙ ap (λ (fs : List Fixed). l.old.fixed ∷ fs) (same ls (All-tail IsPeerHistory l ls each))
 
 pub once : (a : Account) (r : Run) (end : RunEnd) → HasOneTrace r → TracesWell a r end → TracesOnce a r end
 once a r E.Stop one t = (one, t)
@@ -293,8 +293,8 @@ once a r (E.Held point) one t = (one, t)
 once a r E.WriteFault one t = (one, t)
 
 abbrev pub goes : (a : Account) (task : Task) (old new : Scene) → CanRun a.system → BindsParameters a.system a.bound → IsPlan a.plan → a.bound ≡ task.bound → a.plan ≡ task.plan → a.before ≡ old.out → a.after ≡ new.out →
-    RunsPeers task a.system a.olds a.news old.spawner new.spawner → Lived a → LivesAreOver → ToldRun → ToldTrace → Goes task a.system a.end old new
-goes a task old new can binds planned bound plan before after peers lived over run trace = record {
+    RunsPeers task a.system a.olds a.news old.spawner new.spawner → Session a → HistoriesAreOver → ToldRun → ToldTrace → RunCompletes task a.system a.end old new
+goes a task old new can binds planned bound plan before after peers session over run trace = record {
   traces = record {
     account = a;
     system_is = refl;
@@ -304,26 +304,26 @@ goes a task old new can binds planned bound plan before after peers lived over r
     before_is = before;
     after_is = after;
     peers = peers;
-    same = lives_same a.system a.olds a.news (lived.made ++ lived.log) lived.lives lived.are;
+    same = histories_same a.system a.olds a.news (session.made ++ session.log) session.histories session.are;
     sound = can.sound;
-    well = λ r of is well. once a r a.end (one_trace r a.system task.bound a.olds can.sound of lived.machines peers.each)
-        (trace a r can.sound binds planned (subst (λ (b : Bound). IsRunOf a.system b a.olds r) (sym bound) of) (is ∙ sym plan) well lived);
+    well = λ r of is well. once a r a.end (one_trace r a.system task.bound a.olds can.sound of session.machines peers.each)
+        (trace a r can.sound binds planned (subst (λ (b : Bound). IsRunOf a.system b a.olds r) (sym bound) of) (is ∙ sym plan) well session);
   };
-  lived = lived;
-  over = over a.system a.olds a.news (lived.made ++ lived.log) lived.lives lived.are;
-  so_far = λ r of is. run a r can.sound planned (subst (λ (b : Bound). IsRunOf a.system b a.olds r) (sym bound) of) (is ∙ sym plan) lived;
+  session = session;
+  over = over a.system a.olds a.news (session.made ++ session.log) session.histories session.are;
+  so_far = λ r of is. run a r can.sound planned (subst (λ (b : Bound). IsRunOf a.system b a.olds r) (sym bound) of) (is ∙ sym plan) session;
 }
 
 -- the account of a run that was to be held
 pub holds_so : (a : Account) (at : ℕ) (task : Task) (old new : Scene) → CanRun a.system → BindsParameters a.system a.bound → IsPlan a.plan → IsHoldable a.system a.plan → a.bound ≡ task.bound → a.plan ≡ task.plan → a.before ≡ old.out → a.after ≡ new.out →
-    RunsPeers task a.system a.olds a.news old.spawner new.spawner → (l : HeldLived a at) → LivesAreOver → ToldHeld → ToldNone → ToldHeldWell → Holds task a.system at a.end old new
+    RunsPeers task a.system a.olds a.news old.spawner new.spawner → (l : HeldSession a at) → HistoriesAreOver → ToldHeld → ToldNone → ToldHeldWell → Holds task a.system at a.end old new
 holds_so a at task old new can binds planned holdable bound plan before after peers l over told none well = record {
   account = a;
   is = record { system_is = refl; plan_is = plan; end_is = refl; before_is = before; after_is = after; peers = peers; sound = can.sound };
   bound_is = bound;
-  same = lives_same a.system a.olds a.news (l.made ++ l.log) l.lives l.are;
-  lived = l;
-  over = over a.system a.olds a.news (l.made ++ l.log) l.lives l.are;
+  same = histories_same a.system a.olds a.news (l.made ++ l.log) l.histories l.are;
+  session = l;
+  over = over a.system a.olds a.news (l.made ++ l.log) l.histories l.are;
   run = λ r of is. told a at r can.sound planned (its r of) (is ∙ sym plan) l;
   none = λ r of is steps before_it instants z held. none a at r can.sound planned (its r of) (is ∙ sym plan) steps l before_it instants z held;
   well = λ r of is behaved puts. well a at r can.sound binds planned holdable (its r of) (is ∙ sym plan) behaved puts l;
@@ -334,19 +334,19 @@ holds_so a at task old new can binds planned holdable bound plan before after pe
 
 -- and of one that went on from what was held
 pub goes_on_so : (a : Account) (held : Snapshot) (task : Task) (old new : Scene) → CanRun a.system → BindsParameters a.system task.bound → IsPlan a.plan → IsHoldable a.system a.plan → IsPlanOf a.plan held → a.plan ≡ task.plan → a.before ≡ old.out → a.after ≡ new.out →
-    RunsPeers task a.system a.olds a.news old.spawner new.spawner → (l : RestLived a held) → LivesAreOver → ToldRest → ToldRestWell → GoesOn task a.system held a.end old new
+    RunsPeers task a.system a.olds a.news old.spawner new.spawner → (l : ResumedSession a held) → HistoriesAreOver → ToldRest → ToldRestWell → GoesOn task a.system held a.end old new
 goes_on_so a held task old new can binds planned holdable plan_of plan before after peers l over told well = record {
   account = a;
   is = record { system_is = refl; plan_is = plan; end_is = refl; before_is = before; after_is = after; peers = peers; sound = can.sound };
-  lived = l;
-  over = over a.system (map without_machine a.olds) (map without_machine a.news) (l.made ++ l.log) l.lives l.are;
-  run = λ r front z system machines reads held_there begun kept. told a r front z held can.sound planned system plan_of machines reads held_there begun kept l;
-  well = λ r front z system bound machines behaved reads takes held_there begun kept. well a r front z held can.sound (subst (BindsParameters a.system) (sym bound) binds) planned holdable system plan_of machines behaved reads
+  session = l;
+  over = over a.system (map without_machine a.olds) (map without_machine a.news) (l.made ++ l.log) l.histories l.are;
+  run = λ r prefix z system machines reads held_there begun kept. told a r prefix z held can.sound planned system plan_of machines reads held_there begun kept l;
+  well = λ r prefix z system bound machines behaved reads takes held_there begun kept. well a r prefix z held can.sound (subst (BindsParameters a.system) (sym bound) binds) planned holdable system plan_of machines behaved reads
       (λ i. subst (λ (p : Plan). TakesState r p i) (sym plan) (takes i)) held_there begun kept l;
 }
 
 pub fails : (task : Task) (system : System) (bad : BadAnswer) (olds news : List View) (old new : Scene) → CanRun system → RunsPeers task system olds news old.spawner new.spawner →
-    Unmade system task.plan.link olds bad news → new.out ≡ old.out → LivesAreOver → ToldUnmade → Fails task system bad old new
+    FailedStart system task.plan.link olds bad news → new.out ≡ old.out → HistoriesAreOver → ToldFailedStart → Fails task system bad old new
 fails task system bad olds news old new can peers unmade out over told = record {
   traces = record {
     account = record { system = system; bound = task.bound; plan = task.plan; olds = olds; news = news; before = old.out; after = new.out; instants = 0; end = E.Bad bad };
@@ -357,19 +357,19 @@ fails task system bad olds news old new can peers unmade out over told = record 
     before_is = refl;
     after_is = refl;
     peers = peers;
-    same = lives_same system olds news unmade.log unmade.lives unmade.are;
+    same = histories_same system olds news unmade.log unmade.histories unmade.are;
     sound = can.sound;
     well = λ r of is well. told system task.bound olds news bad r can.sound of well
-        (subst (λ (p : Plan). Unmade system p.link olds bad news) (sym is) unmade);
+        (subst (λ (p : Plan). FailedStart system p.link olds bad news) (sym is) unmade);
   };
   unmade = unmade;
-  over = over system olds news unmade.log unmade.lives unmade.are;
+  over = over system olds news unmade.log unmade.histories unmade.are;
   out = out;
 }
 
 -- a system that can't be prepared gives back each of its peers
-pub given_back : (system : System) (link : ℕ) (olds news : List View) (fault : PrepareFault) → IsSound system → ArePeersOf system olds → UnmadeIsClosed → FailsToPrepare system link olds fault news → length news ≡ length olds
+pub given_back : (system : System) (link : ℕ) (olds news : List View) (fault : PrepareFault) → IsSound system → ArePeersOf system olds → FailedStartIsClosed → FailsToPrepare system link olds fault news → length news ≡ length olds
 given_back system link olds news F.Memory sound peers closed f = ap (λ (vs : List View). length vs) f
 given_back system link olds news (F.Bad bad) sound peers closed f =
     let u = closed system link olds news bad sound peers f in
-    lives_news system olds news u.log u.lives u.are ∙ sym peers.len
+    histories_news system olds news u.log u.histories u.are ∙ sym peers.len

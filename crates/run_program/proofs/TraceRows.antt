@@ -2,8 +2,8 @@
 use Rattle.std.proofs.Common.{◌≡◌, ◌∙◌, ℕ, List, [], inl, inr, refl, sym, ap, subst}
 use Rattle.command_line.specs.Line.{Asked, IsAsked, IsLine, Line, OfBench, OfCheckpoint, OfResume, OfSystem, OfTrace, TraceLine}
 use Rattle.built_in_laws.specs.BuiltInRuns.{BuiltInsBehaveWell}
-use Rattle.system_files.specs.declared.loading.LoadEnd.{LoadEnd}
-use Rattle.system_files.specs.declared.loading.LoadEnd.TheVariants as end
+use Rattle.system_files.specs.declared.loading.LoadError.{LoadError}
+use Rattle.system_files.specs.declared.loading.LoadError.TheVariants as end
 use Rattle.system_files.specs.declared.named.FileFault.{FileFault}
 use Rattle.system_files.specs.declared.named.FileFault.TheVariants.{Unread, Missing, TooBig, Broken}
 use Rattle.sim_base.specs.Folder.{FolderView}
@@ -18,13 +18,13 @@ use Rattle.run_program.specs.declared.outcome.Outcome.{Outcome}
 use Rattle.run_program.specs.declared.outcome.Outcome.TheVariants.{Words, Memory, File}
 use Rattle.run_program.specs.Bench.{RunsBench}
 use Rattle.run_program.specs.Facts.{LacksLine, LineFacts, WithLine, WithoutLine}
-use Rattle.run_program.specs.Happened.{Happened, Stage}
+use Rattle.run_program.specs.Happened.{Happened, Outside}
 use Rattle.run_program.specs.Held.{NothingHeld, Resumed, RunsCheckpoint, RunsResume}
 use Rattle.run_program.specs.Held as held
 use Rattle.run_program.specs.Message.{file_message, file_status}
 use Rattle.run_program.specs.Refusing.{TellsEnd}
 use Rattle.run_program.specs.Rows.{Answers, KeepsSystemRows, memory_line}
-use Rattle.run_program.specs.TraceCheck.{ChecksTrace, EndsCheck, FailsToRead, ForBench, ForCheckpoint, ForResume, ForTrace, IsOfOther, IsUntold, Judges, KeepsRows, Wanting, question_of}
+use Rattle.run_program.specs.TraceCheck.{ChecksTrace, EndsCheck, FailsToRead, ForBench, ForCheckpoint, ForResume, ForTrace, IsOfOther, IsUntold, Judges, KeepsRows, OutOfMemory, question_of}
 use Rattle.run_program.proofs.Exactly.{answers}
 use Rattle.run_program.proofs.PeerLemmas.{none_begun}
 use Rattle.run_program.proofs.Rows.{keeps_rows}
@@ -84,17 +84,17 @@ no_line_rows behave o h e same none p =
 flaw_told : (fault : FileFault) (path : List ℕ) (h : Happened) (o : Outcome) → o ≡ File path fault → IsUntold h → HasPut o h → IsUntold h × Answers h (file_status fault) (file_message path fault)
 flaw_told fault path h o e bare p = (bare, answers (file_message path fault) (file_status fault) h (subst (λ (x : Outcome). HasPut x h) e p))
 
-wants : (h : Happened) (o : Outcome) → o ≡ Memory → HasPut o h → Answers h 11 memory_line
-wants h o e p = answers memory_line 11 h (subst (λ (x : Outcome). HasPut x h) e p)
+answers_memory : (h : Happened) (o : Outcome) → o ≡ Memory → HasPut o h → Answers h 11 memory_line
+answers_memory h o e p = answers memory_line 11 h (subst (λ (x : Outcome). HasPut x h) e p)
 
-pub refused : (h : Happened) (line : TraceLine) (ended : LoadEnd) (o : Outcome) → LacksVerdict (question_of line) ended h.old.folder h.new.folder → TellsEnd ended o → IsUntold h → HasPut o h → EndsCheck h line
+pub refused : (h : Happened) (line : TraceLine) (ended : LoadError) (o : Outcome) → LacksVerdict (question_of line) ended h.old.folder h.new.folder → TellsEnd ended o → IsUntold h → HasPut o h → EndsCheck h line
 refused h line (end.File file Unread) o f tells bare p = FailsToRead file.path f bare (flaw_told Unread file.path h o tells bare p).1
 refused h line (end.File file Missing) o f tells bare p = Judges (Lacks file.path Absent) f (bare, inr (flaw_told Missing file.path h o tells bare p).1)
 refused h line (end.File file TooBig) o f tells bare p = Judges (Lacks file.path Long) f (bare, inr (flaw_told TooBig file.path h o tells bare p).1)
 refused h line (end.File file (Broken rule place ports)) o f (inl tells) bare p =
     Judges (Lacks file.path (Faulty rule place ports)) f (bare, inr (flaw_told (Broken rule place ports) file.path h o tells bare p).1)
-refused h line (end.File file (Broken rule place ports)) o f (inr tells) bare p = Judges (Lacks file.path (Faulty rule place ports)) f (bare, inl (wants h o tells p))
-refused h line end.Memory o f tells bare p = Wanting f bare (wants h o tells p)
+refused h line (end.File file (Broken rule place ports)) o f (inr tells) bare p = Judges (Lacks file.path (Faulty rule place ports)) f (bare, inl (answers_memory h o tells p))
+refused h line end.Memory o f tells bare p = OutOfMemory f bare (answers_memory h o tells p)
 
 -- no file is read
 none_read : (s : Search) (old new : FolderView) → new ≡ old → ReadsSome s old new
@@ -105,20 +105,20 @@ pub unread_rows : BuiltInsBehaveWell → (o : Outcome) (h : Happened) → o ≡ 
 unread_rows behave o h e same p = record {
   system = λ others. keeps_rows behave o h (WithoutLine (record { why = subst (λ (x : Outcome). LacksLine x h.words) (sym e) tt; same = same })) p;
   trace_check = λ line is. record {
-    calm = ap (λ (s : Stage). s.run.spawner) same;
-    ends = Wanting (Nothing (ap (λ (s : Stage). s.folder) same)) (ap (λ (s : Stage). s.run.out) same) (wants h o e p);
+    calm = ap (λ (s : Outside). s.run.spawner) same;
+    ends = OutOfMemory (Nothing (ap (λ (s : Outside). s.folder) same)) (ap (λ (s : Outside). s.run.out) same) (answers_memory h o e p);
   };
   bench = λ line is. record {
-    files = ap (λ (s : Stage). s.folder) same;
+    files = ap (λ (s : Outside). s.folder) same;
     outcome = Memory;
-    facts = record { peers = []; are = tt; told = ap (λ (s : Stage). s.run.spawner) same ∙ none_begun h.old.run.spawner; out = ap (λ (s : Stage). s.run.out) same };
+    facts = record { peers = []; are = tt; told = ap (λ (s : Outside). s.run.spawner) same ∙ none_begun h.old.run.spawner; out = ap (λ (s : Outside). s.run.out) same };
     told = subst (λ (x : Outcome). HasPut x h) e p;
   };
   checkpoint = λ line is. record {
     outcome = Memory;
-    facts = held.Unloaded (ap (λ (s : Stage). s.run) same) (none_read (held.search_for line) h.old.folder h.new.folder (ap (λ (s : Stage). s.folder) same));
+    facts = held.Unloaded (ap (λ (s : Outside). s.run) same) (none_read (held.search_for line) h.old.folder h.new.folder (ap (λ (s : Outside). s.folder) same));
     told = subst (λ (x : Outcome). HasPut x h) e p;
   };
-  resume = λ line is. Resumed Memory (NothingHeld (ap (λ (s : Stage). s.run) same) (rest.Nothing (ap (λ (s : Stage). s.folder) same)))
+  resume = λ line is. Resumed Memory (NothingHeld (ap (λ (s : Outside). s.run) same) (rest.Nothing (ap (λ (s : Outside). s.folder) same)))
       (subst (λ (x : Outcome). HasPut x h) e p);
 }

@@ -25,13 +25,13 @@ use Rattle.run_program.specs.Runs.{HasRun, IsEndOf, names_of}
 use Rattle.run_program.proofs.BuiltIns.{built_ins, traced}
 use Rattle.run_program.proofs.Exactly.{LoadsAlike, answers, asked_unasked, known_unknown}
 use Rattle.run_program.proofs.PeerLemmas.{all_got}
-use Rattle.run_program.proofs.When.{Fits, HasPut, by_run, for_run, start_rose, taken_idle, wants_idle}
+use Rattle.run_program.proofs.When.{Fits, HasPut, by_run, for_run, idle_out_of_memory, start_rose, taken_idle}
 
 -- ---- the trace
 
-wanting : (o : Outcome) (line : Line) (h : Happened) → IsLine h.words line → LineFacts o line h.old h.new → HasPut o h → o ≡ Memory → Answers h 11 memory_line × IsIdle h
-wanting o line h is f p e =
-    (answers memory_line 11 h (subst (λ (x : Outcome). HasPut x h) e p), (wants_idle line h is (subst (λ (x : Outcome). LineFacts x line h.old h.new) e f)).0)
+out_of_memory : (o : Outcome) (line : Line) (h : Happened) → IsLine h.words line → LineFacts o line h.old h.new → HasPut o h → o ≡ Memory → Answers h 11 memory_line × IsIdle h
+out_of_memory o line h is f p e =
+    (answers memory_line 11 h (subst (λ (x : Outcome). HasPut x h) e p), (idle_out_of_memory line h is (subst (λ (x : Outcome). LineFacts x line h.old h.new) e f)).0)
 
 run_loaded : (behave : BuiltInsBehaveWell) (end : RunEnd) (e : End) (asked : RunLine) (made loaded : Loaded) (h : Happened) → Agree (Found made) (Found loaded) → IsEndOf (names_of made.system) end e →
     HasRun (task_of asked made) made.system end h.old.run h.new.run → HasPut (Ran e) h → RunsLoaded h asked loaded
@@ -65,7 +65,7 @@ trace_run behave Untold asked made loaded h agree how f p knows calm = absurd f
 
 pub trace_exact : (behave : BuiltInsBehaveWell) (o : Outcome) (line : Line) (asked : RunLine) (loaded : Loaded) (h : Happened) → IsLine h.words line → LineFacts o line h.old h.new → HasPut o h → run_in line ≡ Some asked →
     AreKnown asked.host h.old.run.spawner loaded.system.components → (Rose h.old.run.spawner.faults h.new.run.spawner.faults → ⊥) → (o ≡ Memory) ⊎ LoadsAlike line h o loaded → RunsOr11 h asked loaded
-trace_exact behave o line asked loaded h is f p is_asked knows calm (inl e) = inl (wanting o line h is f p e)
+trace_exact behave o line asked loaded h is f p is_asked knows calm (inl e) = inl (out_of_memory o line h is f p e)
 trace_exact behave o line asked loaded h is f p is_asked knows calm (inr s) =
     by_run o line h s.made s.loads s.facts
     (λ it same g. subst (λ (x : RunLine). RunsOr11 h x loaded) (same_Some it.asked asked (sym it.is_asked ∙ is_asked))
@@ -108,7 +108,7 @@ size_writes one other h same bound (Cut status t) =
 
 pub check_exact : (o : Outcome) (line : Line) (loaded : Loaded) (h : Happened) → IsLine h.words line → LineFacts o line h.old h.new → HasPut o h → run_in line ≡ None →
     (o ≡ Memory) ⊎ LoadsAlike line h o loaded → (Answers h 11 memory_line × IsIdle h) ⊎ WritesSize h loaded
-check_exact o line loaded h is f p none (inl e) = inl (wanting o line h is f p e)
+check_exact o line loaded h is f p none (inl e) = inl (out_of_memory o line h is f p e)
 check_exact o line loaded h is f p none (inr s) =
     by_run o line h s.made s.loads s.facts
     (λ it same g. asked_unasked it.asked (run_in line) it.is_asked none)

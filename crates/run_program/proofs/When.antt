@@ -26,7 +26,7 @@ use Rattle.run_program.specs.Message.{Reports, CutsShort, message, status_of, fi
 use Rattle.system_files.specs.declared.loaded.Loaded.{Loaded}
 use Rattle.system_files.specs.Loads.{FileFails}
 use Rattle.run_program.specs.Facts.{Calm, CheckFacts, Facts, LineFacts, LoadFacts, LoadedFacts, LoadsLine, OfSystem, RunFacts, Unloaded, WithLine, WithoutLine, search_for, task_of}
-use Rattle.run_program.specs.Happened.{Happened, Scene, Stage}
+use Rattle.run_program.specs.Happened.{Happened, Outside, Scene}
 use Rattle.run_program.specs.Peers.{AreStarted, with_all_started}
 use Rattle.run_program.specs.Rows.{AreStartedFor, Ended, ForRun, IsOfRun, IsUncalled, IsUnfailed, Nobody, Told, Says, IsIdle, IsSilent, IsMute, memory_line, OnLine, IsNoLine, HasEnded, LacksFile, IsUnread, IsMissing, IsTooBig, BreaksRule, BreaksOffBy, LosesPeer, NotStarted, NotKnown, NotAnswering, IsRefusedWhy, IsMisreplyWhy, RunsTo}
 use Rattle.event_iteration.specs.declared.lost.LostValue.{LostValue}
@@ -139,17 +139,17 @@ unstarted_idle task system name cause h how f =
 
 -- nothing was read
 unread : (h : Happened) → h.new ≡ h.old → IsUnfailed h
-unread h same = let none = none_here h.old.folder h.new.folder (ap (λ (s : Stage). s.folder) same) in ([], none.told, none.unfailed)
+unread h same = let none = none_here h.old.folder h.new.folder (ap (λ (s : Outside). s.folder) same) in ([], none.told, none.unfailed)
 
 -- where memory runs out nothing was called, and no read failed
-abbrev pub IsWanting : Happened → Type 0
-IsWanting h = IsIdle h × (h.new.run.spawner.faults ≡ h.old.run.spawner.faults) × IsUnfailed h
+abbrev pub IsOutOfMemory : Happened → Type 0
+IsOutOfMemory h = IsIdle h × (h.new.run.spawner.faults ≡ h.old.run.spawner.faults) × IsUnfailed h
 
-pub wants_idle : (line : Line) (h : Happened) → IsLine h.words line → LineFacts Memory line h.old h.new → IsWanting h
-wants_idle line h is (Unloaded calm some) = (calm_idle h calm, ap (λ (s : Scene). s.spawner.faults) calm, (some.reads, some.asks.told, some.asks.unfailed))
-wants_idle line h is (OfSystem loaded loads facts) = by (run_in line) refl facts
+pub idle_out_of_memory : (line : Line) (h : Happened) → IsLine h.words line → LineFacts Memory line h.old h.new → IsOutOfMemory h
+idle_out_of_memory line h is (Unloaded calm some) = (calm_idle h calm, ap (λ (s : Scene). s.spawner.faults) calm, (some.reads, some.asks.told, some.asks.unfailed))
+idle_out_of_memory line h is (OfSystem loaded loads facts) = by (run_in line) refl facts
   where
-    by : (asked : Option RunLine) → run_in line ≡ asked → LoadedFacts asked Memory loaded h.old.run h.new.run → IsWanting h
+    by : (asked : Option RunLine) → run_in line ≡ asked → LoadedFacts asked Memory loaded h.old.run h.new.run → IsOutOfMemory h
     by (Some asked) e back = (
       taken_idle (task_of asked loaded) loaded.system h (for_run line h is (record { asked = asked; is_asked = e; loaded = loaded; loads = loads })) back,
       ap (λ (s : SpawnerView). s.faults) back.told,
@@ -158,7 +158,7 @@ wants_idle line h is (OfSystem loaded loads facts) = by (run_in line) refl facts
     by None e back = absurd back
 
 pub same_idle : (h : Happened) → h.new ≡ h.old → IsIdle h
-same_idle h same = calm_idle h (ap (λ (s : Stage). s.run) same)
+same_idle h same = calm_idle h (ap (λ (s : Outside). s.run) same)
 
 pub line_idle : (h : Happened) → Calm h.old.run h.new.run → IsIdle h
 line_idle h calm = calm_idle h calm
@@ -237,7 +237,7 @@ by_run {A} o line h loaded loads facts on_run on_check = by (run_in line) refl f
 
 unloaded_when : (o : Outcome) (line : Line) (h : Happened) → IsLine h.words line → Calm h.old.run h.new.run → LoadFacts o line h.old.folder h.new.folder → Put h (message o) → WhenIs (of_outcome o) h
 unloaded_when Words line h is calm f says = absurd f
-unloaded_when Memory line h is calm f says = let i = wants_idle line h is (Unloaded calm f) in (i.0, i.1, i.2, says)
+unloaded_when Memory line h is calm f says = let i = idle_out_of_memory line h is (Unloaded calm f) in (i.0, i.1, i.2, says)
 unloaded_when (File path fault) line h is calm f says = file_when fault path line h is calm f says
 unloaded_when (Start name cause) line h is calm f says = absurd f
 unloaded_when (Ran e) line h is calm f says = absurd f
@@ -253,7 +253,7 @@ outcome_when : (o : Outcome) (h : Happened) → HasFacts o h → HasPut o h → 
 outcome_when o h (WithLine r) p says = line_when o r.line h r.is r.facts p says
 outcome_when Words h (WithoutLine w) p says = (w.why, w.same, says)
 outcome_when Memory h (WithoutLine w) p says =
-    (same_idle h w.same, ap (λ (s : Stage). s.run.spawner.faults) w.same, unread h w.same, says)
+    (same_idle h w.same, ap (λ (s : Outside). s.run.spawner.faults) w.same, unread h w.same, says)
 outcome_when (File path fault) h (WithoutLine w) p says = absurd w.why
 outcome_when (Start name cause) h (WithoutLine w) p says = absurd w.why
 outcome_when (Ran e) h (WithoutLine w) p says = absurd w.why

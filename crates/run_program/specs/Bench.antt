@@ -5,7 +5,7 @@ use Rattle.fmu_peer.specs.declared.peer.Exchange.{Exchange}
 use Rattle.system_model.specs.declared.system.System.{System}
 use Rattle.system_model.specs.Text.{Instant}
 use Rattle.calling_sequence.specs.declared.run_end.RunEnd.{RunEnd}
-use Rattle.step_master.specs.Lives.{Life, talk_in}
+use Rattle.step_master.specs.Histories.{PeerHistory, talk_in}
 use Rattle.command_line.specs.Line.{BenchLine, built_in_host}
 use Rattle.generated_system.specs.Counts.{is_restore}
 use Rattle.generated_system.specs.Generated.{bench_plan, generated_bound, generated_system}
@@ -18,7 +18,7 @@ use Rattle.run_program.specs.Facts.{EndsSo, RunFacts}
 use Rattle.run_program.specs.Happened.{Happened, Scene, scene}
 use Rattle.run_program.specs.Message.{CutsShort, Reports, message, status_of, summary_text}
 use Rattle.run_program.specs.Rows.{IsFinished}
-use Rattle.run_program.specs.Runs.{Broke, FailsToStart, Goes, HasRun, IsEndOf, TakesBack, Task, Went, names_of}
+use Rattle.run_program.specs.Runs.{Broke, FailsToStart, HasRun, IsEndOf, RunCompletes, TakesBack, Task, Went, names_of}
 
 -- ---- the numbers of a run
 
@@ -26,23 +26,24 @@ use Rattle.run_program.specs.Runs.{Broke, FailsToStart, Goes, HasRun, IsEndOf, T
 abbrev pub counted : ℕ → ℕ
 counted n = min n (2 ^ 64 - 1)
 
-abbrev pub exchanges_in : List Life → ℕ
-exchanges_in lives = sum_by (λ (l : Life). counted (length (talk_in l))) lives
+abbrev pub exchanges_in : List PeerHistory → ℕ
+exchanges_in histories = sum_by (λ (l : PeerHistory). counted (length (talk_in l))) histories
 
-abbrev pub restores_in : List Life → ℕ
-restores_in lives =
-    sum_by (λ (l : Life). counted (count_by (λ (e : Exchange). is_restore e.call) (talk_in l))) lives
+abbrev pub restores_in : List PeerHistory → ℕ
+restores_in histories =
+    sum_by (λ (l : PeerHistory). counted (count_by (λ (e : Exchange). is_restore e.call) (talk_in l))) histories
 
 -- the numbers are those of these instants and of these histories
-pub record AreNumbersOf (numbers : Numbers) (is : List Instant) (lives : List Life) : Type 0 where
+pub record AreNumbersOf (numbers : Numbers) (is : List Instant) (histories : List PeerHistory) :
+    Type 0 where
   pub instants : numbers.instants ≡ length is
-  pub calls : numbers.calls ≡ exchanges_in lives
-  pub rollbacks : numbers.rollbacks ≡ restores_in lives
+  pub calls : numbers.calls ≡ exchanges_in histories
+  pub rollbacks : numbers.rollbacks ≡ restores_in histories
 
 -- the numbers are those of the run; one that didn't begin has none
 abbrev pub HasNumbers : Numbers → {task : Task} {system : System} {end : RunEnd}
     {old new : Scene} → HasRun task system end old new → Type 0
-HasNumbers numbers (Went g) = AreNumbersOf numbers g.lived.is g.lived.lives
+HasNumbers numbers (Went g) = AreNumbersOf numbers g.session.is g.session.histories
 HasNumbers numbers (Broke bad is f) = Unit {0}
 
 -- a run ended, the outcome tells its end, and these are its numbers
@@ -107,9 +108,9 @@ unkept s = scene s.spawner (record { content = None; puts = None; faults = 0 })
 pub record Finishes (line : BenchLine) (old new : Scene) (text : List ℕ) : Type 0 where
   pub end : RunEnd
   pub finished : IsFinished end
-  pub run : Goes (task_for line) (system_for line) end (unkept old) (unkept new)
-  pub text_is : text ≡ summary_text (length run.lived.is) (exchanges_in run.lived.lives)
-      (restores_in run.lived.lives)
+  pub run : RunCompletes (task_for line) (system_for line) end (unkept old) (unkept new)
+  pub text_is : text ≡ summary_text (length run.session.is) (exchanges_in run.session.histories)
+      (restores_in run.session.histories)
 
 -- the line is put in one piece, or that put fails
 abbrev pub Tells : List ℕ → Outcome → SinkView → SinkView → Type 0

@@ -13,7 +13,7 @@ use Rattle.system_files.specs.Order.{Found, Search, search_of}
 use Rattle.run_program.specs.declared.outcome.Outcome.{Outcome}
 use Rattle.run_program.specs.declared.outcome.Outcome.TheVariants.{Words, Memory, File, Start, Ran, Checked, Untold}
 use Rattle.run_program.specs.declared.outcome.End.{End}
-use Rattle.run_program.specs.Happened.{Scene, Stage}
+use Rattle.run_program.specs.Happened.{Outside, Scene}
 use Rattle.run_program.specs.Message.{CutsShort, size_text}
 use Rattle.run_program.specs.Runs.{FailsToStart, HasRun, IsEndOf, TakesBack, Task, names_of}
 
@@ -112,7 +112,7 @@ LoadFacts Checked line old new = ⊥
 LoadFacts Untold line old new = ⊥
 
 -- nothing is loaded, and nothing else is done; or what is loaded is run or checked
-pub data LineFacts (outcome : Outcome) (line : Line) (old new : Stage) : Type 0 where
+pub data LineFacts (outcome : Outcome) (line : Line) (old new : Outside) : Type 0 where
   Unloaded : Calm old.run new.run → LoadFacts outcome line old.folder new.folder →
       LineFacts outcome line old new
   OfSystem : (loaded : Loaded) → LoadsLine line loaded old.folder new.folder →
@@ -121,7 +121,7 @@ pub data LineFacts (outcome : Outcome) (line : Line) (old new : Stage) : Type 0 
 -- ---- the arguments
 
 -- the command that the arguments are, and what holds of its outcome
-pub record RunsLine (outcome : Outcome) (words : List (List ℕ)) (old new : Stage) : Type 0 where
+pub record RunsLine (outcome : Outcome) (words : List (List ℕ)) (old new : Outside) : Type 0 where
   pub line : Line
   pub is : IsLine words line
   pub only : (other : Line) → IsLine words other → line ≡ other
@@ -138,11 +138,12 @@ LacksLine Checked words = ⊥
 LacksLine Untold words = ⊥
 
 -- no line is read, and nothing is done
-pub record ReadsNoLine (outcome : Outcome) (words : List (List ℕ)) (old new : Stage) : Type 0 where
-  pub why : LacksLine outcome words
-  pub same : new ≡ old
+pub record ReadsNoLine (outcome : Outcome) (words : List (List ℕ)) (old new : Outside) : Type 0
+  where
+    pub why : LacksLine outcome words
+    pub same : new ≡ old
 
 -- what holds of an outcome of the program
-pub data Facts (outcome : Outcome) (words : List (List ℕ)) (old new : Stage) : Type 0 where
+pub data Facts (outcome : Outcome) (words : List (List ℕ)) (old new : Outside) : Type 0 where
   WithLine : RunsLine outcome words old new → Facts outcome words old new
   WithoutLine : ReadsNoLine outcome words old new → Facts outcome words old new

@@ -13,23 +13,23 @@ abbrev pub scene : SpawnerView → SinkView → Scene
 scene spawner out = record { spawner = spawner; out = out }
 
 -- and what files tell
-pub record Stage : Type 0 where
+pub record Outside : Type 0 where
   pub folder : FolderView
   pub run : Scene
 
-abbrev pub stage : FolderView → SpawnerView → SinkView → Stage
-stage folder spawner out = record { folder = folder; run = scene spawner out }
+abbrev pub outside : FolderView → SpawnerView → SinkView → Outside
+outside folder spawner out = record { folder = folder; run = scene spawner out }
 
 -- the arguments, what is told before and after, what the error sink tells before and after, and the status
 pub record Happened : Type 0 where
   pub words : List (List ℕ)
-  pub old : Stage
-  pub new : Stage
+  pub old : Outside
+  pub new : Outside
   pub err : SinkView
   pub err_after : SinkView
   pub status : ℕ
 
-abbrev pub happened : List (List ℕ) → Stage → Stage → SinkView → SinkView → ℕ → Happened
+abbrev pub happened : List (List ℕ) → Outside → Outside → SinkView → SinkView → ℕ → Happened
 happened words old new err err_after status =
     record {
       words = words;

@@ -13,14 +13,14 @@ use Rattle.run_rest.specs.Laws.{StepsWithin}
 use Rattle.run_rest.specs.Packing.{ReadsBack}
 use Rattle.machine_courses.specs.Held.{HoldsRun, checkpoint_of, ends_before, packings_of}
 use Rattle.machine_courses.specs.Kept.{PutsState, TakesState}
-use Rattle.machine_courses.specs.Outcomes.{PutsRunIn, rest_behind}
-use Rattle.step_master.specs.Traced.{HoldsWell, IsRunOf, TellMachines, TracesWellIn, output_of}
+use Rattle.machine_courses.specs.Outcomes.{PutsRunIn, rest_after}
+use Rattle.step_master.specs.Traced.{AreMachinesOf, HoldsWell, IsRunOf, TracesWellIn, output_of}
 use Rattle.system_checkpoint.specs.declared.snapshot.Snapshot.{Snapshot}
 use Rattle.slot_calls.specs.declared.bad_answer.BadAnswer.{BadAnswer}
 use Rattle.calling_sequence.specs.declared.run_end.RunEnd.{RunEnd}
 use Rattle.calling_sequence.specs.declared.run_end.RunEnd.TheVariants as E
-use Rattle.step_master.specs.Lived.{Account, HeldLived, RestLived}
-use Rattle.step_master.specs.Lives.{AreOver}
+use Rattle.step_master.specs.Sessions.{Account, HeldSession, ResumedSession}
+use Rattle.step_master.specs.Histories.{AreOver}
 use Rattle.command_line.specs.Line.{CheckpointLine, ResumeLine}
 use Rattle.system_files.specs.declared.loaded.Loaded.{Loaded}
 use Rattle.system_files.specs.declared.named.FileFault.TheVariants.{Unread, Missing, TooBig, Broken}
@@ -33,7 +33,7 @@ use Rattle.run_program.specs.declared.outcome.Outcome.{Outcome}
 use Rattle.run_program.specs.declared.outcome.Outcome.TheVariants.{Words, Memory, File, Start, Ran, Checked, Untold}
 use Rattle.run_program.specs.declared.outcome.End.{End}
 use Rattle.run_program.specs.Facts.{Calm, task_of}
-use Rattle.run_program.specs.Happened.{Happened, Scene, Stage}
+use Rattle.run_program.specs.Happened.{Happened, Outside, Scene}
 use Rattle.run_program.specs.Message.{Reports, checkpoint_message, message, status_of}
 use Rattle.run_program.specs.Runs.{FailsToStart, Fails, IsEndOf, RunsPeers, TakesBack, Task, names_of}
 
@@ -59,16 +59,16 @@ pub record Holds (task : Task) (system : System) (at : ℕ) (end : RunEnd)
   pub is : IsAccountOf task system end account old new
   pub bound_is : account.bound ≡ task.bound
   pub same : map (λ (v : View). v.fixed) account.news ≡ map (λ (v : View). v.fixed) account.olds
-  pub lived : HeldLived account at
-  pub over : AreOver lived.lives
+  pub session : HeldSession account at
+  pub over : AreOver session.histories
   pub run : (r : Run) → IsRunOf system task.bound account.olds r → r.plan ≡ task.plan →
-      HoldsRun r at lived.outcome lived.piece
+      HoldsRun r at session.outcome session.piece
   pub none : (r : Run) → IsRunOf system task.bound account.olds r → r.plan ≡ task.plan →
-      StepsWithin r → ends_before lived.outcome ≡ true → (is : List Instant) (z : Situation) →
+      StepsWithin r → ends_before session.outcome ≡ true → (is : List Instant) (z : Situation) →
       HeldAt r at is z → ⊥
   pub well : (r : Run) → IsRunOf system task.bound account.olds r → r.plan ≡ task.plan →
       WellBehaved r → ((i : ℕ) → PutsState r i) →
-      HoldsWell account r at lived.outcome lived.piece
+      HoldsWell account r at session.outcome session.piece
 
 -- or the answer to an Instantiate isn't good
 pub data HasHeld (task : Task) (system : System) (at : ℕ) (end : RunEnd) (old new : Scene) : Type 0 where
@@ -104,7 +104,7 @@ abbrev pub search_for : CheckpointLine → Search
 search_for line = search_by line.run.directory line.run.plan
 
 -- nothing is loaded, and nothing else is done; or what is loaded is run until it is held
-pub data CheckpointFacts (outcome : Outcome) (line : CheckpointLine) (old new : Stage) : Type 0 where
+pub data CheckpointFacts (outcome : Outcome) (line : CheckpointLine) (old new : Outside) : Type 0 where
   Unloaded : Calm old.run new.run →
       LoadHeldFacts outcome (search_for line) line.run.plan old.folder new.folder →
       CheckpointFacts outcome line old new
@@ -143,17 +143,17 @@ pub record GoesOn (task : Task) (system : System) (held : Snapshot) (end : RunEn
     (old new : Scene) : Type 0 where
   pub account : Account
   pub is : IsAccountOf task system end account old new
-  pub lived : RestLived account held
-  pub over : AreOver lived.lives
-  pub run : (r : Run) (front : List Instant) (z : Situation) → r.system ≡ system →
-      TellMachines account.olds r.machines → ReadsBack r (packings_of r) → Held r front z →
+  pub session : ResumedSession account held
+  pub over : AreOver session.histories
+  pub run : (r : Run) (prefix : List Instant) (z : Situation) → r.system ≡ system →
+      AreMachinesOf account.olds r.machines → ReadsBack r (packings_of r) → Held r prefix z →
       r.plan.start ≤ z.t → held ≡ checkpoint_of r z →
-      PutsRunIn r (rest_behind front) (output_of account) end
-  pub well : (r : Run) (front : List Instant) (z : Situation) → r.system ≡ system →
-      r.bound ≡ task.bound → TellMachines account.olds r.machines → WellBehaved r →
-      ReadsBack r (packings_of r) → ((i : ℕ) → TakesState r task.plan i) → Held r front z →
+      PutsRunIn r (rest_after prefix) (output_of account) end
+  pub well : (r : Run) (prefix : List Instant) (z : Situation) → r.system ≡ system →
+      r.bound ≡ task.bound → AreMachinesOf account.olds r.machines → WellBehaved r →
+      ReadsBack r (packings_of r) → ((i : ℕ) → TakesState r task.plan i) → Held r prefix z →
       r.plan.start ≤ z.t → held ≡ checkpoint_of r z →
-      TracesWellIn account r (rest_behind front) end
+      TracesWellIn account r (rest_after prefix) end
 
 -- or the answer to an Instantiate isn't good
 pub data HasGoneOn (task : Task) (system : System) (held : Snapshot) (end : RunEnd)
@@ -191,7 +191,7 @@ LoadRestFacts Checked q old new = ⊥
 LoadRestFacts Untold q old new = ⊥
 
 -- nothing is loaded, and nothing else is done; or what is loaded goes on
-pub data ResumeFacts (outcome : Outcome) (line : ResumeLine) (old new : Stage) : Type 0 where
+pub data ResumeFacts (outcome : Outcome) (line : ResumeLine) (old new : Outside) : Type 0 where
   NothingHeld : Calm old.run new.run →
       LoadRestFacts outcome (question_of line) old.folder new.folder →
       ResumeFacts outcome line old new

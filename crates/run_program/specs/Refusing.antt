@@ -1,7 +1,7 @@
 -- The outcome where nothing is loaded.
 use Rattle.std.specs.Prelude.{◌≡◌, ◌⊎◌, List, ℕ}
-use Rattle.system_files.specs.declared.loading.LoadEnd.{LoadEnd}
-use Rattle.system_files.specs.declared.loading.LoadEnd.TheVariants as end
+use Rattle.system_files.specs.declared.loading.LoadError.{LoadError}
+use Rattle.system_files.specs.declared.loading.LoadError.TheVariants as end
 use Rattle.system_files.specs.declared.named.FileFault.{FileFault}
 use Rattle.system_files.specs.declared.named.FileFault.TheVariants.{Unread, Missing, TooBig, Broken}
 use Rattle.run_program.specs.declared.outcome.Outcome.{Outcome}
@@ -15,6 +15,6 @@ TellsFile path Unread outcome = outcome ≡ File path Unread
 TellsFile path Missing outcome = outcome ≡ File path Missing
 TellsFile path TooBig outcome = outcome ≡ File path TooBig
 
-abbrev pub TellsEnd : LoadEnd → Outcome → Type 0
+abbrev pub TellsEnd : LoadError → Outcome → Type 0
 TellsEnd (end.File file fault) outcome = TellsFile file.path fault outcome
 TellsEnd end.Memory outcome = outcome ≡ Memory

@@ -106,7 +106,7 @@ pub data ReadsFiles (h : Happened) (line : Line) : Type 0 where
       ReadsFiles h line
   Failing : (path : List ℕ) → FailsToRead (search_for line) path h.old.folder h.new.folder →
       Answers h 3 (file_message path Unread) → ReadsFiles h line
-  Wanting : ReadsSome (search_for line) h.old.folder h.new.folder →
+  OutOfMemory : ReadsSome (search_for line) h.old.folder h.new.folder →
       Answers h 11 memory_line → ReadsFiles h line
 
 -- without a line no file is asked for
@@ -213,13 +213,13 @@ talks_of peers = map (λ (v : View). record {
 -- why is the first answer of the talk's run that isn't good: the calls before it got good ones, and its own is none of the closing's, among the talks of all
 pub record IsFirstBadOf (talks : List Talk) (shape : Shape) (why : Why)
     (talk : List Exchange) : Type 0 where
-  pub front : List Exchange
+  pub prefix : List Exchange
   pub last : Exchange
   pub rest : List Exchange
-  pub is : talk ≡ front ++ last ∷ rest
-  pub good : T.AllGood shape front
+  pub is : talk ≡ prefix ++ last ∷ rest
+  pub good : T.AllGood shape prefix
   pub bad : IsWhy shape why last
-  pub of_run : IsOfClosing talks shape front last.call rest → ⊥
+  pub of_run : IsOfClosing talks shape prefix last.call rest → ⊥
 
 -- these peers were taken back, each tells its talk, and no put on out failed
 pub record TellPeers (h : Happened) (peers : List View)

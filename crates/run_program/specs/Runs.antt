@@ -19,8 +19,8 @@ use Rattle.run_model.specs.Behaved.{WellBehaved}
 use Rattle.slot_calls.specs.declared.bad_answer.BadAnswer.{BadAnswer}
 use Rattle.calling_sequence.specs.declared.run_end.RunEnd.{RunEnd}
 use Rattle.calling_sequence.specs.declared.run_end.RunEnd.TheVariants as E
-use Rattle.step_master.specs.Lived.{Account, Lived, Unmade}
-use Rattle.step_master.specs.Lives.{AreOver}
+use Rattle.step_master.specs.Sessions.{Account, FailedStart, Session}
+use Rattle.step_master.specs.Histories.{AreOver}
 use Rattle.machine_courses.specs.Outcomes.{PutsRun}
 use Rattle.step_master.specs.Traced.{IsRunOf, TracesWell, output_of}
 use Rattle.run_program.specs.declared.outcome.StartCause.{StartCause}
@@ -139,23 +139,24 @@ pub record Traces (task : Task) (system : System) (end : RunEnd) (old new : Scen
       WellBehaved r → TracesOnce account r end
 
 -- all instances were made, and the run went on to its end. Each peer that isn't spared after a Fatal of its source is over. What it put of told machines is their run, up to where it was broken off
-pub record Goes (task : Task) (system : System) (end : RunEnd) (old new : Scene) : Type 0 where
-  pub traces : Traces task system end old new
-  pub lived : Lived traces.account
-  pub over : AreOver lived.lives
-  pub so_far : (r : Run) → IsRunOf system task.bound traces.account.olds r →
-      r.plan ≡ task.plan → PutsRun r (output_of traces.account) end
+pub record RunCompletes (task : Task) (system : System) (end : RunEnd) (old new : Scene) : Type 0
+  where
+    pub traces : Traces task system end old new
+    pub session : Session traces.account
+    pub over : AreOver session.histories
+    pub so_far : (r : Run) → IsRunOf system task.bound traces.account.olds r →
+        r.plan ≡ task.plan → PutsRun r (output_of traces.account) end
 
 -- the answer to an Instantiate isn't good, and nothing was put; each peer that isn't spared is over
 pub record Fails (task : Task) (system : System) (bad : BadAnswer) (old new : Scene) : Type 0 where
   pub traces : Traces task system (E.Bad bad) old new
-  pub unmade : Unmade system task.plan.link traces.account.olds bad traces.account.news
-  pub over : AreOver unmade.lives
+  pub unmade : FailedStart system task.plan.link traces.account.olds bad traces.account.news
+  pub over : AreOver unmade.histories
   pub out : new.out ≡ old.out
 
 -- a run with this end
 pub data HasRun (task : Task) (system : System) (end : RunEnd) (old new : Scene) : Type 0 where
-  Went : Goes task system end old new → HasRun task system end old new
+  Went : RunCompletes task system end old new → HasRun task system end old new
   Broke : (bad : BadAnswer) → end ≡ E.Bad bad → Fails task system bad old new →
       HasRun task system end old new
 

@@ -64,7 +64,7 @@ pub data EndsCheck (h : Happened) (line : TraceLine) : Type 0 where
       Tells h j → EndsCheck h line
   FailsToRead : (path : List ℕ) → FailsReading (question_of line) path h.old.folder h.new.folder →
       IsUntold h → Answers h 3 (file_message path Unread) → EndsCheck h line
-  Wanting : ReadsFew (question_of line) h.old.folder h.new.folder → IsUntold h →
+  OutOfMemory : ReadsFew (question_of line) h.old.folder h.new.folder → IsUntold h →
       Answers h 11 memory_line → EndsCheck h line
 
 -- no peer is started

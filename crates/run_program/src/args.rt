@@ -3,7 +3,7 @@ ghost use Rattle.std.specs.IoError.{error_kind};
 ghost use Rattle.std.specs.Vec.Iter.{into_iter_items};
 ghost use Rattle.command_line.specs.Line.{texts};
 ghost use Rattle.run_program.specs.Given.{ungiven_outcome};
-ghost use Rattle.run_program.specs.Happened.{happened, stage};
+ghost use Rattle.run_program.specs.Happened.{happened, outside};
 ghost use Rattle.run_program.specs.Message.{Reports, message, status_of};
 ghost use Rattle.run_program.specs.TraceCheck.{KeepsRows};
 
@@ -29,17 +29,17 @@ pub fn run_args<R: Threads + Sync, F: Folder, S: Spawner, O: Sink, E: Sink>(
     err: &mut E,
 ) -> u8
     ensures given { IfOk args (λ given. KeepsRows (happened (texts (drop 1 (into_iter_items given)))
-        (stage (F.view folder.old) (S.view spawner.old) (O.view out.old))
-        (stage (F.view folder.new) (S.view spawner.new) (O.view out.new))
+        (outside (F.view folder.old) (S.view spawner.old) (O.view out.old))
+        (outside (F.view folder.new) (S.view spawner.new) (O.view out.new))
         (E.view err.old) (E.view err.new) result)) }
-    ensures same { IfErr args (λ error. stage (F.view folder.new) (S.view spawner.new) (O.view out.new)
-        ≡ stage (F.view folder.old) (S.view spawner.old) (O.view out.old)) }
+    ensures same { IfErr args (λ error. outside (F.view folder.new) (S.view spawner.new) (O.view out.new)
+        ≡ outside (F.view folder.old) (S.view spawner.old) (O.view out.old)) }
     ensures ungiven { IfErr args (λ error. let outcome = ungiven_outcome (error_kind error) in
         Reports (message outcome) (status_of outcome) result (E.view err.old) (E.view err.new)) }
 {
     built_in_runs();
     match args {
-        Ok(given) => match words_behind(alloc, given) {
+        Ok(given) => match words_after(alloc, given) {
             Ok(words) => run_words(rt, alloc, &words, folder, spawner, out, err),
             Err(_) => Report::memory(alloc).put(err),
         },
@@ -48,7 +48,7 @@ pub fn run_args<R: Threads + Sync, F: Folder, S: Spawner, O: Sink, E: Sink>(
 }
 
 // The arguments after the program's name.
-fn words_behind(alloc: Global, given: Args) -> Result<Vec<String>, AllocError>
+fn words_after(alloc: Global, given: Args) -> Result<Vec<String>, AllocError>
     ensures { IfOk result (λ words. words.items ≡ drop 1 (into_iter_items given)) }
 {
     given.skip(1).collect(alloc)

@@ -7,7 +7,7 @@ ghost use Rattle.system_checkpoint.specs.Spelling.{CanBeHeld};
 ghost use Rattle.system_model.specs.Bounds.{BindsParameters};
 ghost use Rattle.trace_text.specs.Holding.{IsHoldable};
 ghost use Rattle.run_program.specs.Facts.{task_of};
-ghost use Rattle.run_program.specs.Happened.{happened, scene, stage};
+ghost use Rattle.run_program.specs.Happened.{happened, outside, scene};
 ghost use Rattle.run_program.specs.Held.{CheckpointFacts, HoldFacts, RestFacts, RunsResume, rest_of, rest_plan};
 ghost use Rattle.run_program.specs.Message.{Reports, checkpoint_message};
 ghost use Rattle.run_program.specs.Peers.{AreKnown, AreMade, AreStarted, with_all_retired, with_all_started};
@@ -26,9 +26,9 @@ use fmu_peer::Spawner;
 use sim_base::{Folder, Sink, Text};
 use std::alloc::Global;
 use std::thread::Threads;
-use step_master::{Master, PrepareEnd, PrepareFault, RunEnd, lives_of_peers, runs_of_machines};
+use step_master::{Master, PrepareEnd, PrepareFault, RunEnd, histories_of_peers, runs_of_machines};
 use system_checkpoint::Snapshot;
-use system_files::{LoadEnd, Loaded, NamedFile, load_held};
+use system_files::{LoadError, Loaded, NamedFile, load_held};
 use system_model::{Bound, Plan, System};
 
 /// Runs the system in a directory, and puts no trace of it. At the first point from `at` on that is done and before the stop,
@@ -43,8 +43,8 @@ pub(crate) fn hold_run<R: Threads + Sync, F: Folder, S: Spawner, O: Sink>(
 ) -> Report
     requires { MayBeHeld (checkpoint_of options) }
     ensures { CheckpointFacts result.outcome (checkpoint_of options.entry)
-        (stage (F.view folder.old) (S.view spawner.old) (O.view out.old))
-        (stage (F.view folder.new) (S.view spawner.new) (O.view out.new)) }
+        (outside (F.view folder.old) (S.view spawner.old) (O.view out.old))
+        (outside (F.view folder.new) (S.view spawner.new) (O.view out.new)) }
 {
     match load_held(alloc, options.run.directory, options.run.plan, folder) {
         Ok(loaded) => hold_system(rt, alloc, options, loaded, spawner, out),
@@ -110,7 +110,7 @@ fn hold_peers<R: Threads + Sync, S: Spawner, O: Sink>(
     ensures { (before : SpawnerView) → AreKnown options.entry.run.host.now before system.components → AreMade options.entry.run.host.now before system.components (map S.Link.view started.peers.items) → S.view spawner.old ≡ with_all_started before (length started.peers.items) →
         HoldFacts result.outcome (record { plan = options.entry.run.plan; host = options.entry.run.host.now; bound = bound; folders = folders.now }) system options.entry.at (scene before (O.view out.old)) (scene (S.view spawner.new) (O.view out.new)) }
 {
-    lives_of_peers();
+    histories_of_peers();
     runs_of_machines();
     let Started { naming, peers } = started;
     match Master::prepare(alloc, system, bound, peers, options.run.plan) {
@@ -141,8 +141,8 @@ pub(crate) fn resume_run<R: Threads + Sync, F: Folder, S: Spawner, O: Sink, E: S
 ) -> u8
     requires { MayGoOn (resume_of options) }
     ensures { (words : List (List ℕ)) → RunsResume (happened words
-        (stage (F.view folder.old) (S.view spawner.old) (O.view out.old))
-        (stage (F.view folder.new) (S.view spawner.new) (O.view out.new))
+        (outside (F.view folder.old) (S.view spawner.old) (O.view out.old))
+        (outside (F.view folder.new) (S.view spawner.new) (O.view out.new))
         (E.view err.old) (E.view err.new) result) (resume_of options.entry) }
 {
     match load_rest(alloc, options.directory, options.file, folder) {
@@ -150,7 +150,7 @@ pub(crate) fn resume_run<R: Threads + Sync, F: Folder, S: Spawner, O: Sink, E: S
         Err(end) => match end {
             RestEnd::NoCheckpoint { file, at } => put_no_checkpoint(file, at, err),
             RestEnd::File { file, fault } => {
-                refuse(alloc, LoadEnd::File { file, fault }).put(err)
+                refuse(alloc, LoadError::File { file, fault }).put(err)
             }
             RestEnd::Memory => Report::memory(alloc).put(err),
         },
@@ -227,7 +227,7 @@ fn resume_peers<R: Threads + Sync, S: Spawner, O: Sink>(
     ensures { (before : SpawnerView) (bound : Bound) → BindsParameters system bound → AreKnown options.entry.host.now before system.components → AreMade options.entry.host.now before system.components (map S.Link.view started.peers.items) → S.view spawner.old ≡ with_all_started before (length started.peers.items) →
         RestFacts result.outcome (record { plan = rest_plan (resume_of options.entry) held; host = options.entry.host.now; bound = bound; folders = folders.now }) system held (scene before (O.view out.old)) (scene (S.view spawner.new) (O.view out.new)) }
 {
-    lives_of_peers();
+    histories_of_peers();
     runs_of_machines();
     let plan = Plan {
         workers: options.workers,

@@ -192,13 +192,13 @@ fn write_call(word: &[u8], component: &str, call: &str, text: &mut [u8]) -> usiz
 }
 
 // A name, escaped, between two pieces.
-fn write_named(front: &[u8], name: &str, back: &[u8], text: &mut [u8]) -> usize
-    requires pieces { length front.now + length back.now ≤ 16 }
+fn write_named(prefix: &[u8], name: &str, back: &[u8], text: &mut [u8]) -> usize
+    requires pieces { length prefix.now + length back.now ≤ 16 }
     requires room { 3 * length name.now + 16 ≤ length text.old }
     ensures length { result ≤ length text.new }
-    ensures text { take result text.new ≡ front.now ++ escaped name.now ++ back.now }
+    ensures text { take result text.new ≡ prefix.now ++ escaped name.now ++ back.now }
 {
-    let at = append(front, text, 0);
+    let at = append(prefix, text, 0);
     let at = append_name(name, text, at);
     append(back, text, at)
 }

@@ -10,15 +10,15 @@ use crate::report::Report;
 use doc_tree::{Place, Rule};
 use sim_base::{Items, PortId, Text};
 use std::alloc::Global;
-use system_files::{FileFault, LoadEnd, NamedFile, make_room};
+use system_files::{FileFault, LoadError, NamedFile, make_room};
 
 /// The report where nothing is loaded.
-pub(crate) fn refuse(alloc: Global, end: LoadEnd) -> Report
+pub(crate) fn refuse(alloc: Global, end: LoadError) -> Report
     ensures { TellsEnd end result.outcome }
 {
     match end {
-        LoadEnd::File { file, fault } => refuse_file(alloc, file, fault),
-        LoadEnd::Memory => Report::memory(alloc),
+        LoadError::File { file, fault } => refuse_file(alloc, file, fault),
+        LoadError::Memory => Report::memory(alloc),
     }
 }
 

@@ -9,7 +9,7 @@ ghost use Rattle.system_model.specs.declared.system.System.{System};
 ghost use Rattle.run_program.specs.Bench.{RanFacts};
 ghost use Rattle.run_program.specs.Facts.{CheckFacts, LineFacts, StartFacts, task_of};
 ghost use Rattle.run_program.specs.Requests.{IsRequestOf, KeepsCounts};
-ghost use Rattle.run_program.specs.Happened.{happened, scene, stage};
+ghost use Rattle.run_program.specs.Happened.{happened, outside, scene};
 ghost use Rattle.run_program.specs.Peers.{AreKnown, AreMade, AreStarted, StartsEach, StartsUpTo, with_all_started};
 ghost use Rattle.run_program.specs.TraceCheck.{KeepsRows};
 ghost use Rattle.run_program.specs.Runs.{CanRun, HasFolders, Task, named_in, names_of};
@@ -32,7 +32,7 @@ use run_model::one_trace;
 use sim_base::{Folder, Sink, Text};
 use std::alloc::Global;
 use std::thread::Threads;
-use step_master::{Master, PrepareEnd, PrepareFault, RunEnd, lives_of_peers, runs_of_machines};
+use step_master::{Master, PrepareEnd, PrepareFault, RunEnd, histories_of_peers, runs_of_machines};
 use system_files::{Loaded, load};
 use system_model::{Bound, System};
 
@@ -61,8 +61,8 @@ pub fn run_words<R: Threads + Sync, F: Folder, S: Spawner, O: Sink, E: Sink>(
     err: &mut E,
 ) -> u8
     ensures rows { KeepsRows (happened (texts words.now)
-        (stage (F.view folder.old) (S.view spawner.old) (O.view out.old))
-        (stage (F.view folder.new) (S.view spawner.new) (O.view out.new))
+        (outside (F.view folder.old) (S.view spawner.old) (O.view out.old))
+        (outside (F.view folder.new) (S.view spawner.new) (O.view out.new))
         (E.view err.old) (E.view err.new) result) }
     ensures one { OneTrace }
 {
@@ -96,8 +96,8 @@ fn run_request<R: Threads + Sync, F: Folder, S: Spawner, O: Sink>(
 ) -> Report
     requires { KeepsCounts request }
     ensures { (line : Line) → IsRequestOf line request.entry → LineFacts result.outcome line
-        (stage (F.view folder.old) (S.view spawner.old) (O.view out.old))
-        (stage (F.view folder.new) (S.view spawner.new) (O.view out.new)) }
+        (outside (F.view folder.old) (S.view spawner.old) (O.view out.old))
+        (outside (F.view folder.new) (S.view spawner.new) (O.view out.new)) }
 {
     match load(
         alloc,
@@ -265,7 +265,7 @@ fn run_peers<R: Threads + Sync, S: Spawner, O: Sink>(
     ensures { (before : SpawnerView) → AreKnown options.entry.host.now before system.components → AreMade options.entry.host.now before system.components (map S.Link.view peers.items) → S.view spawner.old ≡ with_all_started before (length peers.items) →
         RanFacts result.report.outcome result.numbers (record { plan = options.entry.plan; host = options.entry.host.now; bound = bound; folders = folders.now }) system (scene before (O.view out.old)) (scene (S.view spawner.new) (O.view out.new)) }
 {
-    lives_of_peers();
+    histories_of_peers();
     runs_of_machines();
     counted_talks();
     match Master::prepare(alloc, system, bound, peers, options.plan) {

@@ -3,7 +3,7 @@ ghost use Rattle.std.specs.Prelude.{◌≡◌, ℕ, List};
 ghost use Rattle.sim_base.specs.Folder.{FolderView};
 ghost use Rattle.command_line.specs.Line.{trace_of};
 ghost use Rattle.fmu_peer.specs.Start.{SpawnerView};
-ghost use Rattle.run_program.specs.Happened.{happened, stage};
+ghost use Rattle.run_program.specs.Happened.{happened, outside};
 ghost use Rattle.run_program.specs.TraceCheck.{EndsCheck, TellsVerdict, verdict_status};
 
 use crate::message::write_verdict;
@@ -25,8 +25,8 @@ pub(crate) fn check_trace<F: Folder, O: Sink, E: Sink>(
     err: &mut E,
 ) -> u8
     ensures { (words : List (List ℕ)) (spawner : SpawnerView) → EndsCheck (happened words
-        (stage (F.view folder.old) spawner (O.view out.old))
-        (stage (F.view folder.new) spawner (O.view out.new))
+        (outside (F.view folder.old) spawner (O.view out.old))
+        (outside (F.view folder.new) spawner (O.view out.new))
         (E.view err.old) (E.view err.new) result) (trace_of options.entry) }
 {
     match judge(alloc, options.directory, options.file, folder) {
@@ -38,7 +38,7 @@ pub(crate) fn check_trace<F: Folder, O: Sink, E: Sink>(
 // Puts a verdict on `out`, and answers its status.
 fn tell_verdict<O: Sink, E: Sink>(verdict: Verdict, out: &mut O, err: &mut E) -> u8
     ensures { (words : List (List ℕ)) (old new : FolderView) (spawner : SpawnerView) → TellsVerdict (happened words
-        (stage old spawner (O.view out.old)) (stage new spawner (O.view out.new)) (E.view err.old) (E.view err.new) result) verdict }
+        (outside old spawner (O.view out.old)) (outside new spawner (O.view out.new)) (E.view err.old) (E.view err.new) result) verdict }
 {
     let mut text = [0u8; 45];
     let length = write_verdict(verdict, &mut text);

@@ -233,7 +233,7 @@ up_to_twice stop (Once point) = (elim (nat_le point stop) as (λ b. nat_le point
 ]) refl
 
 kept_alike : (stop : ℕ) (ports : List Port) (timer : Timer) (timers kept : List Timer) (role : Role) → IsTimerOf role timer → Alike (S.up_to stop) timers (S.all_timers ports kept) →
-    (S.up_to stop timer ≡ S.up_to stop (S.timer_at role (S.kept_timer role (S.up_to stop timer) kept))) × Alike (S.up_to stop) timers (S.all_timers ports (S.behind role (S.kept_timer role (S.up_to stop timer) kept)))
+    (S.up_to stop timer ≡ S.up_to stop (S.timer_at role (S.kept_timer role (S.up_to stop timer) kept))) × Alike (S.up_to stop) timers (S.all_timers ports (S.after role (S.kept_timer role (S.up_to stop timer) kept)))
 kept_alike stop ports timer timers kept (TimeClock Answered) h more = (up_to_twice stop timer, more)
 kept_alike stop ports timer timers kept (TimeClock Countdown) h more = (up_to_twice stop timer, more)
 kept_alike stop ports timer timers kept (TimeClock Changing) h more = (up_to_twice stop timer, more)

@@ -42,10 +42,10 @@ module _ (laws : FittingLaws) (r : Run) (sound : IsSound r.system) (machines : A
   abbrev PassesEarly : List MachineState → Type 0
   PassesEarly states = PassesBy early states
 
-  changed : (before behind : MachineState → Bool) (states : List MachineState) (f : ℕ → Component → Machine → MachineState → MachineState) → ((s : MachineState) → before s ≡ true → behind (f i c m s) ≡ true) → PassesBy before states → PassesBy behind (each r states f)
-  changed before behind states f makes old s at =
+  changed : (before after : MachineState → Bool) (states : List MachineState) (f : ℕ → Component → Machine → MachineState → MachineState) → ((s : MachineState) → before s ≡ true → after (f i c m s) ≡ true) → PassesBy before states → PassesBy after (each r states f)
+  changed before after states f makes old s at =
       let one = fmu_before r states f i c m s (record { component = of_c; machine = of_m; state = at }) in
-      subst (λ x. behind x ≡ true) (sym one.is) (makes one.before (old one.before one.fmu.state))
+      subst (λ x. after x ≡ true) (sym one.is) (makes one.before (old one.before one.fmu.state))
 
   passes_each : (states : List MachineState) (f : ℕ → Component → Machine → MachineState → MachineState) → Keeps test (f i c m) → Passes states → Passes (each r states f)
   passes_each = changed test test

@@ -33,9 +33,9 @@ all_back (packing ∷ packings) (s ∷ states) e back =
     ap (option_and_then (λ saved. option_map (λ others. saved ∷ others) (unpacked packings (packed packings (map kept states))))) first
     ∙ ap (option_map (λ others. kept s ∷ others)) more
 
-pub bytes_read_back : ReachesSituations → UpdatesToSituation → (r : Run) → IsSound r.system → AreMachines r → (packings : List Packing) → ReadsBack r packings → (front : List Instant) (z : Situation) → Held r front z →
+pub bytes_read_back : ReachesSituations → UpdatesToSituation → (r : Run) → IsSound r.system → AreMachines r → (packings : List Packing) → ReadsBack r packings → (prefix : List Instant) (z : Situation) → Held r prefix z →
     unpacked packings (packed packings (snapshot_of r (at_step r z)).states) ≡ Some (snapshot_of r (at_step r z)).states
-bytes_read_back along updates r sound machines packings reads front z held =
+bytes_read_back along updates r sound machines packings reads prefix z held =
     let at_s = along r sound machines held.s (comes_reached held.comes) in
     let at_u = updates r sound machines held.s held.values at_s held.solves in
     let states : length z.states ≡ length r.system.components = ap (λ (u : Situation). length u.states) held.stands ∙ at_u.states in

@@ -29,8 +29,8 @@ use Rattle.run_rest.proofs.Keeping.{AreEmpty, IsKeepable, empty_entering, keeps_
 abbrev IsOnTheWay : Run → Situation → Type 0
 IsOnTheWay r y = (next : Situation) → DepartsFrom r y (ready r y) (GoesOn next) → B.Reached r next × (next.t ≤ r.plan.stop)
 
-held_on : {r : Run} {front : List Instant} {z : Situation} → StepsWithin r → Held r front z → IsOnTheWay r (at_step r z)
-held_on {r} {front} {z} steps h next d =
+held_on : {r : Run} {prefix : List Instant} {z : Situation} → StepsWithin r → Held r prefix z → IsOnTheWay r (at_step r z)
+held_on {r} {prefix} {z} steps h next d =
     let departs = subst (λ (u : Situation). Departs r u (GoesOn next)) h.stands (entered d) in
     let leads = leads_of r h.s h.values (GoesOn next) h.done departs in
     let reached = comes_reached h.comes in
@@ -59,7 +59,7 @@ rest_numbered {r} {y} n (SomeLeft next d more) = SomeLeft next (rebased y.states
 
 -- ---- with the snapshot
 
-held_keepable : {r : Run} {front : List Instant} {z : Situation} → AreMachines r → Held r front z → IsKeepable r z
+held_keepable : {r : Run} {prefix : List Instant} {z : Situation} → AreMachines r → Held r prefix z → IsKeepable r z
 held_keepable {r} machines held =
     subst (λ (u : Situation). IsKeepable r u) (sym held.stands) (keeps_updated r held.s held.values (keeps_reached machines (comes_reached held.comes)))
 
@@ -67,23 +67,23 @@ abbrev resumed_at : Run → Situation → Situation
 resumed_at r z = resumed r (snapshot_of r (at_step r z))
 
 -- no FMU has a state saved there
-pub empty_held : {r : Run} {front : List Instant} {z : Situation} → AreMachines r → Held r front z → AreEmpty (entering_step r z)
-empty_held {r} {front} {z} machines held = empty_entering r z (held_keepable machines held).empty
+pub empty_held : {r : Run} {prefix : List Instant} {z : Situation} → AreMachines r → Held r prefix z → AreEmpty (entering_step r z)
+empty_held {r} {prefix} {z} machines held = empty_entering r z (held_keepable machines held).empty
 
 -- the states are those that were kept
-same_states : {r : Run} {front : List Instant} {z : Situation} → AreMachines r → Held r front z → (resumed_at r z).states ≡ entering_step r z
-same_states {r} {front} {z} machines held = put_out_kept (entering_step r z) (empty_entering r z (held_keepable machines held).empty)
+same_states : {r : Run} {prefix : List Instant} {z : Situation} → AreMachines r → Held r prefix z → (resumed_at r z).states ≡ entering_step r z
+same_states {r} {prefix} {z} machines held = put_out_kept (entering_step r z) (empty_entering r z (held_keepable machines held).empty)
 
-pub goes_on : (r : Run) → AreMachines r → StepsWithin r → (front rest : List Instant) (k : EndKind) (p : ℕ) (z : Situation) → Held r front z → Rest r (at_step r z) rest k p → Rest r (resumed_at r z) rest k p
-goes_on r machines steps front rest k p z held left =
+pub goes_on : (r : Run) → AreMachines r → StepsWithin r → (prefix rest : List Instant) (k : EndKind) (p : ℕ) (z : Situation) → Held r prefix z → Rest r (at_step r z) rest k p → Rest r (resumed_at r z) rest k p
+goes_on r machines steps prefix rest k p z held left =
     let ts : List Timer = (resumed_at r z).timers in
     let es : List (Option ℕ) = (resumed_at r z).events in
     let alike = timers_kept r.plan.stop r.system.ports z.timers (held_keepable machines held).timers in
     let there : Rest r (record (with_timers (at_step r z) ts es) { n = 0 }) rest k p = rest_numbered 0 (rest_across ts es steps (inl (held_on steps held)) alike (times_kept r.plan.stop z.events) left) in
     subst (λ ss. Rest r (record (with_timers (at_step r z) ts es) { n = 0; states = ss }) rest k p) (sym (same_states machines held)) there
 
-pub goes_back : (r : Run) → AreMachines r → StepsWithin r → (front rest : List Instant) (k : EndKind) (p : ℕ) (z : Situation) → Held r front z → Rest r (resumed_at r z) rest k p → Rest r (at_step r z) rest k p
-goes_back r machines steps front rest k p z held left =
+pub goes_back : (r : Run) → AreMachines r → StepsWithin r → (prefix rest : List Instant) (k : EndKind) (p : ℕ) (z : Situation) → Held r prefix z → Rest r (resumed_at r z) rest k p → Rest r (at_step r z) rest k p
+goes_back r machines steps prefix rest k p z held left =
     let ts : List Timer = (resumed_at r z).timers in
     let es : List (Option ℕ) = (resumed_at r z).events in
     let alike = alike_sym (up_to r.plan.stop) z.timers ts (timers_kept r.plan.stop r.system.ports z.timers (held_keepable machines held).timers) in
@@ -91,18 +91,18 @@ goes_back r machines steps front rest k p z held left =
     let there : Rest r (record (with_timers (at_step r z) ts es) { n = 0 }) rest k p = subst (λ ss. Rest r (record (with_timers (at_step r z) ts es) { n = 0; states = ss }) rest k p) (same_states machines held) left in
     rest_across {y = with_timers (at_step r z) ts es} z.timers z.events steps (inr (held_on steps held)) alike times (rest_numbered z.n there)
 
-pub resumes : (r : Run) → AreMachines r → StepsWithin r → (front rest : List Instant) (k : EndKind) (p : ℕ) (z : Situation) → Held r front z → (Rest r (at_step r z) rest k p ↔ Rest r (resumed_at r z) rest k p)
-resumes r machines steps front rest k p z held = (goes_on r machines steps front rest k p z held, goes_back r machines steps front rest k p z held)
+pub resumes : (r : Run) → AreMachines r → StepsWithin r → (prefix rest : List Instant) (k : EndKind) (p : ℕ) (z : Situation) → Held r prefix z → (Rest r (at_step r z) rest k p ↔ Rest r (resumed_at r z) rest k p)
+resumes r machines steps prefix rest k p z held = (goes_on r machines steps prefix rest k p z held, goes_back r machines steps prefix rest k p z held)
 
 -- ---- one rest
 
-pub one_rest : OneTrace → (r : Run) → IsSound r.system → AreMachines r → (front is js : List Instant) (k l : EndKind) (p q : ℕ) (z : Situation) → Held r front z → Rest r (at_step r z) is k p → Rest r (at_step r z) js l q →
+pub one_rest : OneTrace → (r : Run) → IsSound r.system → AreMachines r → (prefix is js : List Instant) (k l : EndKind) (p q : ℕ) (z : Situation) → Held r prefix z → Rest r (at_step r z) is k p → Rest r (at_step r z) js l q →
     (is ≡ js) × (k ≡ l) × (p ≡ q)
-one_rest one r sound machines front is js k l p q z held x y =
-    let same = one r sound machines (front ++ is) (front ++ js) k l p q (joins r front is k p z held x) (joins r front js l q z held y) in
-    (append_cancel_left front is js same.0, same.1, same.2)
+one_rest one r sound machines prefix is js k l p q z held x y =
+    let same = one r sound machines (prefix ++ is) (prefix ++ js) k l p q (joins r prefix is k p z held x) (joins r prefix js l q z held y) in
+    (append_cancel_left prefix is js same.0, same.1, same.2)
 
-pub resumption : OneTrace → (r : Run) → IsSound r.system → AreMachines r → StepsWithin r → (front is js : List Instant) (k l : EndKind) (p q : ℕ) (z : Situation) → Held r front z → IsTrace r is k p →
-    Rest r (resumed_at r z) js l q → (is ≡ front ++ js) × (k ≡ l) × (p ≡ q)
-resumption one r sound machines steps front is js k l p q z held trace left =
-    one r sound machines is (front ++ js) k l p q trace (joins r front js l q z held (goes_back r machines steps front js l q z held left))
+pub resumption : OneTrace → (r : Run) → IsSound r.system → AreMachines r → StepsWithin r → (prefix is js : List Instant) (k l : EndKind) (p q : ℕ) (z : Situation) → Held r prefix z → IsTrace r is k p →
+    Rest r (resumed_at r z) js l q → (is ≡ prefix ++ js) × (k ≡ l) × (p ≡ q)
+resumption one r sound machines steps prefix is js k l p q z held trace left =
+    one r sound machines is (prefix ++ js) k l p q trace (joins r prefix js l q z held (goes_back r machines steps prefix js l q z held left))

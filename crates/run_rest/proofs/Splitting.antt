@@ -57,38 +57,38 @@ outcome {r} {s} {z} {V} {W} {x} {y} laws sound machines reached v w leads leads2
 -- ---- along a trace
 
 -- the rest of a trace from a situation
-pub record From (r : Run) (front : List Instant) (s : Situation) (is : List Instant) (k : EndKind) (p : ℕ) : Type 0 where
+pub record From (r : Run) (prefix : List Instant) (s : Situation) (is : List Instant) (k : EndKind) (p : ℕ) : Type 0 where
   pub rest : List Instant
-  pub split : is ≡ front ++ rest
+  pub split : is ≡ prefix ++ rest
   pub continues : Continues r s rest k p
 
-further : {r : Run} {s z : Situation} {V : List (Option ℤ)} {next : Situation} (front : List Instant) {js is rest : List Instant} {k : EndKind} {p : ℕ} → Laws → IsSound r.system → AreMachines r → B.Reached r s →
-    Solves r s V → Leads r s V (GoesOn next) → js ≡ front ++ instant_of s V ∷ [] → is ≡ front ++ rest → Continues r z rest k p → s ≡ z → From r js next is k p
-further {r} {s} {V = V} {next = next} front laws sound machines reached v leads j split (Last z W rest k p w leads2 i) e =
+further : {r : Run} {s z : Situation} {V : List (Option ℤ)} {next : Situation} (prefix : List Instant) {js is rest : List Instant} {k : EndKind} {p : ℕ} → Laws → IsSound r.system → AreMachines r → B.Reached r s →
+    Solves r s V → Leads r s V (GoesOn next) → js ≡ prefix ++ instant_of s V ∷ [] → is ≡ prefix ++ rest → Continues r z rest k p → s ≡ z → From r js next is k p
+further {r} {s} {V = V} {next = next} prefix laws sound machines reached v leads j split (Last z W rest k p w leads2 i) e =
     absurd (true_false (sym (ap ends_or_goes (outcome laws sound machines reached v w leads leads2 e).1)))
-further {r} {s} {V = V} {next = next} front laws sound machines reached v leads j split (Unwritten z W rest k p w leads2 i) e =
+further {r} {s} {V = V} {next = next} prefix laws sound machines reached v leads j split (Unwritten z W rest k p w leads2 i) e =
     absurd (true_false (sym (ap ends_or_goes (outcome laws sound machines reached v w leads leads2 e).1)))
-further {r} {s} {V = V} {next = next} front laws sound machines reached v leads j split (Further z W rest k p next2 behind w leads2 i more) e =
+further {r} {s} {V = V} {next = next} prefix laws sound machines reached v leads j split (Further z W rest k p next2 after w leads2 i more) e =
     let same = outcome laws sound machines reached v w leads leads2 e in
     let first : instant_of z W ≡ instant_of s V = ap (λ (u : Situation). instant_of u W) (sym e) ∙ ap (instant_of s) (sym same.0) in
     record {
-      rest = behind;
-      split = split ∙ ap (λ xs. front ++ xs) (i ∙ ap (λ x. x ∷ behind) first) ∙ sym (append_assoc front (instant_of s V ∷ []) behind) ∙ ap (λ xs. xs ++ behind) (sym j);
-      continues = subst (λ (u : Situation). Continues r u behind k p) (sym (ap (λ n. situation_of n next) same.1)) more;
+      rest = after;
+      split = split ∙ ap (λ xs. prefix ++ xs) (i ∙ ap (λ x. x ∷ after) first) ∙ sym (append_assoc prefix (instant_of s V ∷ []) after) ∙ ap (λ xs. xs ++ after) (sym j);
+      continues = subst (λ (u : Situation). Continues r u after k p) (sym (ap (λ n. situation_of n next) same.1)) more;
     }
 
-along : {r : Run} {front is : List Instant} {s : Situation} {k : EndKind} {p : ℕ} → Laws → IsSound r.system → AreMachines r → Comes r front s → IsTrace r is k p → From r front s is k p
-along {r} {is = is} {k = k} {p = p} laws sound machines (AtFirst s front W solves kept e none) (Fails U solves2 bad empty ranged start) =
+along : {r : Run} {prefix is : List Instant} {s : Situation} {k : EndKind} {p : ℕ} → Laws → IsSound r.system → AreMachines r → Comes r prefix s → IsTrace r is k p → From r prefix s is k p
+along {r} {is = is} {k = k} {p = p} laws sound machines (AtFirst s prefix W solves kept e none) (Fails U solves2 bad empty ranged start) =
     let same : U ≡ W = same_initially laws r sound machines U W solves2 solves in
     absurd (true_false (sym (subst (λ (V : List (Option ℤ)). list_any (is_bad_initially r.system V) r.system.ports ≡ true) same bad) ∙ kept))
-along {r} {is = is} {k = k} {p = p} laws sound machines (AtFirst s front W solves kept e none) (Runs U solves2 kept2 x) =
+along {r} {is = is} {k = k} {p = p} laws sound machines (AtFirst s prefix W solves kept e none) (Runs U solves2 kept2 x) =
     let same : U ≡ W = same_initially laws r sound machines U W solves2 solves in
     record {
       rest = is;
       split = ap (λ xs. xs ++ is) (sym none);
       continues = subst (λ (u : Situation). Continues r u is k p) (ap (beginning r) same ∙ sym e) x;
     }
-along {r} laws sound machines (Onward before s V front next comes solves leads j) trace =
+along {r} laws sound machines (Onward before s V prefix next comes solves leads j) trace =
     let here = along laws sound machines comes trace in
     further before laws sound machines (comes_reached comes) solves leads j here.split here.continues refl
 
@@ -131,18 +131,18 @@ left {r} {s} {V = V} same done (Unwritten z W all k p w leads i) e =
     let of : W ≡ V = same W (subst (λ (u : Situation). Solves r u W) (sym e) w) in
     let leads_here : Leads r s V (EndsBefore k p) = subst (λ U. Leads r s U (EndsBefore k p)) of (subst (λ (u : Situation). Leads r u W (EndsBefore k p)) (sym e) leads) in
     absurd (no_end_before (departs_of r s V (EndsBefore k p) done leads_here) refl)
-left {r} {s} {V = V} same done (Further z W all k p next behind w leads i more) e =
+left {r} {s} {V = V} same done (Further z W all k p next after w leads i more) e =
     let of : W ≡ V = same W (subst (λ (u : Situation). Solves r u W) (sym e) w) in
     let leads_here : Leads r s V (GoesOn next) = subst (λ U. Leads r s U (GoesOn next)) of (subst (λ (u : Situation). Leads r u W (GoesOn next)) (sym e) leads) in
     record {
-      rest = behind;
-      split = i ∙ ap (λ (u : Situation). instant_of u W ∷ behind) (sym e) ∙ ap (λ U. instant_of s U ∷ behind) of;
+      rest = after;
+      split = i ∙ ap (λ (u : Situation). instant_of u W ∷ after) (sym e) ∙ ap (λ U. instant_of s U ∷ after) of;
       left = SomeLeft next (enters (departs_of r s V (GoesOn next) done leads_here)) more;
     }
 
-pub splits : (laws : Laws) (r : Run) → IsSound r.system → AreMachines r → (front is : List Instant) (k : EndKind) (p : ℕ) (z : Situation) → Held r front z → IsTrace r is k p →
-    (rest : List Instant) × (is ≡ front ++ rest) × Rest r (at_step r z) rest k p
-splits laws r sound machines front is k p z held trace =
+pub splits : (laws : Laws) (r : Run) → IsSound r.system → AreMachines r → (prefix is : List Instant) (k : EndKind) (p : ℕ) (z : Situation) → Held r prefix z → IsTrace r is k p →
+    (rest : List Instant) × (is ≡ prefix ++ rest) × Rest r (at_step r z) rest k p
+splits laws r sound machines prefix is k p z held trace =
     let here = along laws sound machines held.comes trace in
     let at : Left r held.s held.values here.rest k p = left (λ W w. same_values laws r sound machines held.s (comes_reached held.comes) W held.values w held.solves) held.done here.continues refl in (
       at.rest,
@@ -152,19 +152,19 @@ splits laws r sound machines front is k p z held trace =
 
 -- ---- the other way
 
-joined : {r : Run} {front : List Instant} {s : Situation} (rest : List Instant) {k : EndKind} {p : ℕ} → Comes r front s → Continues r s rest k p → IsTrace r (front ++ rest) k p
-joined {r} rest {k} {p} (AtFirst s front W solves kept e none) x =
+joined : {r : Run} {prefix : List Instant} {s : Situation} (rest : List Instant) {k : EndKind} {p : ℕ} → Comes r prefix s → Continues r s rest k p → IsTrace r (prefix ++ rest) k p
+joined {r} rest {k} {p} (AtFirst s prefix W solves kept e none) x =
     Runs W solves kept (subst (λ xs. Continues r (beginning r W) (xs ++ rest) k p) (sym none) (subst (λ (u : Situation). Continues r u rest k p) e x))
-joined {r} rest {k} {p} (Onward before s V front next comes solves leads j) x =
-    let all : front ++ rest ≡ before ++ instant_of s V ∷ rest = ap (λ xs. xs ++ rest) j ∙ append_assoc before (instant_of s V ∷ []) rest in
+joined {r} rest {k} {p} (Onward before s V prefix next comes solves leads j) x =
+    let all : prefix ++ rest ≡ before ++ instant_of s V ∷ rest = ap (λ xs. xs ++ rest) j ∙ append_assoc before (instant_of s V ∷ []) rest in
     subst (λ xs. IsTrace r xs k p) (sym all) (joined (instant_of s V ∷ rest) comes (Further s V (instant_of s V ∷ rest) k p next rest solves leads refl x))
 
 continued : {r : Run} {s : Situation} {V : List (Option ℤ)} {rest : List Instant} {k : EndKind} {p : ℕ} → Solves r s V → following r s V ≡ Done → Rest r (at_step r (updated r s V)) rest k p → Continues r s (instant_of s V ∷ rest) k p
 continued {r} {s} {V} {rest} {k} {p} solves done (NoneLeft d none) = Last s V (instant_of s V ∷ rest) k p solves (leads_of r s V (Ends k p) done (entered d)) (ap (λ xs. instant_of s V ∷ xs) none)
 continued {r} {s} {V} {rest} {k} {p} solves done (SomeLeft next d more) = Further s V (instant_of s V ∷ rest) k p next rest solves (leads_of r s V (GoesOn next) done (entered d)) refl more
 
-pub joins : (r : Run) (front rest : List Instant) (k : EndKind) (p : ℕ) (z : Situation) → Held r front z → Rest r (at_step r z) rest k p → IsTrace r (front ++ rest) k p
-joins r front rest k p z held left =
+pub joins : (r : Run) (prefix rest : List Instant) (k : EndKind) (p : ℕ) (z : Situation) → Held r prefix z → Rest r (at_step r z) rest k p → IsTrace r (prefix ++ rest) k p
+joins r prefix rest k p z held left =
     let here : Rest r (at_step r (updated r held.s held.values)) rest k p = subst (λ (u : Situation). Rest r (at_step r u) rest k p) held.stands left in
-    let all : front ++ rest ≡ held.before ++ instant_of held.s held.values ∷ rest = ap (λ xs. xs ++ rest) held.instants ∙ append_assoc held.before (instant_of held.s held.values ∷ []) rest in
+    let all : prefix ++ rest ≡ held.before ++ instant_of held.s held.values ∷ rest = ap (λ xs. xs ++ rest) held.instants ∙ append_assoc held.before (instant_of held.s held.values ∷ []) rest in
     subst (λ xs. IsTrace r xs k p) (sym all) (joined (instant_of held.s held.values ∷ rest) held.comes (continued held.solves held.done here))

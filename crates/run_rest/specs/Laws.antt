@@ -27,21 +27,21 @@ StepsInTwo =
 -- a trace that comes to a step is the instants before it and a rest
 abbrev pub Splits : Type 0
 Splits =
-    (r : Run) → IsSound r.system → AreMachines r → (front is : List Instant) (k : EndKind) (p : ℕ)
-    (z : Situation) → Held r front z → IsTrace r is k p →
-    (rest : List Instant) × (is ≡ front ++ rest) × Rest r (at_step r z) rest k p
+    (r : Run) → IsSound r.system → AreMachines r → (prefix is : List Instant) (k : EndKind) (p : ℕ)
+    (z : Situation) → Held r prefix z → IsTrace r is k p →
+    (rest : List Instant) × (is ≡ prefix ++ rest) × Rest r (at_step r z) rest k p
 
 -- each rest makes them a trace
 abbrev pub Joins : Type 0
 Joins =
-    (r : Run) → (front rest : List Instant) (k : EndKind) (p : ℕ) (z : Situation) →
-    Held r front z → Rest r (at_step r z) rest k p → IsTrace r (front ++ rest) k p
+    (r : Run) → (prefix rest : List Instant) (k : EndKind) (p : ℕ) (z : Situation) →
+    Held r prefix z → Rest r (at_step r z) rest k p → IsTrace r (prefix ++ rest) k p
 
 -- and the rest is one
 abbrev pub OneRest : Type 0
 OneRest =
-    (r : Run) → IsSound r.system → AreMachines r → (front is js : List Instant) (k l : EndKind)
-    (p q : ℕ) (z : Situation) → Held r front z → Rest r (at_step r z) is k p →
+    (r : Run) → IsSound r.system → AreMachines r → (prefix is js : List Instant) (k l : EndKind)
+    (p q : ℕ) (z : Situation) → Held r prefix z → Rest r (at_step r z) is k p →
     Rest r (at_step r z) js l q → (is ≡ js) × (k ≡ l) × (p ≡ q)
 
 -- ---- where a run is held
@@ -62,23 +62,23 @@ HeldOnce =
 -- what is left of a run that is held is what is left of the one that is resumed with the snapshot
 abbrev pub Resumes : Type 0
 Resumes =
-    (r : Run) → AreMachines r → StepsWithin r → (front rest : List Instant)
-    (k : EndKind) (p : ℕ) (z : Situation) → Held r front z →
+    (r : Run) → AreMachines r → StepsWithin r → (prefix rest : List Instant)
+    (k : EndKind) (p : ℕ) (z : Situation) → Held r prefix z →
     (Rest r (at_step r z) rest k p ↔ Rest r (resumed r (snapshot_of r (at_step r z))) rest k p)
 
 -- what a run that is resumed writes is what the run that was held writes after the instants before
 abbrev pub Resumption : Type 0
 Resumption =
-    (r : Run) → IsSound r.system → AreMachines r → StepsWithin r → (front is js : List Instant)
-    (k l : EndKind) (p q : ℕ) (z : Situation) → Held r front z → IsTrace r is k p →
+    (r : Run) → IsSound r.system → AreMachines r → StepsWithin r → (prefix is js : List Instant)
+    (k l : EndKind) (p q : ℕ) (z : Situation) → Held r prefix z → IsTrace r is k p →
     Rest r (resumed r (snapshot_of r (at_step r z))) js l q →
-    (is ≡ front ++ js) × (k ≡ l) × (p ≡ q)
+    (is ≡ prefix ++ js) × (k ≡ l) × (p ≡ q)
 
 -- the states of the snapshot are those that their bytes are read back as
 abbrev pub BytesReadBack : Type 0
 BytesReadBack =
     (r : Run) → IsSound r.system → AreMachines r → (packings : List Packing) →
-    ReadsBack r packings → (front : List Instant) (z : Situation) → Held r front z →
+    ReadsBack r packings → (prefix : List Instant) (z : Situation) → Held r prefix z →
     unpacked packings (packed packings (snapshot_of r (at_step r z)).states) ≡
     Some (snapshot_of r (at_step r z)).states
 

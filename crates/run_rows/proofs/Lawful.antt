@@ -18,7 +18,7 @@ use Rattle.system_model.specs.declared.system.Component.{Component}
 use Rattle.system_model.proofs.CallerLemmas.{found_at, all_at}
 use Rattle.run_model.specs.Run.{Run}
 use Rattle.run_model.specs.Machines.{AreMachines}
-use Rattle.run_rows.specs.Machines.{Behaviour, machine_of, at, behind, seen, gain_content, gain, sampler}
+use Rattle.run_rows.specs.Machines.{Behaviour, machine_of, at, after, seen, gain_content, gain, sampler}
 use Rattle.run_rows.proofs.Tests.{true_false, implies, implied, every, all_by}
 
 -- ---- machines of their shapes
@@ -111,7 +111,7 @@ past (x ∷ xs) (v ∷ vs) (suc k) e none = past xs vs k (suc_same e) none
 pub lawful_all : (shape : Shape) (b : Behaviour) → declares_all shape true ≡ true → declares_all shape false ≡ true → IsLawful shape (machine_of shape b)
 lawful_all shape b initially later call output s xs ys at_output is events agree =
     let mode : Bool = int_eq (at s.numbers 0) (pos 1) in
-    ap (λ zs. Done false (b.look mode (behind s.numbers) zs call))
+    ap (λ zs. Done false (b.look mode (after s.numbers) zs call))
     (same_list xs ys (agree.first ∙ sym agree.second) (λ k. (elim (slice_get shape.variables k) as (λ o. slice_get shape.variables k ≡ o → slice_get xs k ≡ slice_get ys k) [
       | None ↦ λ e. past xs shape.variables k agree.first e ∙ sym (past ys shape.variables k agree.second e)
       | Some v ↦ λ e. agree.each k v e (none_undeclared shape mode (all_of mode) output (output_at shape output is) k v e)
@@ -156,15 +156,15 @@ pub lawful_sampler : (shape : Shape) → has_only_3 shape ≡ true → HasU shap
 lawful_sampler shape only has call output s xs ys at_output is events agree =
     let mode : Bool = int_eq (at s.numbers 0) (pos 1) in
     ap (λ y. Done false (gain_content y call))
-    (seen_same shape has mode xs ys (at (behind s.numbers) 0) (subst (λ r. AgreeFor shape mode r xs ys) (only_3 shape only output (output_at shape output is)) agree))
+    (seen_same shape has mode xs ys (at (after s.numbers) 0) (subst (λ r. AgreeFor shape mode r xs ys) (only_3 shape only output (output_at shape output is)) agree))
 
 -- k stands at place 0
 pub lawful_gain : (shape : Shape) → has_only_3 shape ≡ true → HasU shape → (k : Variable) → slice_get shape.variables 0 ≡ Some k → Rattle.value_types.specs.Shape.is_input k.causality ≡ false → IsLawful shape (machine_of shape (gain shape))
 lawful_gain shape only has k k_is k_input call output s xs ys at_output is events agree =
     let mode : Bool = int_eq (at s.numbers 0) (pos 1) in
     let on_3 : AgreeFor shape mode 3 xs ys = subst (λ r. AgreeFor shape mode r xs ys) (only_3 shape only output (output_at shape output is)) agree in
-    ap (λ x. Done false (gain_content (x *ℤ seen shape mode 3 2 (at xs 1) (at (behind s.numbers) 0)) call)) (agree_at shape mode 3 xs ys on_3 0 k k_is (ap (λ b. b && not (is_declared shape mode 3 k)) k_input))
-    ∙ ap (λ x. Done false (gain_content (at ys 0 *ℤ x) call)) (seen_same shape has mode xs ys (at (behind s.numbers) 0) on_3)
+    ap (λ x. Done false (gain_content (x *ℤ seen shape mode 3 2 (at xs 1) (at (after s.numbers) 0)) call)) (agree_at shape mode 3 xs ys on_3 0 k k_is (ap (λ b. b && not (is_declared shape mode 3 k)) k_input))
+    ∙ ap (λ x. Done false (gain_content (at ys 0 *ℤ x) call)) (seen_same shape has mode xs ys (at (after s.numbers) 0) on_3)
 
 -- ---- the machines of a run
 

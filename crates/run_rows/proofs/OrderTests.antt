@@ -12,7 +12,7 @@ use Rattle.value_types.specs.declared.shape.Variable.{Variable}
 use Rattle.system_model.specs.declared.system.Component.{Component}
 use Rattle.system_model.specs.declared.system.Port.{Port}
 use Rattle.system_model.specs.declared.system.System.{System}
-use Rattle.system_model.specs.Ports.{numbers, source_of, is_output_role, label_of, labels_from}
+use Rattle.system_model.specs.Ports.{port_numbers, source_of, is_output_role, label_of, labels_from}
 use Rattle.system_model.specs.Needs.{DependsOn, Needs, ByFeed, ByClock, ByDependency, NeedsInitially, InitiallyByFeed, InitiallyByDependency, is_unclocked, is_unclocked_at}
 use Rattle.system_model.specs.Orders.{IsOrder}
 use Rattle.system_model.specs.Sound.{IsSound}
@@ -79,7 +79,7 @@ abbrev has_source : System → List ℕ → ℕ → Bool
 has_source system taken p = if_some (λ (port : Port). if_some (is_in taken) (source_of port.role)) (slice_get system.ports p)
 
 abbrev has_clocks : System → List ℕ → ℕ → Bool
-has_clocks system taken p = if_some (λ (port : Port). every (is_in taken) (numbers port.clocks)) (slice_get system.ports p)
+has_clocks system taken p = if_some (λ (port : Port). every (is_in taken) (port_numbers port.clocks)) (slice_get system.ports p)
 
 abbrev has_dependencies : System → Bool → (Component → Bool) → (ℕ → Bool) → List ℕ → ℕ → Bool
 has_dependencies system b also among taken p = every (λ q. implies (depends system b also p q && among q) (is_in taken q)) (range_with_len 0 (length system.ports))
@@ -88,10 +88,10 @@ source_taken : (system : System) (taken : List ℕ) (p q : ℕ) (port : Port) �
 source_taken system taken p q port e is from =
     in_by taken q (sym (ap (λ o. if_some (is_in taken) o) from) ∙ sym (ap (λ o. if_some (λ (x : Port). if_some (is_in taken) (source_of x.role)) o) is) ∙ e)
 
-clock_taken : (system : System) (taken : List ℕ) (p q : ℕ) (port : Port) → has_clocks system taken p ≡ true → slice_get system.ports p ≡ Some port → Contains (numbers port.clocks) q → Contains taken q
+clock_taken : (system : System) (taken : List ℕ) (p q : ℕ) (port : Port) → has_clocks system taken p ≡ true → slice_get system.ports p ≡ Some port → Contains (port_numbers port.clocks) q → Contains taken q
 clock_taken system taken p q port e is among =
-    in_by taken q (All-contains (λ x. is_in taken x ≡ true) (numbers port.clocks) q
-    (all_by (is_in taken) (λ x. is_in taken x ≡ true) (λ x h. h) (numbers port.clocks) (sym (ap (λ o. if_some (λ (x : Port). every (is_in taken) (numbers x.clocks)) o) is) ∙ e)) among)
+    in_by taken q (All-contains (λ x. is_in taken x ≡ true) (port_numbers port.clocks) q
+    (all_by (is_in taken) (λ x. is_in taken x ≡ true) (λ x h. h) (port_numbers port.clocks) (sym (ap (λ o. if_some (λ (x : Port). every (is_in taken) (port_numbers x.clocks)) o) is) ∙ e)) among)
 
 dependency_taken : (system : System) (b : Bool) (also : Component → Bool) (among : ℕ → Bool) (taken : List ℕ) (p q : ℕ) → has_dependencies system b also among taken p ≡ true → (d : DependsOn system b p q) → also d.component ≡ true → among q ≡ true → Contains taken q
 dependency_taken system b also among taken p q e d also_is among_is =
@@ -200,15 +200,15 @@ abbrev system_parts : System → List Bool
 system_parts system =
     nat_le (length system.components) 256 ∷ every (λ (c : Component). holds (component_parts c)) system.components
     ∷ nat_le (length system.ports) 65536 ∷ every (is_sound_port system) system.ports ∷ every (is_fed system) system.ports
-    ∷ holds (order_parts system (is_port_number system) (has_needs system) (numbers system.instant_order))
-    ∷ holds (order_parts system (is_unclocked_at system.ports) (has_needs_initially system) (numbers system.initial_order)) ∷ []
+    ∷ holds (order_parts system (is_port_number system) (has_needs system) (port_numbers system.instant_order))
+    ∷ holds (order_parts system (is_unclocked_at system.ports) (has_needs_initially system) (port_numbers system.initial_order)) ∷ []
 
 abbrev pub is_sound : System → Bool
 is_sound system = holds (system_parts system)
 
 pub sound_by : (system : System) → map label_of system.ports ≡ labels_from 0 system.components → is_sound system ≡ true → IsSound system
 sound_by system numbered e = let ps = parts (system_parts system) e in
-    let instants = order_of system (Needs system) (is_port_number system) (λ p h. ltb-true p (length system.ports) h) (has_needs system) (needs_taken system) (numbers system.instant_order) ps.1.1.1.1.1.0 in
+    let instants = order_of system (Needs system) (is_port_number system) (λ p h. ltb-true p (length system.ports) h) (has_needs system) (needs_taken system) (port_numbers system.instant_order) ps.1.1.1.1.1.0 in
     record {
       components = components_by system ps.0 ps.1.0;
       ports = ports_by system ps.1.1.0 numbered ps.1.1.1.0;
@@ -219,5 +219,5 @@ sound_by system numbered e = let ps = parts (system_parts system) e in
         once = instants.once;
         after = instants.after;
       };
-      initial_order = order_of system (NeedsInitially system) (is_unclocked_at system.ports) (unclocked_within system.ports) (has_needs_initially system) (needs_taken_initially system) (numbers system.initial_order) ps.1.1.1.1.1.1.0;
+      initial_order = order_of system (NeedsInitially system) (is_unclocked_at system.ports) (unclocked_within system.ports) (has_needs_initially system) (needs_taken_initially system) (port_numbers system.initial_order) ps.1.1.1.1.1.1.0;
     }

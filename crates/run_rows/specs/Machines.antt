@@ -23,9 +23,9 @@ use Rattle.fmi_calls.specs.Permission.{is_input_clock}
 abbrev pub at : List ℤ → ℕ → ℤ
 at xs k = slice_index_or xs k (pos 0)
 
-abbrev pub behind : List ℤ → List ℤ
-behind [] = []
-behind (x ∷ xs) = xs
+abbrev pub after : List ℤ → List ℤ
+after [] = []
+after (x ∷ xs) = xs
 
 -- a reply that tells nothing: each step ends at its bound, no Update asks for another, and no interval is known
 abbrev pub plain : Call → Content
@@ -69,8 +69,8 @@ machine_of shape b = record {
   initializing = λ numbers. int_eq (at numbers 0) (pos 1);
   look =
       λ s call. Done false (b.look (int_eq (at s.numbers 0) (pos 1))
-      (behind s.numbers) s.values call);
-  change = λ s call. mark_after (at s.numbers 0) call ∷ b.change (behind s.numbers) s.values call;
+      (after s.numbers) s.values call);
+  change = λ s call. mark_after (at s.numbers 0) call ∷ b.change (after s.numbers) s.values call;
   packing = record { pack = λ kept. []; unpack = λ bytes. None };
   look_at = λ s call bytes. Refused K.Deserialize Error;
 }

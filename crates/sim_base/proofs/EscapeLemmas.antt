@@ -9,8 +9,8 @@ use Rattle.sim_base.specs.Escape.{escaped, escaped_byte}
 pub record Written (name : List ℕ) (count len : ℕ) (old new : List ℕ) : Type 0 where
   pub counted : len ≡ length (escaped name)
   pub small : len ≤ 3 * count
-  pub front : take len new ≡ escaped name
-  pub behind : drop len new ≡ drop len old
+  pub prefix : take len new ≡ escaped name
+  pub after : drop len new ≡ drop len old
 
 -- one more byte
 pub escaped_more : (name : List ℕ) (i : ℕ) → i < length name → escaped (take (i + 1) name) ≡ escaped (take i name) ++ escaped_byte (get_or name i 0)
@@ -21,6 +21,6 @@ pub written_more : (name old out text : List ℕ) (i len byte : ℕ) → Written
 written_more name old out text i len byte so_far within is_byte is_text short same room k is_k = record {
   counted = grind (arith, common_steps, escaped_more);
   small = omega arith;
-  front = grind (arith, common_steps, overwrites, escaped_more);
-  behind = grind (arith, common_steps, overwrites);
+  prefix = grind (arith, common_steps, overwrites, escaped_more);
+  after = grind (arith, common_steps, overwrites);
 }

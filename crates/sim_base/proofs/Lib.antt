@@ -3,3 +3,4 @@ pub mod PathLemmas
 pub mod SinkLemmas
 pub mod SourceLemmas
 pub mod ReadLemmas
+pub mod ShareLemmas

@@ -46,8 +46,8 @@ join_with_byte-more c (x ∷ xs) n y count =
 -- the text of the segments up to a place goes on by the segment there
 pub joined-more : {X : Type 0} (text : X → List ℕ) (c : ℕ) (xs : List X) (i : ℕ) (d : X) → i < length xs → join_with_byte c (map text (take (i + 1) xs)) ≡ join_with_byte c (map text (take i xs)) ++ (if i == 0 then text (get_or xs i d) else c ∷ text (get_or xs i d))
 joined-more text c xs i d within =
-    let front = map text (take i xs) in
-    let next : map text (take (i + 1) xs) ≡ front ++ text (get_or xs i d) ∷ [] =
+    let prefix = map text (take i xs) in
+    let next : map text (take (i + 1) xs) ≡ prefix ++ text (get_or xs i d) ∷ [] =
     ap (map text) (take_more xs i d within) ∙ map-append text (take i xs) (get_or xs i d ∷ []) in
-    let count : length front ≡ i = simp (length-map, length-take) (omega arith) in
-    ap (join_with_byte c) next ∙ join_with_byte-more c front i (text (get_or xs i d)) count
+    let count : length prefix ≡ i = simp (length-map, length-take) (omega arith) in
+    ap (join_with_byte c) next ∙ join_with_byte-more c prefix i (text (get_or xs i d)) count

@@ -1,6 +1,5 @@
 -- What a folder tells, and what reading a file answers and changes.
-use Rattle.std.specs.Prelude.{◌≡◌, ◌⊎◌, ℕ, ◌<◌, ◌≤◌, List, [], ◌∷◌, ◌++◌, length, Option, Some, None, Vec, Result, Ok, Err, if◌then◌else◌, bytes_eq}
-use Rattle.std.specs.declared.alloc.Global.{Global}
+use Rattle.std.specs.Prelude.{◌≡◌, ◌⊎◌, ℕ, ◌<◌, ◌≤◌, List, [], ◌∷◌, ◌++◌, length, Option, Some, None, Result, Ok, Err, if◌then◌else◌, bytes_eq}
 use Rattle.sim_base.specs.declared.folder.ReadFault.{ReadFault}
 use Rattle.sim_base.specs.declared.folder.ReadFault.TheVariants.{Failed, Missing, TooBig, Memory}
 use Rattle.sim_base.specs.declared.folder.MemFile.{MemFile}
@@ -25,24 +24,24 @@ with_read view path answer = record view {
 }
 
 -- what a read of a path makes of what a folder tells. Where memory runs out it may not be noted
-abbrev pub NotesRead : FolderView → FolderView → List ℕ → Result (Vec ℕ Global) ReadFault → Type 0
-NotesRead old new path (Ok bytes) = new ≡ with_read old path (Ok bytes.items)
+abbrev pub NotesRead : FolderView → FolderView → List ℕ → Result (List ℕ) ReadFault → Type 0
+NotesRead old new path (Ok bytes) = new ≡ with_read old path (Ok bytes)
 NotesRead old new path (Err Missing) = new ≡ with_read old path (Err Missing)
 NotesRead old new path (Err (TooBig n)) = new ≡ with_read old path (Err (TooBig n))
 NotesRead old new path (Err Failed) = new ≡ with_read old path (Err Failed)
 NotesRead old new path (Err Memory) = (new ≡ with_read old path (Err Memory)) ⊎ (new ≡ old)
 
 -- the answer to a read of what stands at a path: all of it, or why not
-abbrev pub Reads : Option (List ℕ) → ℕ → Result (Vec ℕ Global) ReadFault → Type 0
-Reads at limit (Ok bytes) = (at ≡ Some bytes.items) × (length bytes.items ≤ limit)
+abbrev pub Reads : Option (List ℕ) → ℕ → Result (List ℕ) ReadFault → Type 0
+Reads at limit (Ok bytes) = (at ≡ Some bytes) × (length bytes ≤ limit)
 Reads at limit (Err Missing) = at ≡ None
 Reads at limit (Err (TooBig n)) = (bytes : List ℕ) × (at ≡ Some bytes) × (length bytes ≡ n) × (limit < n)
 Reads at limit (Err Failed) = Unit {0}
 Reads at limit (Err Memory) = Unit {0}
 
 -- whatever stands at the path: no more bytes than the limit, and a length past it
-abbrev pub KeepsLimit : ℕ → Result (Vec ℕ Global) ReadFault → Type 0
-KeepsLimit limit (Ok bytes) = length bytes.items ≤ limit
+abbrev pub KeepsLimit : ℕ → Result (List ℕ) ReadFault → Type 0
+KeepsLimit limit (Ok bytes) = length bytes ≤ limit
 KeepsLimit limit (Err (TooBig n)) = limit < n
 KeepsLimit limit (Err Missing) = Unit {0}
 KeepsLimit limit (Err Failed) = Unit {0}

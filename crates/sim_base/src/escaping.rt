@@ -52,8 +52,8 @@ pub fn escaped_byte(byte: u8) -> EscapedByte
 pub fn escape(name: &str, out: &mut [u8]) -> usize
     requires { 3 * length name.now ≤ length out.old }
     ensures written { result ≡ length (escaped name.now) }
-    ensures front { take result out.new ≡ escaped name.now }
-    ensures behind { drop result out.new ≡ drop result out.old }
+    ensures prefix { take result out.new ≡ escaped name.now }
+    ensures after { drop result out.new ≡ drop result out.old }
 {
     let mut len = 0;
     for byte in name.as_bytes() {

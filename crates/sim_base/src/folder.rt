@@ -1,8 +1,9 @@
 ghost use Rattle.std.specs.Prelude.{◌≡◌, ◌↔◌, List, ℕ, Option, Some, IfSome, option_map, Contains};
 ghost use Rattle.sim_base.specs.Folder.{KeepsLimit, NotesRead, Reads, file_at};
+ghost use Rattle.sim_base.specs.ReadNotes.{told_answer};
 
 use crate::items::is_listed;
-use crate::{Items, ReadBook, Text};
+use crate::{Items, ReadBook, SharedBytes, Text};
 use std::alloc::Global;
 use thiserror::Error;
 
@@ -27,7 +28,7 @@ pub trait Folder {
     ghost view: { Self → FolderView };
 
     /// Reads the whole file at a path, of at most `limit` bytes.
-    fn read(&mut self, alloc: Global, path: &str, limit: u64) -> Result<Vec<u8>, ReadFault>
+    fn read(&mut self, alloc: Global, path: &str, limit: u64) -> Result<SharedBytes, ReadFault>
         ensures reads { IfSome (view self.old).files (λ at. Reads (at path.now) limit result) }
         ensures within { KeepsLimit limit result }
         ensures noted { NotesRead (view self.old) (view self.new) path.now result };
@@ -85,7 +86,7 @@ impl Folder for MemFolder {
 
     ghost view = { λ f. folder_view (Some (file_at f.files)) f.book };
 
-    fn read(&mut self, alloc: Global, path: &str, limit: u64) -> Result<Vec<u8>, ReadFault>
+    fn read(&mut self, alloc: Global, path: &str, limit: u64) -> Result<SharedBytes, ReadFault>
         ensures reads { Reads (file_at self.old.files path.now) limit result }
         ensures within { KeepsLimit limit result }
         ensures noted { NotesRead (folder_view (Some (file_at self.old.files)) self.old.book)
@@ -111,8 +112,8 @@ impl Folder for MemFolder {
 }
 
 fn read_from(alloc: Global, files: &[MemFile], path: &str, limit: u64) -> Result<Vec<u8>, ReadFault>
-    ensures reads { Reads (file_at files.now path.now) limit result }
-    ensures within { KeepsLimit limit result }
+    ensures reads { Reads (file_at files.now path.now) limit (told_answer result) }
+    ensures within { KeepsLimit limit (told_answer result) }
     ensures succeeds { result ≡ Err ReadFault.Failed → ⊥ }
 {
     let Some(file) = find(files, path) else {

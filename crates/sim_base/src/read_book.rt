@@ -1,7 +1,7 @@
-ghost use Rattle.std.specs.Prelude.{◌≡◌, ◌⊎◌, ◌<◌, ◌++◌, [], ◌∷◌, OnOk, OnErr, Err, length};
+ghost use Rattle.std.specs.Prelude.{◌≡◌, ◌⊎◌, ◌<◌, ◌++◌, [], ◌∷◌, OnOk, OnErr, IfOk, Err, length};
 ghost use Rattle.sim_base.specs.ReadNotes.{faults_after, read_of, told_answer, with_last};
 
-use crate::{Items, ReadFault, Text};
+use crate::{ReadFault, SharedBytes, Text};
 use std::alloc::{AllocError, Global};
 use std::marker::Model;
 
@@ -9,7 +9,7 @@ use std::marker::Model;
 #[derive(Debug, Drop)]
 pub struct ReadNote {
     pub path: Text,
-    pub answer: Result<Items<u8>, ReadFault>,
+    pub answer: Result<SharedBytes, ReadFault>,
 }
 
 /// What a folder notes of its reads: each with its answer, the newest last; and how often one has failed.
@@ -56,21 +56,22 @@ impl ReadBook {
         Ok(())
     }
 
-    /// Notes the answer to what was asked for last, and hands it on; or that there is no memory to note it.
+    /// Notes the answer to what was asked for last, and hands it on; or that there is no memory to note it. The bytes aren't
+    /// copied: the note has a share in them.
     pub fn answer(
         &mut self,
         alloc: Global,
         answer: Result<Vec<u8>, ReadFault>,
-    ) -> Result<Vec<u8>, ReadFault>
+    ) -> Result<SharedBytes, ReadFault>
         requires { 0 < length self.old.reads }
-        ensures reads { self.new.reads ≡ with_last self.old.reads (told_answer result) }
-        ensures faults { self.new.faults ≡ faults_after self.old.faults (told_answer result) }
-        ensures same { (result ≡ answer) ⊎ (result ≡ Err ReadFault.Memory) }
+        ensures reads { self.new.reads ≡ with_last self.old.reads result }
+        ensures faults { self.new.faults ≡ faults_after self.old.faults result }
+        ensures same { (result ≡ told_answer answer) ⊎ (result ≡ Err ReadFault.Memory) }
     {
         let Some(last) = self.reads.pop() else {
             unreachable!()
         };
-        let (result, note) = copied(alloc, answer);
+        let (result, note) = shared(alloc, answer);
         self.reads.push_reserved(answered(last, note));
         self.faults = counted(self.faults, &result);
         result
@@ -92,8 +93,8 @@ impl ReadBook {
 }
 
 // The count of failed reads after an answer.
-fn counted(faults: u64, answer: &Result<Vec<u8>, ReadFault>) -> u64
-    ensures { result ≡ faults_after faults (told_answer answer.now) }
+fn counted(faults: u64, answer: &Result<SharedBytes, ReadFault>) -> u64
+    ensures { result ≡ faults_after faults answer.now }
 {
     match answer {
         Err(ReadFault::Failed) => faults.saturating_add(1),
@@ -102,7 +103,7 @@ fn counted(faults: u64, answer: &Result<Vec<u8>, ReadFault>) -> u64
 }
 
 // The read with this answer.
-fn answered(read: ReadNote, answer: Result<Items<u8>, ReadFault>) -> ReadNote
+fn answered(read: ReadNote, answer: Result<SharedBytes, ReadFault>) -> ReadNote
     ensures { result ≡ record read { answer = answer } }
 {
     ReadNote {
@@ -111,19 +112,30 @@ fn answered(read: ReadNote, answer: Result<Items<u8>, ReadFault>) -> ReadNote
     }
 }
 
-// An answer and its note, or that there is no memory for a note.
-fn copied(
+// An answer and its note, which share the bytes; or that there is no memory for them.
+fn shared(
     alloc: Global,
     answer: Result<Vec<u8>, ReadFault>,
-) -> (Result<Vec<u8>, ReadFault>, Result<Items<u8>, ReadFault>)
-    ensures note { result.1 ≡ told_answer result.0 }
-    ensures same { (result.0 ≡ answer) ⊎ (result.0 ≡ Err ReadFault.Memory) }
+) -> (
+    Result<SharedBytes, ReadFault>,
+    Result<SharedBytes, ReadFault>,
+)
+    ensures note { result.1 ≡ result.0 }
+    ensures same { (result.0 ≡ told_answer answer) ⊎ (result.0 ≡ Err ReadFault.Memory) }
 {
     match answer {
-        Ok(bytes) => match bytes.as_slice().to_vec(alloc) {
-            Ok(copy) => (Ok(bytes), Ok(Items::from_vec(copy))),
+        Ok(bytes) => match two_shares(alloc, bytes) {
+            Ok((one, other)) => (Ok(one), Ok(other)),
             Err(_) => (Err(ReadFault::Memory), Err(ReadFault::Memory)),
         },
         Err(fault) => (Err(fault), Err(fault)),
     }
+}
+
+fn two_shares(alloc: Global, bytes: Vec<u8>) -> Result<(SharedBytes, SharedBytes), AllocError>
+    ensures { IfOk result (λ shares. (shares.0 ≡ bytes.items) × (shares.1 ≡ bytes.items)) }
+{
+    let one = SharedBytes::new(alloc, bytes)?;
+    let other = one.share()?;
+    Ok((one, other))
 }

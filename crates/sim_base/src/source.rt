@@ -72,14 +72,14 @@ impl Source for MemSource {
             self.faults = self.faults.saturating_add(1);
             return Err(SourceFault);
         }
-        let count = copy_front(self.bytes.as_slice(), self.taken, into);
+        let count = copy_prefix(self.bytes.as_slice(), self.taken, into);
         self.taken += count;
         Ok(count)
     }
 }
 
 // Copies the bytes from a place on to the start of `into`, as many as there are and as fit.
-fn copy_front(bytes: &[u8], from: usize, into: &mut [u8]) -> usize
+fn copy_prefix(bytes: &[u8], from: usize, into: &mut [u8]) -> usize
     ensures count { result ≡ min (length into.old) (length (drop from bytes.now)) }
     ensures copied { take result into.new ≡ take result (drop from bytes.now) }
 {

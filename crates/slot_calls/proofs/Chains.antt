@@ -15,7 +15,7 @@ use Rattle.fmu_peer.specs.Talk.{AllGood, IsGood}
 use Rattle.fmu_peer.specs.View.{Asked, Fixed, View, without_machine}
 use Rattle.fmu_peer.proofs.CallerLemmas.{asked_without, good_answered, why_failed}
 use Rattle.slot_calls.specs.Keeping.{AnswersUntil, no_value, without_machine_in}
-use Rattle.slot_calls.specs.Log.{Has, One, Sent, StopsBehind, Talks, Told, part}
+use Rattle.slot_calls.specs.Log.{Has, One, Sent, StopsAfter, Talks, Told, part}
 use Rattle.slot_calls.proofs.Leading.{led}
 use Rattle.slot_calls.proofs.Logs.{has_on, talks_fixed}
 
@@ -49,9 +49,9 @@ module _ (c : Call) (a b : Instance) where
   shape_on es h = ap (λ (f : Fixed). f.shape) (talks_fixed a.view es b.view h.talks)
 
   -- it isn't answered well
-  pub until_bad : (cs : List Call) (why : Why) → One c no_value a b (Err why) → StopsBehind (c ∷ cs) why a b
+  pub until_bad : (cs : List Call) (why : Why) → One c no_value a b (Err why) → StopsAfter (c ∷ cs) why a b
   until_bad cs why o = record {
-    front = [];
+    prefix = [];
     last = o.exchange;
     left = cs;
     calls_are = ap (λ (d : Call). d ∷ cs) (sym o.is);
@@ -81,14 +81,14 @@ module _ (c : Call) (a b : Instance) where
           (subst (λ (s : Shape). AllGood s more.exchanges) (shape_on (o.exchange ∷ []) o.has) more.good);
     }
     until_on (Err why) more = record {
-      front = o.exchange ∷ more.front;
+      prefix = o.exchange ∷ more.prefix;
       last = more.last;
       left = more.left;
       calls_are = ap₂ ◌∷◌ (sym o.is) more.calls_are;
-      good = All-cons (IsGood a.view.fixed.shape) o.exchange more.front o.worth.0
-          (subst (λ (s : Shape). AllGood s more.front) (shape_on (o.exchange ∷ []) o.has) more.good);
+      good = All-cons (IsGood a.view.fixed.shape) o.exchange more.prefix o.worth.0
+          (subst (λ (s : Shape). AllGood s more.prefix) (shape_on (o.exchange ∷ []) o.has) more.good);
       bad = subst (λ (s : Shape). IsWhy s why more.last) (shape_on (o.exchange ∷ []) o.has) more.bad;
-      has = has_on a (o.exchange ∷ []) b (more.front ++ more.last ∷ []) d o.has more.has;
+      has = has_on a (o.exchange ∷ []) b (more.prefix ++ more.last ∷ []) d o.has more.has;
     }
 
 -- ---- one call, by its view alone

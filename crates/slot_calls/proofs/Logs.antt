@@ -7,7 +7,7 @@ use Rattle.fmu_peer.specs.declared.peer.Exchange.{Exchange}
 use Rattle.fmu_peer.specs.Close.{any_fatal, is_fatal_answer}
 use Rattle.fmu_peer.specs.CloseAll.{Instance}
 use Rattle.fmu_peer.specs.View.{View, Fixed}
-use Rattle.slot_calls.specs.Log.{Talks, Has, Sent, Told, part, askings, asking_of}
+use Rattle.slot_calls.specs.Log.{Talks, Has, Sent, Told, part, component_calls, component_call}
 use Rattle.slot_calls.specs.SavedStates.{saved_after}
 use Rattle.slot_calls.proofs.States.{saved_on}
 
@@ -99,5 +99,5 @@ module _ (xs : List Instance) (k : ℕ) (x y : Instance) (e : Exchange) (within 
   pub told_one : Told (record { component = k; exchange = e } ∷ []) xs (set xs k y)
   told_one = record { len = length-set xs k y; each = λ i d w. one_each i d w (split_at i k) }
 
-pub askings_append : (a b : List Sent) → askings (a ++ b) ≡ askings a ++ askings b
-askings_append a b = map-append asking_of a b
+pub askings_append : (a b : List Sent) → component_calls (a ++ b) ≡ component_calls a ++ component_calls b
+askings_append a b = map-append component_call a b

@@ -9,7 +9,7 @@ use Rattle.fmu_peer.specs.declared.peer.Exchange.{Exchange}
 use Rattle.fmu_peer.specs.CloseAll.{Instance}
 use Rattle.fmu_peer.specs.Talk.{IsGood}
 use Rattle.fmu_peer.specs.View.{View}
-use Rattle.slot_calls.specs.Log.{Sent, Asking, Has, Told, part, askings, asking_of}
+use Rattle.slot_calls.specs.Log.{Sent, ComponentCall, Has, Told, part, component_calls, component_call}
 use Rattle.slot_calls.specs.Stage.{IsAnswered, IsGoodOf, everyone, shapes, to_each, to_those, to_those_from}
 use Rattle.slot_calls.proofs.Answered.{map_at, shape_of}
 use Rattle.slot_calls.proofs.Leading.{Led, led}
@@ -47,19 +47,19 @@ same i k h = grind (arith)
 -- ---- one call that is sent or left out, and what is sent after it
 
 -- the rest of a log after the call, if it was sent
-record Rest (a : Asking) (cs : List Asking) (log : List Sent) : Type 0 where
+record Rest (a : ComponentCall) (cs : List ComponentCall) (log : List Sent) : Type 0 where
   rest : List Sent
-  rest_is : askings rest ≡ cs
+  rest_is : component_calls rest ≡ cs
   others : (j : ℕ) → j ≢ a.component → part j log ≡ part j rest
   good : (ss : List Shape) → All (IsGoodOf ss) log → All (IsGoodOf ss) rest
 
-rest_if : (b : Bool) (a : Asking) (cs : List Asking) (log : List Sent) → askings log ≡ (if b then a ∷ cs else cs) → Rest a cs log
+rest_if : (b : Bool) (a : ComponentCall) (cs : List ComponentCall) (log : List Sent) → component_calls log ≡ (if b then a ∷ cs else cs) → Rest a cs log
 rest_if true a cs [] is = absurd (cc)
 rest_if true a cs (s ∷ log) is =
-    let at : s.component ≡ a.component = ap (λ (x : Asking). x.component) (first_same (asking_of s) a (askings log) cs is) in
+    let at : s.component ≡ a.component = ap (λ (x : ComponentCall). x.component) (first_same (component_call s) a (component_calls log) cs is) in
     record {
       rest = log;
-      rest_is = rest_same (asking_of s) a (askings log) cs is;
+      rest_is = rest_same (component_call s) a (component_calls log) cs is;
       others = λ j ne. skips (s.component == j) s.exchange (part j log) (other s.component j (λ e. ne (sym e ∙ at)));
       good = λ ss all. All-tail (IsGoodOf ss) s log all;
     }
@@ -72,57 +72,57 @@ pub record PartIs (ss : List Shape) (k : ℕ) (call : Call) (log : List Sent) : 
   pub call_is : exchange.call ≡ call
   pub good : (d : Shape) → IsGood (get_or ss k d) exchange
 
-part_first : (ss : List Shape) (a : Asking) (cs : List Asking) (log : List Sent) → askings log ≡ a ∷ cs → All (IsGoodOf ss) log → ((rest : List Sent) → askings rest ≡ cs → part a.component rest ≡ []) →
+part_first : (ss : List Shape) (a : ComponentCall) (cs : List ComponentCall) (log : List Sent) → component_calls log ≡ a ∷ cs → All (IsGoodOf ss) log → ((rest : List Sent) → component_calls rest ≡ cs → part a.component rest ≡ []) →
     PartIs ss a.component a.call log
 part_first ss a cs [] is good none = absurd (cc)
 part_first ss a cs (s ∷ log) is good none =
-    let first = first_same (asking_of s) a (askings log) cs is in
-    let at : s.component ≡ a.component = ap (λ (x : Asking). x.component) first in
+    let first = first_same (component_call s) a (component_calls log) cs is in
+    let at : s.component ≡ a.component = ap (λ (x : ComponentCall). x.component) first in
     record {
       exchange = s.exchange;
       is = takes (s.component == a.component) s.exchange (part a.component log) (same s.component a.component at)
-          ∙ ap (λ (es : List Exchange). s.exchange ∷ es) (none log (rest_same (asking_of s) a (askings log) cs is));
-      call_is = ap (λ (x : Asking). x.call) first;
+          ∙ ap (λ (es : List Exchange). s.exchange ∷ es) (none log (rest_same (component_call s) a (component_calls log) cs is));
+      call_is = ap (λ (x : ComponentCall). x.call) first;
       good = λ e. subst (λ (n : ℕ). IsGood (get_or ss n e) s.exchange) at (All-head (IsGoodOf ss) s log good e);
     }
 
-part_nil : (j : ℕ) (log : List Sent) → askings log ≡ [] → part j log ≡ []
+part_nil : (j : ℕ) (log : List Sent) → component_calls log ≡ [] → part j log ≡ []
 part_nil j [] is = refl
 part_nil j (s ∷ log) is = absurd (cc)
 
 -- ---- the parts, from the k-th component on
 
 module _ (test : Shape → Bool) (call : Shape → Call) where
-  abbrev asking_at : ℕ → Shape → Asking
+  abbrev asking_at : ℕ → Shape → ComponentCall
   asking_at k t = record { component = k; call = call t }
 
-  rest_behind : (k : ℕ) (t : Shape) (todo : List Shape) (log : List Sent) → askings log ≡ to_those_from k test call (t ∷ todo) → Rest (asking_at k t) (to_those_from (k + 1) test call todo) log
-  rest_behind k t todo log is = rest_if (test t) (asking_at k t) (to_those_from (k + 1) test call todo) log is
+  rest_after : (k : ℕ) (t : Shape) (todo : List Shape) (log : List Sent) → component_calls log ≡ to_those_from k test call (t ∷ todo) → Rest (asking_at k t) (to_those_from (k + 1) test call todo) log
+  rest_after k t todo log is = rest_if (test t) (asking_at k t) (to_those_from (k + 1) test call todo) log is
 
-  pub none_before : (k j : ℕ) (todo : List Shape) (log : List Sent) → askings log ≡ to_those_from k test call todo → j < k → part j log ≡ []
+  pub none_before : (k j : ℕ) (todo : List Shape) (log : List Sent) → component_calls log ≡ to_those_from k test call todo → j < k → part j log ≡ []
   none_before k j [] log is h = part_nil j log is
   none_before k j (t ∷ todo) log is h =
-      let r = rest_behind k t todo log is in
+      let r = rest_after k t todo log is in
       r.others j (λ e. absurd (omega (arith, e, h))) ∙ none_before (k + 1) j todo r.rest r.rest_is (omega (arith, h))
 
-  pub none_after : (k j : ℕ) (todo : List Shape) (log : List Sent) → askings log ≡ to_those_from k test call todo → k + length todo ≤ j → part j log ≡ []
+  pub none_after : (k j : ℕ) (todo : List Shape) (log : List Sent) → component_calls log ≡ to_those_from k test call todo → k + length todo ≤ j → part j log ≡ []
   none_after k j [] log is h = part_nil j log is
   none_after k j (t ∷ todo) log is h =
-      let r = rest_behind k t todo log is in
+      let r = rest_after k t todo log is in
       r.others j (λ e. absurd (omega (arith, e, h))) ∙ none_after (k + 1) j todo r.rest r.rest_is (omega (arith, h))
 
   -- of one that isn't asked
-  pub none_of : (k : ℕ) (todo : List Shape) (log : List Sent) → askings log ≡ to_those_from k test call todo → (i : ℕ) (d : Shape) → i < length todo → test (get_or todo i d) ≡ false → part (k + i) log ≡ []
+  pub none_of : (k : ℕ) (todo : List Shape) (log : List Sent) → component_calls log ≡ to_those_from k test call todo → (i : ℕ) (d : Shape) → i < length todo → test (get_or todo i d) ≡ false → part (k + i) log ≡ []
   none_of k [] log is i d w unasked = absurd (omega (arith, w))
   none_of k (t ∷ todo) log is zero d w unasked =
       none_before (k + 1) (k + 0) todo log (is ∙ ap (λ (b : Bool). if b then asking_at k t ∷ to_those_from (k + 1) test call todo else to_those_from (k + 1) test call todo) unasked) (omega arith)
   none_of k (t ∷ todo) log is (suc i) d w unasked =
-      let r = rest_behind k t todo log is in
+      let r = rest_after k t todo log is in
       let place : k + 1 + i ≡ k + suc i = omega arith in
       r.others (k + suc i) (λ e. absurd (omega (arith, e))) ∙ ap (λ (n : ℕ). part n r.rest) (sym place) ∙ none_of (k + 1) todo r.rest r.rest_is i d (omega (arith, w)) unasked
 
   -- of one that is asked
-  pub one_of : (ss : List Shape) (k : ℕ) (todo : List Shape) (log : List Sent) → askings log ≡ to_those_from k test call todo → All (IsGoodOf ss) log →
+  pub one_of : (ss : List Shape) (k : ℕ) (todo : List Shape) (log : List Sent) → component_calls log ≡ to_those_from k test call todo → All (IsGoodOf ss) log →
       (i : ℕ) (d : Shape) → i < length todo → test (get_or todo i d) ≡ true → PartIs ss (k + i) (call (get_or todo i d)) log
   one_of ss k [] log is good i d w asked = absurd (omega (arith, w))
   one_of ss k (t ∷ todo) log is good zero d w asked =
@@ -131,7 +131,7 @@ module _ (test : Shape → Bool) (call : Shape → Call) where
       (is ∙ ap (λ (b : Bool). if b then asking_at k t ∷ to_those_from (k + 1) test call todo else to_those_from (k + 1) test call todo) asked) good
       (λ rest rest_is. none_before (k + 1) k todo rest rest_is (omega arith)))
   one_of ss k (t ∷ todo) log is good (suc i) d w asked =
-      let r = rest_behind k t todo log is in
+      let r = rest_after k t todo log is in
       let more = one_of ss (k + 1) todo r.rest r.rest_is (r.good ss good) i d (omega (arith, w)) asked in
       let place : k + 1 + i ≡ k + suc i = omega arith in
       record {
@@ -143,27 +143,27 @@ module _ (test : Shape → Bool) (call : Shape → Call) where
 
   -- ---- the calls themselves
 
-  all_if : (P : Asking → Type 0) (b : Bool) (a : Asking) (cs : List Asking) → (b ≡ true → P a) → All P cs → All P (if b then a ∷ cs else cs)
+  all_if : (P : ComponentCall → Type 0) (b : Bool) (a : ComponentCall) (cs : List ComponentCall) → (b ≡ true → P a) → All P cs → All P (if b then a ∷ cs else cs)
   all_if P true a cs h all = All-cons P a cs (h refl) all
   all_if P false a cs h all = all
 
   -- what holds of the call to each that is asked holds of each of the calls
-  pub those_calls : (P : Call → Type 0) → ((s : Shape) → test s ≡ true → P (call s)) → (k : ℕ) (todo : List Shape) → All (λ (a : Asking). P a.call) (to_those_from k test call todo)
-  those_calls P h k [] = All-nil (λ (a : Asking). P a.call)
-  those_calls P h k (t ∷ todo) = all_if (λ (a : Asking). P a.call) (test t) (asking_at k t) (to_those_from (k + 1) test call todo) (λ is. h t is) (those_calls P h (k + 1) todo)
+  pub those_calls : (P : Call → Type 0) → ((s : Shape) → test s ≡ true → P (call s)) → (k : ℕ) (todo : List Shape) → All (λ (a : ComponentCall). P a.call) (to_those_from k test call todo)
+  those_calls P h k [] = All-nil (λ (a : ComponentCall). P a.call)
+  those_calls P h k (t ∷ todo) = all_if (λ (a : ComponentCall). P a.call) (test t) (asking_at k t) (to_those_from (k + 1) test call todo) (λ is. h t is) (those_calls P h (k + 1) todo)
 
   -- they are to components of the list
-  pub those_within : (limit k : ℕ) (todo : List Shape) → k + length todo ≤ limit → All (λ (a : Asking). a.component < limit) (to_those_from k test call todo)
-  those_within limit k [] h = All-nil (λ (a : Asking). a.component < limit)
+  pub those_within : (limit k : ℕ) (todo : List Shape) → k + length todo ≤ limit → All (λ (a : ComponentCall). a.component < limit) (to_those_from k test call todo)
+  those_within limit k [] h = All-nil (λ (a : ComponentCall). a.component < limit)
   those_within limit k (t ∷ todo) h =
-      all_if (λ (a : Asking). a.component < limit) (test t) (asking_at k t) (to_those_from (k + 1) test call todo) (λ is. omega (arith, h)) (those_within limit (k + 1) todo (omega (arith, h)))
+      all_if (λ (a : ComponentCall). a.component < limit) (test t) (asking_at k t) (to_those_from (k + 1) test call todo) (λ is. omega (arith, h)) (those_within limit (k + 1) todo (omega (arith, h)))
 
 -- what holds of each of the calls holds of each exchange
-pub sent_all : (P : Asking → Type 0) (log : List Sent) (calls : List Asking) → askings log ≡ calls → All P calls → All (λ (s : Sent). P (asking_of s)) log
+pub sent_all : (P : ComponentCall → Type 0) (log : List Sent) (calls : List ComponentCall) → component_calls log ≡ calls → All P calls → All (λ (s : Sent). P (component_call s)) log
 sent_all P log calls is all = by log (subst (All P) (sym is) all) where
-  by : (log : List Sent) → All P (askings log) → All (λ (s : Sent). P (asking_of s)) log
-  by [] h = All-nil (λ (s : Sent). P (asking_of s))
-  by (s ∷ log) h = All-cons (λ (r : Sent). P (asking_of r)) s log (All-head P (asking_of s) (askings log) h) (by log (All-tail P (asking_of s) (askings log) h))
+  by : (log : List Sent) → All P (component_calls log) → All (λ (s : Sent). P (component_call s)) log
+  by [] h = All-nil (λ (s : Sent). P (component_call s))
+  by (s ∷ log) h = All-cons (λ (r : Sent). P (component_call r)) s log (All-head P (component_call s) (component_calls log) h) (by log (All-tail P (component_call s) (component_calls log) h))
 
 -- ---- where all answers are good
 
@@ -180,11 +180,11 @@ module _ (ss : List Shape) (test : Shape → Bool) (call : Shape → Call) (log 
   pub part_beyond : (k : ℕ) → length ss ≤ k → part k log ≡ []
   part_beyond k h = none_after test call 0 k ss log answered.calls_are (omega (arith, h))
 
-  pub askings_within : All (λ (a : Asking). a.component < length ss) (askings log)
-  askings_within = subst (All (λ (a : Asking). a.component < length ss)) (sym answered.calls_are) (those_within test call (length ss) 0 ss (omega arith))
+  pub askings_within : All (λ (a : ComponentCall). a.component < length ss) (component_calls log)
+  askings_within = subst (All (λ (a : ComponentCall). a.component < length ss)) (sym answered.calls_are) (those_within test call (length ss) 0 ss (omega arith))
 
   pub sent_within : All (λ (s : Sent). s.component < length ss) log
-  sent_within = sent_all (λ (a : Asking). a.component < length ss) log (to_those test call ss) answered.calls_are (those_within test call (length ss) 0 ss (omega arith))
+  sent_within = sent_all (λ (a : ComponentCall). a.component < length ss) log (to_those test call ss) answered.calls_are (those_within test call (length ss) 0 ss (omega arith))
 
 -- ---- what a stage leaves of each instance
 

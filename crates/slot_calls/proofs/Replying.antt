@@ -28,9 +28,9 @@ module _ (m : Machine) where
     by (Ok reply) g k = (ap Ok k.0, k.1)
     by (Err fault) g k = absurd g
 
-  pub replies_front : (s : MachineState) (es fs : List Exchange) → RepliesBy m s (es ++ fs) → RepliesBy m s es
-  replies_front s [] fs h = tt
-  replies_front s (e ∷ es) fs h = by e.result h (λ k. replies_front (after m s e.call) es fs k) where
+  pub replies_prefix : (s : MachineState) (es fs : List Exchange) → RepliesBy m s (es ++ fs) → RepliesBy m s es
+  replies_prefix s [] fs h = tt
+  replies_prefix s (e ∷ es) fs h = by e.result h (λ k. replies_prefix (after m s e.call) es fs k) where
     by : (r : Result Reply PeerFault) → MatchResult r (λ reply. (reply ≡ m.look s e.call) × RepliesBy m (after m s e.call) (es ++ fs)) (λ fault. Unit {0}) →
         (RepliesBy m (after m s e.call) (es ++ fs) → RepliesBy m (after m s e.call) es) →
         MatchResult r (λ reply. (reply ≡ m.look s e.call) × RepliesBy m (after m s e.call) es) (λ fault. Unit {0})

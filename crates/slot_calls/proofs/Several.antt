@@ -15,13 +15,13 @@ use Rattle.fmu_peer.specs.declared.peer.Exchange.{Exchange}
 use Rattle.fmu_peer.specs.declared.slot.Slot.{Slot}
 use Rattle.fmu_peer.specs.Close.{any_fatal}
 use Rattle.fmu_peer.specs.CloseAll.{instance_in, peer_in}
-use Rattle.fmu_peer.specs.Many.{AnsweredAll, AreOfOneSort, FailedBehind, Talks, exchanges}
+use Rattle.fmu_peer.specs.Many.{AnsweredAll, AreOfOneSort, FailedAfter, Talks, exchanges}
 use Rattle.fmu_peer.specs.Talk.{AllGood, IsGood, calls_in}
 use Rattle.fmu_peer.specs.View.{View}
 use Rattle.fmu_peer.proofs.KeptStates.{answered_keeps}
-use Rattle.fmu_peer.proofs.ManyLemmas.{all_front}
+use Rattle.fmu_peer.proofs.ManyLemmas.{all_prefix}
 use Rattle.fmu_peer.proofs.SeveralLemmas.{calls_beside}
-use Rattle.slot_calls.specs.Log.{AnswersAll, Has, StopsBehind}
+use Rattle.slot_calls.specs.Log.{AnswersAll, Has, StopsAfter}
 use Rattle.slot_calls.specs.SavedStates.{saved_after}
 use Rattle.slot_calls.specs.Slots.{IsLive, LiveSlot, is_fatal_result, is_fatal_why}
 use Rattle.slot_calls.proofs.Moving.{fatal_one, good_answer}
@@ -53,7 +53,7 @@ none_fatal shape [] good = refl
 none_fatal shape (e ∷ es) good =
     ap (λ (b : Bool). b || any_fatal shape es) (good_answer {T = Unit {0}} shape (λ x. tt) e e.result (All-head (IsGood shape) e es good)) ∙ none_fatal shape es (All-tail (IsGood shape) e es good)
 
-fatal_last : (shape : Shape) (front : List Exchange) (last : Exchange) → AllGood shape front → any_fatal shape (front ++ last ∷ []) ≡ any_fatal shape (last ∷ [])
+fatal_last : (shape : Shape) (prefix : List Exchange) (last : Exchange) → AllGood shape prefix → any_fatal shape (prefix ++ last ∷ []) ≡ any_fatal shape (last ∷ [])
 fatal_last shape [] last good = refl
 fatal_last shape (e ∷ es) last good =
     ap (λ (b : Bool). b || any_fatal shape (es ++ last ∷ [])) (good_answer {T = Unit {0}} shape (λ x. tt) e e.result (All-head (IsGood shape) e es good)) ∙ fatal_last shape es last (All-tail (IsGood shape) e es good)
@@ -79,17 +79,17 @@ module _ {L : Type 0} {g : _} (view : L → View) (old new : Slot L g) (calls : 
     good = a.good;
   }
 
-  pub stopped : (why : Why) → FailedBehind (view (peer_in old.held)) calls why (view (peer_in new.held)) → new.is_fatal ≡ (old.is_fatal || is_fatal_why why) →
-      StopsBehind calls why (instance_in view old) (instance_in view new)
+  pub stopped : (why : Why) → FailedAfter (view (peer_in old.held)) calls why (view (peer_in new.held)) → new.is_fatal ≡ (old.is_fatal || is_fatal_why why) →
+      StopsAfter calls why (instance_in view old) (instance_in view new)
   stopped why f fatal = record {
-    front = f.front;
+    prefix = f.prefix;
     last = f.last;
     left = f.left;
     calls_are = f.calls_are;
     good = f.good;
     bad = f.bad;
-    has = has_all (f.front ++ f.last ∷ []) f.talks (all_front IsKeepless (calls_in (f.front ++ f.last ∷ [])) f.left (subst AreKeepless f.calls_are (sort_keeps calls sort)))
-        (fatal ∙ ap (λ (b : Bool). old.is_fatal || b) (fatal_one {T = Unit {0}} shape (λ x. tt) f.last (Err why) f.bad ∙ sym (fatal_last shape f.front f.last f.good)));
+    has = has_all (f.prefix ++ f.last ∷ []) f.talks (all_prefix IsKeepless (calls_in (f.prefix ++ f.last ∷ [])) f.left (subst AreKeepless f.calls_are (sort_keeps calls sort)))
+        (fatal ∙ ap (λ (b : Bool). old.is_fatal || b) (fatal_one {T = Unit {0}} shape (λ x. tt) f.last (Err why) f.bad ∙ sym (fatal_last shape f.prefix f.last f.good)));
   }
 
   -- ---- by the result
@@ -99,8 +99,8 @@ module _ {L : Type 0} {g : _} (view : L → View) (old new : Slot L g) (calls : 
   all_by (Ok x) replies len a fatal = answered replies len a fatal
   all_by (Err why) replies len a fatal = tt
 
-  pub stops_by : (r : Result (Unit {0}) Why) → IfErr r (λ why. FailedBehind (view (peer_in old.held)) calls why (view (peer_in new.held))) →
-      new.is_fatal ≡ (old.is_fatal || is_fatal_result r) → IfErr r (λ why. StopsBehind calls why (instance_in view old) (instance_in view new))
+  pub stops_by : (r : Result (Unit {0}) Why) → IfErr r (λ why. FailedAfter (view (peer_in old.held)) calls why (view (peer_in new.held))) →
+      new.is_fatal ≡ (old.is_fatal || is_fatal_result r) → IfErr r (λ why. StopsAfter calls why (instance_in view old) (instance_in view new))
   stops_by (Ok x) f fatal = tt
   stops_by (Err why) f fatal = stopped why f fatal
 

@@ -38,10 +38,10 @@ module _ {L : Type 0} {g : _} (view : L → View) (old new : Slot L g) (call : C
   abbrev before : View
   before = view (peer_in old.held)
 
-  abbrev behind : View
-  behind = view (peer_in new.held)
+  abbrev later : View
+  later = view (peer_in new.held)
 
-  one_by : (r : Result (Unit {0}) Why) → Called call no_value before behind r → is_some new.saved ≡ saved_next (is_some old.saved) call r → new.is_fatal ≡ (old.is_fatal || is_fatal_result r) →
+  one_by : (r : Result (Unit {0}) Why) → Called call no_value before later r → is_some new.saved ≡ saved_next (is_some old.saved) call r → new.is_fatal ≡ (old.is_fatal || is_fatal_result r) →
       One call no_value (instance_in view old) (instance_in view new) r
   one_by r called saved fatal =
       one_called view old new call no_value r called source
@@ -49,15 +49,15 @@ module _ {L : Type 0} {g : _} (view : L → View) (old new : Slot L g) (call : C
 
   -- what is held is this peer
   module _ {T : Type 0} (r : Result T Why) (peer : L) (peer_is : peer_in old.held ≡ peer) (fatal : new.is_fatal ≡ (old.is_fatal || is_fatal_result r)) where
-    pub sent_good : (x : T) → r ≡ Ok x → (reply : Reply) → Answered (view peer) call reply behind → is_some new.saved ≡ saved_good (is_some old.saved) call → IsLive view new.held → WasSent view call old new (Ok tt)
+    pub sent_good : (x : T) → r ≡ Ok x → (reply : Reply) → Answered (view peer) call reply later → is_some new.saved ≡ saved_good (is_some old.saved) call → IsLive view new.held → WasSent view call old new (Ok tt)
     sent_good x is reply a saved held =
-        let one = one_by (Ok tt) (called_good before behind call no_value reply tt may.permitted (subst (λ (l : L). Answered (view l) call reply behind) (sym peer_is) a) refl) saved
+        let one = one_by (Ok tt) (called_good before later call no_value reply tt may.permitted (subst (λ (l : L). Answered (view l) call reply later) (sym peer_is) a) refl) saved
         (fatal ∙ ap (λ q. old.is_fatal || is_fatal_result q) is) in
         record { one = one; live = live_on view old new call no_value (Ok tt) one may.live held }
 
-    pub sent_bad : (why : Why) → r ≡ Err why → Failed (view peer) call why behind → is_some new.saved ≡ saved_bad (is_some old.saved) call → WasSent view call old new (Err why)
+    pub sent_bad : (why : Why) → r ≡ Err why → Failed (view peer) call why later → is_some new.saved ≡ saved_bad (is_some old.saved) call → WasSent view call old new (Err why)
     sent_bad why is f saved = record {
-      one = one_by (Err why) (called_bad before behind call no_value why may.permitted (subst (λ (l : L). Failed (view l) call why behind) (sym peer_is) f)) saved
+      one = one_by (Err why) (called_bad before later call no_value why may.permitted (subst (λ (l : L). Failed (view l) call why later) (sym peer_is) f)) saved
           (fatal ∙ ap (λ q. old.is_fatal || is_fatal_result q) is);
       live = tt;
     }

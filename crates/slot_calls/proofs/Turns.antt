@@ -11,12 +11,12 @@ use Rattle.fmu_peer.specs.declared.ended.Why.{Why}
 use Rattle.fmu_peer.specs.declared.peer.Exchange.{Exchange}
 use Rattle.fmu_peer.specs.CloseAll.{Instance}
 use Rattle.slot_calls.specs.Carried.{any_asks_to_end, asks_to_end}
-use Rattle.slot_calls.specs.Log.{One, Asking, Sent, Told}
+use Rattle.slot_calls.specs.Log.{One, ComponentCall, Sent, Told}
 use Rattle.slot_calls.specs.Rounds.{joined}
 use Rattle.slot_calls.specs.Stage.{FailsIn, IsAnswered, RoundSays, StopsAt, shapes, to_those}
 use Rattle.slot_calls.specs.declared.bad_answer.BadAnswer.{BadAnswer}
 use Rattle.slot_calls.proofs.Logs.{askings_append, told_on, told_one}
-use Rattle.slot_calls.proofs.Answered.{IsShapeAt, answered_on, answered_one, first_here, map_at, one_log, shape_of, shapes_same, stops_front, stops_on, stops_one, those_more, those_same, those_split}
+use Rattle.slot_calls.proofs.Answered.{IsShapeAt, answered_on, answered_one, first_here, map_at, one_log, shape_of, shapes_same, stops_on, stops_one, stops_prefix, those_more, those_same, those_split}
 
 -- from this place on the lists are the same
 pub record SameFrom {A : Type 0} (place : ℕ) (xs ys : List A) : Type 0 where
@@ -78,7 +78,7 @@ module _ {A : Type 0} (f : A → Instance) (olds : List Instance) (news : List A
         (told_on olds (map f news) (set (map f news) k (f y)) log (one_log k o.exchange) told
         (told_one (map f news) k (f there) (f y) o.exchange within_map there_is o.has))
 
-  module _ {T : Type 0} (call : Call) (value : Exchange → T) (cs : List Asking) (answered : IsAnswered (shapes olds) cs log) where
+  module _ {T : Type 0} (call : Call) (value : Exchange → T) (cs : List ComponentCall) (answered : IsAnswered (shapes olds) cs log) where
     pub turn_answered : (v : T) (o : One call value (f there) (f y) (Ok v)) → IsAnswered (shapes olds) (cs ++ record { component = k; call = call } ∷ []) (log ++ one_log k o.exchange)
     turn_answered v o =
         answered_on (shapes olds) cs (record { component = k; call = call } ∷ []) log (one_log k o.exchange) answered
@@ -112,13 +112,13 @@ module _ {A : Type 0} (f : A → Instance) (call : Shape → Call) (olds news : 
     pub each_left : test (shape_of (f (get_or news place d))) ≡ false → IsAnswered (shapes (map f olds)) (to_those test call (take place (shapes (map f olds)))) log →
         IsAnswered (shapes (map f olds)) (to_those test call (take (place + 1) (shapes (map f olds)))) log
     each_left unasked answered =
-        subst (λ (cs : List Asking). IsAnswered (shapes (map f olds)) cs log) (sym (those_same test call (shapes (map f olds)) place (shape_of (f (get_or news place d))) in_shapes here unasked)) answered
+        subst (λ (cs : List ComponentCall). IsAnswered (shapes (map f olds)) cs log) (sym (those_same test call (shapes (map f olds)) place (shape_of (f (get_or news place d))) in_shapes here unasked)) answered
 
     -- the same in a round
     pub round_left : test (shape_of (f (get_or news place d))) ≡ false → (so_far : Result Bool BadAnswer) → RoundSays (shapes (map f olds)) (to_those test call (take place (shapes (map f olds)))) any_asks_to_end log so_far →
         RoundSays (shapes (map f olds)) (to_those test call (take (place + 1) (shapes (map f olds)))) any_asks_to_end log so_far
     round_left unasked so_far says =
-        subst (λ (cs : List Asking). RoundSays (shapes (map f olds)) cs any_asks_to_end log so_far) (sym (those_same test call (shapes (map f olds)) place (shape_of (f (get_or news place d))) in_shapes here unasked)) says
+        subst (λ (cs : List ComponentCall). RoundSays (shapes (map f olds)) cs any_asks_to_end log so_far) (sym (those_same test call (shapes (map f olds)) place (shape_of (f (get_or news place d))) in_shapes here unasked)) says
 
     -- one that is asked
     module _ (asked : test (shape_of (f (get_or news place d))) ≡ true) where
@@ -129,27 +129,27 @@ module _ {A : Type 0} (f : A → Instance) (call : Shape → Call) (olds news : 
         pub each_sent : (v : T) (o : One (call (shape_of (f (get_or news place d)))) value (f (get_or news place d)) (f y) (Ok v)) →
             IsAnswered (shapes (map f olds)) (to_those test call (take (place + 1) (shapes (map f olds)))) (log ++ one_log place o.exchange)
         each_sent v o =
-            subst (λ (cs : List Asking). IsAnswered (shapes (map f olds)) cs (log ++ one_log place o.exchange)) (sym calls_more)
+            subst (λ (cs : List ComponentCall). IsAnswered (shapes (map f olds)) cs (log ++ one_log place o.exchange)) (sym calls_more)
             (turn_answered f (map f olds) news log told place d y new_within (call (shape_of (f (get_or news place d)))) value _ answered v o)
 
         pub each_stops : (bad : BadAnswer) → bad.component.0 ≡ place → (o : One (call (shape_of (f (get_or news place d)))) value (f (get_or news place d)) (f y) (Err bad.why)) →
             StopsAt (shapes (map f olds)) (to_those test call (shapes (map f olds))) bad (log ++ one_log place o.exchange)
         each_stops bad at o =
-            subst (λ (cs : List Asking). StopsAt (shapes (map f olds)) cs bad (log ++ one_log place o.exchange))
+            subst (λ (cs : List ComponentCall). StopsAt (shapes (map f olds)) cs bad (log ++ one_log place o.exchange))
             (sym (those_split test call (shapes (map f olds)) place (shape_of (f (get_or news place d))) in_shapes here asked))
-            (stops_front (shapes (map f olds)) _ _ bad _ (turn_stops f (map f olds) news log told place d y new_within (call (shape_of (f (get_or news place d)))) value _ answered bad at o))
+            (stops_prefix (shapes (map f olds)) _ _ bad _ (turn_stops f (map f olds) news log told place d y new_within (call (shape_of (f (get_or news place d)))) value _ answered bad at o))
 
       -- the same in a round
       module _ (bad : BadAnswer) (fails : FailsIn (shapes (map f olds)) (to_those test call (take place (shapes (map f olds)))) bad log) where
         pub round_failed : (r : Result Bool Why) (o : One (call (shape_of (f (get_or news place d)))) asks_to_end (f (get_or news place d)) (f y) r) →
             FailsIn (shapes (map f olds)) (to_those test call (take (place + 1) (shapes (map f olds)))) bad (log ++ one_log place o.exchange)
         round_failed r o = record {
-          front = fails.front;
+          prefix = fails.prefix;
           last = fails.last;
           back = fails.back ++ one_log place o.exchange;
-          log_is = ap (λ (l : List Sent). l ++ one_log place o.exchange) fails.log_is ∙ append_assoc fails.front (fails.last ∷ fails.back) (one_log place o.exchange);
+          log_is = ap (λ (l : List Sent). l ++ one_log place o.exchange) fails.log_is ∙ append_assoc fails.prefix (fails.last ∷ fails.back) (one_log place o.exchange);
           calls_are = askings_append log (one_log place o.exchange)
-              ∙ ap₂ (λ (cs : List Asking) (c : Call). cs ++ record { component = place; call = c } ∷ []) fails.calls_are o.is ∙ sym (calls_more);
+              ∙ ap₂ (λ (cs : List ComponentCall) (c : Call). cs ++ record { component = place; call = c } ∷ []) fails.calls_are o.is ∙ sym (calls_more);
           first = fails.first;
         }
 
@@ -157,12 +157,12 @@ module _ {A : Type 0} (f : A → Instance) (call : Shape → Call) (olds news : 
           (o : One (call (shape_of (f (get_or news place d)))) asks_to_end (f (get_or news place d)) (f y) (Err bad.why)) →
           FailsIn (shapes (map f olds)) (to_those test call (take (place + 1) (shapes (map f olds)))) bad (log ++ one_log place o.exchange)
       round_fails answered bad at o = record {
-        front = log;
+        prefix = log;
         last = record { component = place; exchange = o.exchange };
         back = [];
         log_is = refl;
         calls_are = askings_append log (one_log place o.exchange)
-            ∙ ap₂ (λ (cs : List Asking) (c : Call). cs ++ record { component = place; call = c } ∷ []) answered.calls_are o.is ∙ sym (calls_more);
+            ∙ ap₂ (λ (cs : List ComponentCall) (c : Call). cs ++ record { component = place; call = c } ∷ []) answered.calls_are o.is ∙ sym (calls_more);
         first = first_here (shapes (map f olds)) place (shape_of (f (get_or news place d))) here o.exchange bad log at answered.good o.worth;
       }
 

@@ -11,7 +11,7 @@ use Rattle.fmu_peer.specs.declared.peer.PeerFault.{PeerFault}
 use Rattle.system_model.specs.declared.system.Port.{Port}
 use Rattle.run_model.specs.Equations.{value_in}
 use Rattle.run_model.specs.Stepping.{is_terminating}
-use Rattle.slot_calls.specs.Log.{Sent, Asking}
+use Rattle.slot_calls.specs.Log.{Sent, ComponentCall}
 
 -- ---- values
 
@@ -19,7 +19,7 @@ abbrev pub get_of : Port → Call
 get_of port = C.Get port.kind port.reference
 
 -- the Get of each port, in port order
-abbrev pub gets : List Port → List Asking
+abbrev pub gets : List Port → List ComponentCall
 gets ports =
     map (λ (port : Port). record { component = port.component.0; call = get_of port }) ports
 

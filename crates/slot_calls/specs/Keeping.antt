@@ -13,7 +13,7 @@ use Rattle.fmu_peer.specs.CloseAll.{Instance, instance_in, peer_in}
 use Rattle.fmu_peer.specs.Machine.{Machine, MachineState, kept}
 use Rattle.fmu_peer.specs.Talk.{AllGood, calls_in}
 use Rattle.fmu_peer.specs.View.{View, without_machine}
-use Rattle.slot_calls.specs.Log.{Has, One, StopsBehind}
+use Rattle.slot_calls.specs.Log.{Has, One, StopsAfter}
 use Rattle.slot_calls.specs.Slots.{LiveSlot, state_of}
 use Rattle.slot_calls.specs.declared.bad_answer.BadAnswer.{BadAnswer}
 
@@ -49,7 +49,7 @@ pub record AnswersEach (calls : List Call) (old new : Instance) : Type 0 where
 -- up to the first whose answer isn't good
 abbrev pub AnswersUntil : {T : Type 0} → List Call → Instance → Instance → Result T Why → Type 0
 AnswersUntil calls old new (Ok x) = AnswersEach calls old new
-AnswersUntil calls old new (Err why) = StopsBehind calls why old new
+AnswersUntil calls old new (Err why) = StopsAfter calls why old new
 
 -- ---- keeping
 
@@ -152,7 +152,7 @@ pub record AreRestoredUntil (point stop : ℕ) (states : List (List ℕ)) (bad :
     (olds news : List Instance) : Type 0 where
   pub len : length news ≡ length olds
   pub within : bad.component.0 < length olds
-  pub front : (i : ℕ) (d : Instance) → i < bad.component.0 →
+  pub prefix : (i : ℕ) (d : Instance) → i < bad.component.0 →
       WasRestored point stop (slice_index_or states i []) (slice_index_or olds i d).view
       (slice_index_or news i d).view
   pub there : (d : Instance) →

@@ -41,14 +41,14 @@ pub record AnswersAll (calls : List Call) (replies : List Reply) (old new : Inst
   pub good : AllGood old.view.fixed.shape (exchanges calls replies)
 
 -- it was asked these calls up to the first whose answer isn't good, and that is why
-pub record StopsBehind (calls : List Call) (why : Why) (old new : Instance) : Type 0 where
-  pub front : List Exchange
+pub record StopsAfter (calls : List Call) (why : Why) (old new : Instance) : Type 0 where
+  pub prefix : List Exchange
   pub last : Exchange
   pub left : List Call
-  pub calls_are : calls ≡ calls_in (front ++ last ∷ []) ++ left
-  pub good : AllGood old.view.fixed.shape front
+  pub calls_are : calls ≡ calls_in (prefix ++ last ∷ []) ++ left
+  pub good : AllGood old.view.fixed.shape prefix
   pub bad : IsWhy old.view.fixed.shape why last
-  pub has : Has old (front ++ last ∷ []) new
+  pub has : Has old (prefix ++ last ∷ []) new
 
 -- ---- several instances, by the numbers of their components
 
@@ -58,15 +58,15 @@ pub record Sent : Type 0 where
   pub exchange : Exchange
 
 -- a call of one of them
-pub record Asking : Type 0 where
+pub record ComponentCall : Type 0 where
   pub component : ℕ
   pub call : Call
 
-abbrev pub asking_of : Sent → Asking
-asking_of s = record { component = s.component; call = s.exchange.call }
+abbrev pub component_call : Sent → ComponentCall
+component_call s = record { component = s.component; call = s.exchange.call }
 
-abbrev pub askings : List Sent → List Asking
-askings log = map asking_of log
+abbrev pub component_calls : List Sent → List ComponentCall
+component_calls log = map component_call log
 
 -- the exchanges with one of them
 abbrev pub part : ℕ → List Sent → List Exchange

@@ -99,19 +99,19 @@ IsEnding call = ⊥
 
 -- among these talks a call is one of the closing: one that ends its instance, or a Free before such ones alone, where the saved state hasn't served, and the last DoSteps of all weren't good with one end or its own talk has no DoStep after its last Save. It comes after the first part of its talk, with an instance of this shape, and before the rest. All other calls are the run's
 abbrev pub IsOfClosing : List Talk → Shape → List Exchange → Call → List Exchange → Type 0
-IsOfClosing talks shape front C.Free rest =
-    All (λ (e : Exchange). IsEnding e.call) rest × (has_served shape false false front ≡ false) ×
-    ((AgreeAtLast talks → ⊥) ⊎ (has_stepped false front ≡ false))
-IsOfClosing talks shape front call rest = IsEnding call
+IsOfClosing talks shape prefix C.Free rest =
+    All (λ (e : Exchange). IsEnding e.call) rest × (has_served shape false false prefix ≡ false) ×
+    ((AgreeAtLast talks → ⊥) ⊎ (has_stepped false prefix ≡ false))
+IsOfClosing talks shape prefix call rest = IsEnding call
 
 -- ---- whose a Free is, by its place
 
 -- each call of the first part of a talk is the run's by the talks of all, and each of the second the closing's
 pub record IsParted (talks : List Talk) (shape : Shape) (run closing : List Exchange) : Type 0 where
-  pub of_run : (front rest : List Exchange) (e : Exchange) → run ≡ front ++ e ∷ rest →
-      IsOfClosing talks shape front e.call (rest ++ closing) → ⊥
-  pub of_closing : (front rest : List Exchange) (e : Exchange) → closing ≡ front ++ e ∷ rest →
-      IsOfClosing talks shape (run ++ front) e.call rest
+  pub of_run : (prefix rest : List Exchange) (e : Exchange) → run ≡ prefix ++ e ∷ rest →
+      IsOfClosing talks shape prefix e.call (rest ++ closing) → ⊥
+  pub of_closing : (prefix rest : List Exchange) (e : Exchange) → closing ≡ prefix ++ e ∷ rest →
+      IsOfClosing talks shape (run ++ prefix) e.call rest
 
 -- the answer to a Free keeps the state: the talk ends with it
 pub record IsGivenUp (e : Exchange) : Type 0 where
@@ -123,8 +123,8 @@ pub record LeavesState (talks : List Talk) (shape : Shape) (run : List Exchange)
   pub held : saved_after shape false run ≡ true →
       (has_served shape false false run ≡ false) ×
       ((AgreeAtLast talks → ⊥) ⊎ (has_stepped false run ≡ false))
-  pub freed : (front : List Exchange) (e : Exchange) → run ≡ front ++ e ∷ [] → e.call ≡ C.Free →
-      (has_served shape false false front ≡ true) ⊎
-      (AgreeAtLast talks × (has_stepped false front ≡ true))
-  pub last : (front rest : List Exchange) (e : Exchange) → run ≡ front ++ e ∷ rest →
+  pub freed : (prefix : List Exchange) (e : Exchange) → run ≡ prefix ++ e ∷ [] → e.call ≡ C.Free →
+      (has_served shape false false prefix ≡ true) ⊎
+      (AgreeAtLast talks × (has_stepped false prefix ≡ true))
+  pub last : (prefix rest : List Exchange) (e : Exchange) → run ≡ prefix ++ e ∷ rest →
       IsGivenUp e → rest ≡ []

@@ -7,7 +7,7 @@ use Rattle.fmu_peer.specs.CloseAll.{Instance}
 use Rattle.fmu_peer.specs.Talk.{IsGood}
 use Rattle.system_model.specs.declared.system.Component.{Component}
 use Rattle.system_model.specs.declared.system.System.{System}
-use Rattle.slot_calls.specs.Log.{Sent, Asking, Told, askings}
+use Rattle.slot_calls.specs.Log.{Sent, ComponentCall, Told, component_calls}
 use Rattle.slot_calls.specs.declared.bad_answer.BadAnswer.{BadAnswer}
 
 abbrev pub shapes : List Instance → List Shape
@@ -24,58 +24,61 @@ abbrev pub IsGoodOf : List Shape → Sent → Type 0
 IsGoodOf shapes s = (d : Shape) → IsGood (slice_index_or shapes s.component d) s.exchange
 
 -- the last answer isn't good, and those before it are
-pub record IsFirst (shapes : List Shape) (bad : BadAnswer) (front : List Sent)
+pub record IsFirst (shapes : List Shape) (bad : BadAnswer) (prefix : List Sent)
     (last : Sent) : Type 0 where
-  pub good : All (IsGoodOf shapes) front
+  pub good : All (IsGoodOf shapes) prefix
   pub component : last.component ≡ bad.component.0
   pub why : (d : Shape) → IsWhy (slice_index_or shapes last.component d) bad.why last.exchange
 
 -- the calls were sent, and each answer is good
-pub record IsAnswered (shapes : List Shape) (calls : List Asking) (log : List Sent) : Type 0 where
-  pub calls_are : askings log ≡ calls
-  pub good : All (IsGoodOf shapes) log
+pub record IsAnswered (shapes : List Shape) (calls : List ComponentCall) (log : List Sent) : Type 0
+  where
+    pub calls_are : component_calls log ≡ calls
+    pub good : All (IsGoodOf shapes) log
 
 -- the calls were sent up to the first whose answer isn't good
-pub record StopsAt (shapes : List Shape) (calls : List Asking) (bad : BadAnswer)
+pub record StopsAt (shapes : List Shape) (calls : List ComponentCall) (bad : BadAnswer)
     (log : List Sent) : Type 0 where
-  pub front : List Sent
+  pub prefix : List Sent
   pub last : Sent
-  pub left : List Asking
-  pub log_is : log ≡ front ++ last ∷ []
-  pub calls_are : calls ≡ askings log ++ left
-  pub first : IsFirst shapes bad front last
+  pub left : List ComponentCall
+  pub log_is : log ≡ prefix ++ last ∷ []
+  pub calls_are : calls ≡ component_calls log ++ left
+  pub first : IsFirst shapes bad prefix last
 
 -- all of the calls were sent, whatever was answered, and this answer is the first that isn't good
-pub record FailsIn (shapes : List Shape) (calls : List Asking) (bad : BadAnswer)
+pub record FailsIn (shapes : List Shape) (calls : List ComponentCall) (bad : BadAnswer)
     (log : List Sent) : Type 0 where
-  pub front : List Sent
+  pub prefix : List Sent
   pub last : Sent
   pub back : List Sent
-  pub log_is : log ≡ front ++ last ∷ back
-  pub calls_are : askings log ≡ calls
-  pub first : IsFirst shapes bad front last
+  pub log_is : log ≡ prefix ++ last ∷ back
+  pub calls_are : component_calls log ≡ calls
+  pub first : IsFirst shapes bad prefix last
 
 -- ---- stages and rounds
 
 -- what calls that stop at the first bad answer give: a value that the log tells, or that answer
-abbrev pub StageSays : {T : Type 0} → List Shape → List Asking → (List Sent → T) → List Sent →
+abbrev pub StageSays : {T : Type 0} → List Shape → List ComponentCall → (List Sent → T) →
+    List Sent →
     Result T BadAnswer → Type 0
 StageSays shapes calls value log (Ok x) = IsAnswered shapes calls log × (x ≡ value log)
 StageSays shapes calls value log (Err bad) = StopsAt shapes calls bad log
 
-pub record Stage {T : Type 0} (calls : List Asking) (value : List Sent → T)
+pub record Stage {T : Type 0} (calls : List ComponentCall) (value : List Sent → T)
     (olds news : List Instance) (result : Result T BadAnswer) : Type 0 where
   pub log : List Sent
   pub told : Told log olds news
   pub says : StageSays (shapes olds) calls value log result
 
 -- the same of calls that are all sent
-abbrev pub RoundSays : {T : Type 0} → List Shape → List Asking → (List Sent → T) → List Sent →
+abbrev pub RoundSays : {T : Type 0} → List Shape → List ComponentCall → (List Sent → T) →
+    List Sent →
     Result T BadAnswer → Type 0
 RoundSays shapes calls value log (Ok x) = IsAnswered shapes calls log × (x ≡ value log)
 RoundSays shapes calls value log (Err bad) = FailsIn shapes calls bad log
 
-pub record Round {T : Type 0} (calls : List Asking) (value : List Sent → T)
+pub record Round {T : Type 0} (calls : List ComponentCall) (value : List Sent → T)
     (olds news : List Instance) (result : Result T BadAnswer) : Type 0 where
   pub log : List Sent
   pub told : Told log olds news
@@ -88,14 +91,14 @@ nothing log = tt
 -- ---- one call to each, or to some
 
 -- from the i-th component on, to those that pass the test, by their shapes or what else is known of them
-abbrev pub to_those_from : {A : Type 0} → ℕ → (A → Bool) → (A → Call) → List A → List Asking
+abbrev pub to_those_from : {A : Type 0} → ℕ → (A → Bool) → (A → Call) → List A → List ComponentCall
 to_those_from i test call [] = []
 to_those_from i test call (x ∷ xs) =
     if test x then record { component = i; call = call x } ∷ to_those_from (i + 1) test call xs
     else to_those_from (i + 1) test call xs
 
 -- in their order, to those that pass the test, the call that each says
-abbrev pub to_those : {A : Type 0} → (A → Bool) → (A → Call) → List A → List Asking
+abbrev pub to_those : {A : Type 0} → (A → Bool) → (A → Call) → List A → List ComponentCall
 to_those test call xs = to_those_from 0 test call xs
 
 abbrev pub everyone : Shape → Bool
@@ -106,5 +109,5 @@ abbrev pub has_events : Shape → Bool
 has_events shape = shape.has_event_mode
 
 -- in their order, the call that each shape says
-abbrev pub to_each : (Shape → Call) → List Shape → List Asking
+abbrev pub to_each : (Shape → Call) → List Shape → List ComponentCall
 to_each call ss = to_those everyone call ss

@@ -1,10 +1,10 @@
 ghost use Rattle.std.specs.Prelude.{◌≡◌, OnOk, IfErr, IsTrue, length};
 ghost use Rattle.fmi_calls.specs.Permission.{Permitted};
 ghost use Rattle.fmu_peer.specs.CloseAll.{instance_in, peer_in};
-ghost use Rattle.fmu_peer.specs.Many.{AnsweredAll, AreOfOneSort, FailedBehind, MayAskAll};
+ghost use Rattle.fmu_peer.specs.Many.{AnsweredAll, AreOfOneSort, FailedAfter, MayAskAll};
 ghost use Rattle.run_model.specs.Equations.{value_in};
 ghost use Rattle.slot_calls.specs.Carried.{IsWide, reply_in, with_some};
-ghost use Rattle.slot_calls.specs.Log.{AnswersAll, One, StopsBehind};
+ghost use Rattle.slot_calls.specs.Log.{AnswersAll, One, StopsAfter};
 ghost use Rattle.slot_calls.specs.Slots.{Called, IsLive, LiveSlot, Moves, keeps_mode, reads_or_sets};
 
 use crate::advancing::is_fatal;
@@ -43,7 +43,7 @@ pub fn send_many<L: Peer>(
     ensures live { OnOk result (LiveSlot L.view slot.new) }
     ensures all { OnOk result (AnswersAll calls.now replies.new (instance_in L.view slot.old)
         (instance_in L.view slot.new)) }
-    ensures stops { IfErr result (λ why. StopsBehind calls.now why (instance_in L.view slot.old)
+    ensures stops { IfErr result (λ why. StopsAfter calls.now why (instance_in L.view slot.old)
         (instance_in L.view slot.new)) }
 {
     let answer = many_held(&mut slot.held, calls, replies);
@@ -61,7 +61,7 @@ fn many_held<L: Peer>(held: &mut Held<L>, calls: &[Call], replies: &mut [Reply])
     ensures live { OnOk result (IsLive L.view held.new) }
     ensures all { OnOk result (AnsweredAll (L.view (peer_in held.old)) calls.now replies.new
         (L.view (peer_in held.new))) }
-    ensures stops { IfErr result (λ why. FailedBehind (L.view (peer_in held.old)) calls.now why
+    ensures stops { IfErr result (λ why. FailedAfter (L.view (peer_in held.old)) calls.now why
         (L.view (peer_in held.new))) }
 {
     match held {
@@ -87,7 +87,7 @@ fn many_to<L: Peer, M: Mode>(
         (L.view fmu.old.peer).phase.state) }
     ensures all { OnOk result (AnsweredAll (L.view fmu.old.peer) calls.now replies.new
         (L.view fmu.new.peer)) }
-    ensures stops { IfErr result (λ why. FailedBehind (L.view fmu.old.peer) calls.now why
+    ensures stops { IfErr result (λ why. FailedAfter (L.view fmu.old.peer) calls.now why
         (L.view fmu.new.peer)) }
 {
     match fmu.many(calls, replies) {

@@ -9,9 +9,9 @@ use Rattle.ssd_tree.specs.Parts.{IsFullName, InOutermost, InInner}
 use Rattle.ssd_tree.proofs.ElementLemmas.{holder_cases}
 
 -- the full name of an element is that of an outer one with so many bytes after it
-pub record IsNameBehind (t : List Node) (k outer behind : ℕ) : Type 0 where
-  pub grows : (above : List ℕ) → IsFullName t outer above → (name : List ℕ) × IsFullName t k name × (length name ≡ length above + behind)
-  pub begins : (name : List ℕ) → IsFullName t k name → (above : List ℕ) × IsFullName t outer above × (length name ≡ length above + behind)
+pub record IsNameAfter (t : List Node) (k outer after : ℕ) : Type 0 where
+  pub grows : (above : List ℕ) → IsFullName t outer above → (name : List ℕ) × IsFullName t k name × (length name ≡ length above + after)
+  pub begins : (name : List ℕ) → IsFullName t k name → (above : List ℕ) × IsFullName t outer above × (length name ≡ length above + after)
 
 full_held : (t : List Node) (k : ℕ) (name : List ℕ) → IsFullName t k name → (outer : ℕ) × (holder t k (codes "Elements") ≡ Some outer)
 full_held t k name (InOutermost _ outer _ up root named) = (outer, up)
@@ -32,9 +32,9 @@ name_inside t k system own name up named inside (InInner _ system' outer above o
     let long = length-append above (46 ∷ own') in
     (above, subst (λ (z : ℕ). IsFullName t z above) same is, omega (arith, last, long))
 
-pub name_more : (t : List Node) (k current outer behind more : ℕ) (own : List ℕ) → holder t current (codes "Elements") ≡ Some outer → attribute t current (codes "name") ≡ Some own → (parent t outer ≡ Some 0 → ⊥) → more ≡ (length own + 1) + behind → IsNameBehind t k current behind
-    → IsNameBehind t k outer more
-name_more t k current outer behind more own up named inside e b = record {
+pub name_more : (t : List Node) (k current outer after more : ℕ) (own : List ℕ) → holder t current (codes "Elements") ≡ Some outer → attribute t current (codes "name") ≡ Some own → (parent t outer ≡ Some 0 → ⊥) → more ≡ (length own + 1) + after → IsNameAfter t k current after
+    → IsNameAfter t k outer more
+name_more t k current outer after more own up named inside e b = record {
   grows = λ above is.
       let held = full_held t outer above is in
       let rest = b.grows (above ++ 46 ∷ own) (InInner current outer held.0 above own up held.1 is named) in
@@ -63,8 +63,8 @@ module _ (t : List Node) (top : (p : ℕ) → parent t 0 ≡ Some p → ⊥) whe
   name_last k outer own name up named root (InInner _ system outer' above own' up' inner is named') =
       absurd (in_root_alone outer outer' root (subst (λ (z : ℕ). holder t z (codes "Elements") ≡ Some outer') (same_Some system outer (sym up' ∙ up)) inner))
 
-  pub name_ended : (k current outer behind n : ℕ) (own : List ℕ) → holder t current (codes "Elements") ≡ Some outer → attribute t current (codes "name") ≡ Some own → parent t outer ≡ Some 0 → n ≡ length own + behind → IsNameBehind t k current behind → HasNameLength t k n
-  name_ended k current outer behind n own up named root e b =
+  pub name_ended : (k current outer after n : ℕ) (own : List ℕ) → holder t current (codes "Elements") ≡ Some outer → attribute t current (codes "name") ≡ Some own → parent t outer ≡ Some 0 → n ≡ length own + after → IsNameAfter t k current after → HasNameLength t k n
+  name_ended k current outer after n own up named root e b =
       let whole = b.grows own (InOutermost current outer own up root named) in record {
         name = whole.0;
         is = whole.1;
@@ -75,14 +75,14 @@ module _ (t : List Node) (top : (p : ℕ) → parent t 0 ≡ Some p → ⊥) whe
             omega (arith, e, last, long);
       }
 
-pub none_held : (t : List Node) (k current behind : ℕ) → holder t current (codes "Elements") ≡ None → IsNameBehind t k current behind → (name : List ℕ) → IsFullName t k name → ⊥
-none_held t k current behind none b name is =
+pub none_held : (t : List Node) (k current after : ℕ) → holder t current (codes "Elements") ≡ None → IsNameAfter t k current after → (name : List ℕ) → IsFullName t k name → ⊥
+none_held t k current after none b name is =
     let here = b.begins name is in
     let held = full_held t current here.0 here.1 in
     none-some held.0 (sym none ∙ held.1)
 
-pub none_named : (t : List Node) (k current behind : ℕ) → attribute t current (codes "name") ≡ None → IsNameBehind t k current behind → (name : List ℕ) → IsFullName t k name → ⊥
-none_named t k current behind none b name is =
+pub none_named : (t : List Node) (k current after : ℕ) → attribute t current (codes "name") ≡ None → IsNameAfter t k current after → (name : List ℕ) → IsFullName t k name → ⊥
+none_named t k current after none b name is =
     let here = b.begins name is in
     let named = full_named t current here.0 here.1 in
     none-some named.0 (sym none ∙ named.1)

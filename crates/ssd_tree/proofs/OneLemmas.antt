@@ -60,9 +60,9 @@ one_name t sound j k n m (InInner _ system above last name up inner is named) (I
     absurd (alone_in_root t system above sound (subst (λ (z : ℕ). parent t z ≡ Some 0) same root') inner)
 one_name t sound j k n m (InInner _ system outer above name up inner is named) (InInner _ system' outer' above' name' up' inner' is' named') e =
     let same : system ≡ system' = same_Some system system' (sym up ∙ ap (λ (z : ℕ). holder t z (codes "Elements")) e ∙ up') in
-    let front : above ≡ above' = one_name t sound system system' above above' is is' same in
+    let beginning : above ≡ above' = one_name t sound system system' above above' is is' same in
     let back : name ≡ name' = same_Some name name' (sym named ∙ ap (λ (z : ℕ). attribute t z (codes "name")) e ∙ named') in
-    ap (λ (z : List ℕ). z ++ 46 ∷ name) front ∙ ap (λ (z : List ℕ). above' ++ 46 ∷ z) back
+    ap (λ (z : List ℕ). z ++ 46 ∷ name) beginning ∙ ap (λ (z : List ℕ). above' ++ 46 ∷ z) back
 
 one_place_of : (nodes : List ℕ) → IsRising nodes → (a b h : Option ℕ) → IsPlaceOf nodes a h → IsPlaceOf nodes b h → a ≡ b
 one_place_of nodes rising None None None p q = refl

@@ -29,15 +29,15 @@ fn name_length(tree: &Tree, node: usize) -> Result<Option<usize>, AllocError>
 {
     let _above = parent(tree, 0);
     let mut current = node;
-    let mut behind = 0;
+    let mut after = 0;
     while let Some(outer) = holder(tree, current, "Elements") {
         let Some(own) = attribute(tree, current, "name") else {
             return Ok(None);
         };
         if is_in_root(tree, outer) {
-            return Ok(Some(sum(own.len(), behind)?));
+            return Ok(Some(sum(own.len(), after)?));
         }
-        behind = sum(sum(own.len(), 1)?, behind)?;
+        after = sum(sum(own.len(), 1)?, after)?;
         current = outer;
     }
     Ok(None)

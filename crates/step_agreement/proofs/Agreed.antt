@@ -71,16 +71,16 @@ stands_on_from t k (s ∷ ss) a b = ap₂ ◌∷◌ (ap (stand_by t s) (part_app
 pub stands_on : (t : ℕ) (ss : List Stand) (a b : List Sent) → stands_by t ss (a ++ b) ≡ stands_by t (stands_by t ss a) b
 stands_on t ss a b = stands_on_from t 0 ss a b
 
-pub all_front : (P : Exchange → Type 0) (es fs : List Exchange) → All P (es ++ fs) → All P es
-all_front P [] fs h = All-nil P
-all_front P (e ∷ es) fs h = All-cons P e es (All-head P e (es ++ fs) h) (all_front P es fs (All-tail P e (es ++ fs) h))
+pub all_prefix : (P : Exchange → Type 0) (es fs : List Exchange) → All P (es ++ fs) → All P es
+all_prefix P [] fs h = All-nil P
+all_prefix P (e ∷ es) fs h = All-cons P e es (All-head P e (es ++ fs) h) (all_prefix P es fs (All-tail P e (es ++ fs) h))
 
 pub all_back : (P : Exchange → Type 0) (es fs : List Exchange) → All P (es ++ fs) → All P fs
 all_back P [] fs h = h
 all_back P (e ∷ es) fs h = all_back P es fs (All-tail P e (es ++ fs) h)
 
-pub ends_front : (t : ℕ) (fmus : List Fmu) (a b : List Sent) → AreEnds t fmus (a ++ b) → AreEnds t fmus a
-ends_front t fmus a b h i f at = all_front (EndsSo t f) (part i a) (part i b) (subst (EndsAs t f) (part_append i a b) (h i f at))
+pub ends_prefix : (t : ℕ) (fmus : List Fmu) (a b : List Sent) → AreEnds t fmus (a ++ b) → AreEnds t fmus a
+ends_prefix t fmus a b h i f at = all_prefix (EndsSo t f) (part i a) (part i b) (subst (EndsAs t f) (part_append i a b) (h i f at))
 
 pub ends_back : (t : ℕ) (fmus : List Fmu) (a b : List Sent) → AreEnds t fmus (a ++ b) → AreEnds t fmus b
 ends_back t fmus a b h i f at = all_back (EndsSo t f) (part i a) (part i b) (subst (EndsAs t f) (part_append i a b) (h i f at))
@@ -133,7 +133,7 @@ module _ (t step : ℕ) (fmus : List Fmu) where
       by (OneAlone one others) = others i f e at un later
 
     -- ---- after the first asking, for the bound b
-    module _ (g q : Fmu → ℕ) (waits : Each (λ (f : Fmu). first f.shape ≡ false → g f ≡ t) fmus) (b : ℕ) (later : t < b) (front : List Sent) (asks : Asks t step everyone (comes_first first) b (map (stand_of g q) fmus) front) (ends : AreEnds t fmus front) where
+    module _ (g q : Fmu → ℕ) (waits : Each (λ (f : Fmu). first f.shape ≡ false → g f ≡ t) fmus) (b : ℕ) (later : t < b) (prefix : List Sent) (asks : Asks t step everyone (comes_first first) b (map (stand_of g q) fmus) prefix) (ends : AreEnds t fmus prefix) where
       abbrev pub first_points : Fmu → ℕ
       first_points f = if first f.shape then f.end b else g f
 
@@ -143,8 +143,8 @@ module _ (t step : ℕ) (fmus : List Fmu) where
       abbrev pub firsts : List Stand
       firsts = map (stand_of first_points first_asks) fmus
 
-      pub firsts_are : stands_by t (map (stand_of g q) fmus) front ≡ firsts
-      firsts_are = all_moved t step everyone (comes_first first) b fmus (stand_of g q) front asks ends later
+      pub firsts_are : stands_by t (map (stand_of g q) fmus) prefix ≡ firsts
+      firsts_are = all_moved t step everyone (comes_first first) b fmus (stand_of g q) prefix asks ends later
 
       -- where one stands then
       pub asked_point : (f : Fmu) → first f.shape ≡ true → first_points f ≡ f.end b
@@ -155,7 +155,7 @@ module _ (t step : ℕ) (fmus : List Fmu) where
 
       end_of_first : (i : ℕ) (f : Fmu) → slice_get fmus i ≡ Some f → (x : Bool) → first f.shape ≡ x → (t < f.end b) × (f.end b ≤ b)
       end_of_first i f at true is =
-          let e = all_ends t step everyone (comes_first first) b fmus (stand_of g q) front asks ends later i f at is in
+          let e = all_ends t step everyone (comes_first first) b fmus (stand_of g q) prefix asks ends later i f at is in
           let l = e.later in let w = e.within in (l, omega (arith, w, later))
       end_of_first i f at false is = let e = whole i f at is b later in (omega (arith, e, later), omega (arith, e))
 
@@ -398,8 +398,8 @@ module _ (t step : ℕ) (fmus : List Fmu) where
 
             -- all come first
             module _ (all : Each (λ (f : Fmu). first f.shape ≡ true) fmus) where
-              one_behind : (f : Fmu) × Holds fmus f × (f.end b ≢ m)
-              one_behind = by (first_points none_there.1 == m) refl where
+              one_after : (f : Fmu) × Holds fmus f × (f.end b ≢ m)
+              one_after = by (first_points none_there.1 == m) refl where
                 by : (x : Bool) → (first_points none_there.1 == m) ≡ x → (f : Fmu) × Holds fmus f × (f.end b ≢ m)
                 by true is = absurd (unequal (next_points none_there.1) m none_there.3 (ap (λ (y : Bool). if not y then none_there.1.end m else first_points none_there.1) is ∙ equal (first_points none_there.1) m is))
                 by false is =
@@ -407,9 +407,9 @@ module _ (t step : ℕ) (fmus : List Fmu) where
 
               below : m < b
               below =
-                  let l = low one_behind.1.0 one_behind.0 one_behind.1.1 in
-                  let w = first_within one_behind.1.0 one_behind.0 one_behind.1.1 in
-                  let n = one_behind.2 in
+                  let l = low one_after.1.0 one_after.0 one_after.1.1 in
+                  let w = first_within one_after.1.0 one_after.0 one_after.1.1 in
+                  let n = one_after.2 in
                   omega (arith, l, w, n)
 
               pub not_bound : met steppers b ≢ b
@@ -455,7 +455,7 @@ module _ (t step : ℕ) (fmus : List Fmu) where
               pub fallen : (c : ℕ) → c ≡ reached t m nexts → c ≡ fallen_bound steppers b
               fallen c is =
                   is ∙ ap (least_or m) seconds_here
-                  ∙ least_of_some second (λ (x : Stepper). x.end m) (is_other b m) m m b steppers some_is rest_is (stepper_of one_behind.0) (one_behind.1.0, at_map stepper_of fmus one_behind.1.0 one_behind.0 one_behind.1.1) (ap not (other_number (one_behind.0.end b) m one_behind.2))
+                  ∙ least_of_some second (λ (x : Stepper). x.end m) (is_other b m) m m b steppers some_is rest_is (stepper_of one_after.0) (one_after.1.0, at_map stepper_of fmus one_after.1.0 one_after.0 one_after.1.1) (ap not (other_number (one_after.0.end b) m one_after.2))
                   ∙ ap (λ (n : ℕ). least_or b (map (λ (x : Stepper). x.end n) (filter (is_other b n) steppers))) m_met
 
               pub c_later : (c : ℕ) → c ≡ reached t m nexts → t < c
@@ -494,59 +494,59 @@ module _ (t step : ℕ) (fmus : List Fmu) where
           m_later g q waits b later log asks' ends m (m_is ∙ ap (reached t b) to),
           there,
         )
-    comes (NextStops b stands log outcome m front back mids asks mids_are m_is apart (IsUnfit i h log_is is) whole) later g q waits from ends =
-        let asks' : Asks t step everyone (comes_first first) b (map (stand_of g q) fmus) front = subst (λ (ss : List Stand). Asks t step everyone (comes_first first) b ss front) from asks in
-        let ends' = ends_front t fmus front back (subst (AreEnds t fmus) whole ends) in
-        let to : mids ≡ firsts g q waits b later front asks' ends' = mids_are ∙ ap (λ (ss : List Stand). stands_by t ss front) from ∙ firsts_are g q waits b later front asks' ends' in
+    comes (NextStops b stands log outcome m prefix back mids asks mids_are m_is apart (IsUnfit i h log_is is) whole) later g q waits from ends =
+        let asks' : Asks t step everyone (comes_first first) b (map (stand_of g q) fmus) prefix = subst (λ (ss : List Stand). Asks t step everyone (comes_first first) b ss prefix) from asks in
+        let ends' = ends_prefix t fmus prefix back (subst (AreEnds t fmus) whole ends) in
+        let to : mids ≡ firsts g q waits b later prefix asks' ends' = mids_are ∙ ap (λ (ss : List Stand). stands_by t ss prefix) from ∙ firsts_are g q waits b later prefix asks' ends' in
         subst (ComesFrom t step b fmus stands log) (sym is)
-        (lacks_again g q waits b later front asks' ends' m (m_is ∙ ap (reached t b) to) i (ap (unfit step (m - t) (ends_elsewhere t b m)) (sym to) ∙ h))
-    comes (NextStops b stands log outcome m front back mids asks mids_are m_is apart (InBack bad fits fails is) whole) later g q waits from ends = subst (ComesFrom t step b fmus stands log) (sym is) tt
-    comes (NextStops b stands log outcome m front back mids asks mids_are m_is apart (InStep bad backs steps fits backed fails log_is is) whole) later g q waits from ends = subst (ComesFrom t step b fmus stands log) (sym is) tt
-    comes (NextMeet b stands log outcome m front back mids asks mids_are m_is apart asks2 there is whole) later g q waits from ends =
-        let asks' : Asks t step everyone (comes_first first) b (map (stand_of g q) fmus) front = subst (λ (ss : List Stand). Asks t step everyone (comes_first first) b ss front) from asks in
+        (lacks_again g q waits b later prefix asks' ends' m (m_is ∙ ap (reached t b) to) i (ap (unfit step (m - t) (ends_elsewhere t b m)) (sym to) ∙ h))
+    comes (NextStops b stands log outcome m prefix back mids asks mids_are m_is apart (InBack bad fits fails is) whole) later g q waits from ends = subst (ComesFrom t step b fmus stands log) (sym is) tt
+    comes (NextStops b stands log outcome m prefix back mids asks mids_are m_is apart (InStep bad backs steps fits backed fails log_is is) whole) later g q waits from ends = subst (ComesFrom t step b fmus stands log) (sym is) tt
+    comes (NextMeet b stands log outcome m prefix back mids asks mids_are m_is apart asks2 there is whole) later g q waits from ends =
+        let asks' : Asks t step everyone (comes_first first) b (map (stand_of g q) fmus) prefix = subst (λ (ss : List Stand). Asks t step everyone (comes_first first) b ss prefix) from asks in
         let both = subst (AreEnds t fmus) whole ends in
-        let ends' = ends_front t fmus front back both in
-        let ends2 = ends_back t fmus front back both in
-        let to : mids ≡ firsts g q waits b later front asks' ends' = mids_are ∙ ap (λ (ss : List Stand). stands_by t ss front) from ∙ firsts_are g q waits b later front asks' ends' in
+        let ends' = ends_prefix t fmus prefix back both in
+        let ends2 = ends_back t fmus prefix back both in
+        let to : mids ≡ firsts g q waits b later prefix asks' ends' = mids_are ∙ ap (λ (ss : List Stand). stands_by t ss prefix) from ∙ firsts_are g q waits b later prefix asks' ends' in
         let m_here = m_is ∙ ap (reached t b) to in
         let asks2' = subst (λ (ss : List Stand). Asks t step (ends_elsewhere t b m) (is_elsewhere m) m ss back) to asks2 in
-        let on : stands_by t mids back ≡ nexts g q waits b later front asks' ends' m m_here back asks2' ends2 = ap (λ (ss : List Stand). stands_by t ss back) to ∙ nexts_are g q waits b later front asks' ends' m m_here back asks2' ends2 in
-        let last : stands_by t stands log ≡ stands_by t mids back = ap (stands_by t stands) whole ∙ stands_on t stands front back ∙ ap (λ (ss : List Stand). stands_by t ss back) (sym mids_are) in
+        let on : stands_by t mids back ≡ nexts g q waits b later prefix asks' ends' m m_here back asks2' ends2 = ap (λ (ss : List Stand). stands_by t ss back) to ∙ nexts_are g q waits b later prefix asks' ends' m m_here back asks2' ends2 in
+        let last : stands_by t stands log ≡ stands_by t mids back = ap (stands_by t stands) whole ∙ stands_on t stands prefix back ∙ ap (λ (ss : List Stand). stands_by t ss back) (sym mids_are) in
         subst (ComesFrom t step b fmus stands log) (sym is) (
           subst (λ (ss : List Stand). Agree steppers t step b (asks_in ss) m) (sym (last ∙ on))
-              (next_agree g q waits b later front asks' ends' m m_here back asks2' ends2 (ap (are_at m) (sym on) ∙ there)),
-          m_later g q waits b later front asks' ends' m m_here,
+              (next_agree g q waits b later prefix asks' ends' m m_here back asks2' ends2 (ap (are_at m) (sym on) ∙ there)),
+          m_later g q waits b later prefix asks' ends' m m_here,
           ap (are_at m) last ∙ there,
         )
-    comes (GoesAnew b stands log outcome m c front back rest mids lasts asks mids_are m_is apart asks2 lasts_are behind c_is more whole) later g q waits from ends =
-        let asks' : Asks t step everyone (comes_first first) b (map (stand_of g q) fmus) front = subst (λ (ss : List Stand). Asks t step everyone (comes_first first) b ss front) from asks in
+    comes (GoesAnew b stands log outcome m c prefix back rest mids lasts asks mids_are m_is apart asks2 lasts_are after c_is more whole) later g q waits from ends =
+        let asks' : Asks t step everyone (comes_first first) b (map (stand_of g q) fmus) prefix = subst (λ (ss : List Stand). Asks t step everyone (comes_first first) b ss prefix) from asks in
         let all = subst (AreEnds t fmus) whole ends in
-        let ends' = ends_front t fmus front (back ++ rest) all in
-        let ends_rest = ends_back t fmus front (back ++ rest) all in
-        let ends2 = ends_front t fmus back rest ends_rest in
-        let to : mids ≡ firsts g q waits b later front asks' ends' = mids_are ∙ ap (λ (ss : List Stand). stands_by t ss front) from ∙ firsts_are g q waits b later front asks' ends' in
+        let ends' = ends_prefix t fmus prefix (back ++ rest) all in
+        let ends_rest = ends_back t fmus prefix (back ++ rest) all in
+        let ends2 = ends_prefix t fmus back rest ends_rest in
+        let to : mids ≡ firsts g q waits b later prefix asks' ends' = mids_are ∙ ap (λ (ss : List Stand). stands_by t ss prefix) from ∙ firsts_are g q waits b later prefix asks' ends' in
         let m_here = m_is ∙ ap (reached t b) to in
         let asks2' = subst (λ (ss : List Stand). Asks t step (ends_elsewhere t b m) (is_elsewhere m) m ss back) to asks2 in
-        let on : lasts ≡ nexts g q waits b later front asks' ends' m m_here back asks2' ends2 = lasts_are ∙ ap (λ (ss : List Stand). stands_by t ss back) to ∙ nexts_are g q waits b later front asks' ends' m m_here back asks2' ends2 in
+        let on : lasts ≡ nexts g q waits b later prefix asks' ends' m m_here back asks2' ends2 = lasts_are ∙ ap (λ (ss : List Stand). stands_by t ss back) to ∙ nexts_are g q waits b later prefix asks' ends' m m_here back asks2' ends2 in
         let last : stands_by t stands log ≡ stands_by t lasts rest =
-        ap (stands_by t stands) whole ∙ stands_on t stands front (back ++ rest) ∙ stands_on t (stands_by t stands front) back rest
+        ap (stands_by t stands) whole ∙ stands_on t stands prefix (back ++ rest) ∙ stands_on t (stands_by t stands prefix) back rest
         ∙ ap (λ (ss : List Stand). stands_by t (stands_by t ss back) rest) (sym mids_are) ∙ ap (λ (ss : List Stand). stands_by t ss rest) (sym lasts_are) in
-        let behind' = ap (are_at m) (sym on) ∙ behind in
+        let after' = ap (are_at m) (sym on) ∙ after in
         let c_here = c_is ∙ ap (reached t m) on in
-        by who g q waits b later front asks' ends' m m_here back asks2' ends2 behind' c c_here lasts rest outcome on (stands_by t stands log) last
+        by who g q waits b later prefix asks' ends' m m_here back asks2' ends2 after' c c_here lasts rest outcome on (stands_by t stands log) last
         (λ l h. comes more l _ _ h on (ends_back t fmus back rest ends_rest)) where
-          by : ComeFirst first t fmus → (g q : Fmu → ℕ) (waits : Each (λ (f : Fmu). first f.shape ≡ false → g f ≡ t) fmus) (b : ℕ) (later : t < b) (front : List Sent) (asks : Asks t step everyone (comes_first first) b (map (stand_of g q) fmus) front) (ends : AreEnds t fmus front)
-              (m : ℕ) (m_is : m ≡ reached t b (firsts g q waits b later front asks ends)) (back : List Sent) (asks2 : Asks t step (ends_elsewhere t b m) (is_elsewhere m) m (firsts g q waits b later front asks ends) back) (ends2 : AreEnds t fmus back)
-              (behind : are_at m (nexts g q waits b later front asks ends m m_is back asks2 ends2) ≡ false) (c : ℕ) (c_is : c ≡ reached t m (nexts g q waits b later front asks ends m m_is back asks2 ends2)) (lasts : List Stand) (rest : List Sent) (outcome : Outcome) →
-              lasts ≡ nexts g q waits b later front asks ends m m_is back asks2 ends2 → (xs : List Stand) → xs ≡ stands_by t lasts rest →
-              (t < c → Each (λ (f : Fmu). first f.shape ≡ false → next_points g q waits b later front asks ends m m_is back asks2 ends2 f ≡ t) fmus → ComesFrom t step c fmus lasts rest outcome) → ResultAt t step b fmus xs outcome
-          by (OneAlone one others) g q waits b later front asks ends m m_is back asks2 ends2 behind c c_is lasts rest outcome on xs same go =
-              absurd (never g q waits b later front asks ends m m_is back asks2 ends2 behind one)
-          by (AllOfThem all) g q waits b later front asks ends m m_is back asks2 ends2 behind c c_is lasts rest outcome on xs same go =
-              anew outcome b c xs (stands_by t lasts rest) same (fallen g q waits b later front asks ends m m_is back asks2 ends2 behind all c c_is)
-              (may_first g q waits b later front asks ends) (not_bound g q waits b later front asks ends m m_is back asks2 ends2 behind all) (may_again g q waits b later front asks ends m m_is back asks2 ends2)
-              (others_apart g q waits b later front asks ends m m_is back asks2 ends2 behind all)
-              (go (c_later g q waits b later front asks ends m m_is back asks2 ends2 behind all c c_is) (λ i f at un. absurd (let h : true ≡ false = sym (all i f at) ∙ un in cc)))
+          by : ComeFirst first t fmus → (g q : Fmu → ℕ) (waits : Each (λ (f : Fmu). first f.shape ≡ false → g f ≡ t) fmus) (b : ℕ) (later : t < b) (prefix : List Sent) (asks : Asks t step everyone (comes_first first) b (map (stand_of g q) fmus) prefix) (ends : AreEnds t fmus prefix)
+              (m : ℕ) (m_is : m ≡ reached t b (firsts g q waits b later prefix asks ends)) (back : List Sent) (asks2 : Asks t step (ends_elsewhere t b m) (is_elsewhere m) m (firsts g q waits b later prefix asks ends) back) (ends2 : AreEnds t fmus back)
+              (after : are_at m (nexts g q waits b later prefix asks ends m m_is back asks2 ends2) ≡ false) (c : ℕ) (c_is : c ≡ reached t m (nexts g q waits b later prefix asks ends m m_is back asks2 ends2)) (lasts : List Stand) (rest : List Sent) (outcome : Outcome) →
+              lasts ≡ nexts g q waits b later prefix asks ends m m_is back asks2 ends2 → (xs : List Stand) → xs ≡ stands_by t lasts rest →
+              (t < c → Each (λ (f : Fmu). first f.shape ≡ false → next_points g q waits b later prefix asks ends m m_is back asks2 ends2 f ≡ t) fmus → ComesFrom t step c fmus lasts rest outcome) → ResultAt t step b fmus xs outcome
+          by (OneAlone one others) g q waits b later prefix asks ends m m_is back asks2 ends2 after c c_is lasts rest outcome on xs same go =
+              absurd (never g q waits b later prefix asks ends m m_is back asks2 ends2 after one)
+          by (AllOfThem all) g q waits b later prefix asks ends m m_is back asks2 ends2 after c c_is lasts rest outcome on xs same go =
+              anew outcome b c xs (stands_by t lasts rest) same (fallen g q waits b later prefix asks ends m m_is back asks2 ends2 after all c c_is)
+              (may_first g q waits b later prefix asks ends) (not_bound g q waits b later prefix asks ends m m_is back asks2 ends2 after all) (may_again g q waits b later prefix asks ends m m_is back asks2 ends2)
+              (others_apart g q waits b later prefix asks ends m m_is back asks2 ends2 after all)
+              (go (c_later g q waits b later prefix asks ends m m_is back asks2 ends2 after all c c_is) (λ i f at un. absurd (let h : true ≡ false = sym (all i f at) ∙ un in cc)))
 
 pub agrees_by_log : AgreesByLog
 agrees_by_log first t step b fmus log outcome later who agrees ends = comes t step fmus first who agrees later (λ f. t) (λ f. t) (λ i f at un. refl) refl ends

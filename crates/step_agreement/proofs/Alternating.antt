@@ -80,22 +80,22 @@ module _ (t step : ℕ) (first : Shape → Bool) (i : ℕ) where
   alternates _ _ _ _ (FirstStops b stands log outcome stops) s at = stops_on everyone (comes_first first) b stands log outcome stops s at
   alternates _ _ _ _ (FirstMeet b stands log outcome m asks m_is there is) s at =
       subst (Alternates t (is_off t s)) (append-nil (calls_in (part i log))) (asks_on everyone (comes_first first) b stands log asks s at [] tt)
-  alternates _ _ _ _ (NextStops b stands log outcome m front back mids asks mids_is m_is apart stops log_is) s at =
-      let y_at = ap (λ (ss : List Stand). slice_get ss i) mids_is ∙ stand_here t stands front i s at in
-      subst (Alternates t (is_off t s)) (sym (ap (λ (l : List Sent). calls_in (part i l)) log_is ∙ split_calls i front back))
-      (asks_on everyone (comes_first first) b stands front asks s at (calls_in (part i back)) (stops_on (ends_elsewhere t b m) (is_elsewhere m) m mids back outcome stops (stand_by t s (part i front)) y_at))
-  alternates _ _ _ _ (NextMeet b stands log outcome m front back mids asks mids_is m_is apart next there is log_is) s at =
-      let y = stand_by t s (part i front) in
-      let y_at = ap (λ (ss : List Stand). slice_get ss i) mids_is ∙ stand_here t stands front i s at in
-      subst (Alternates t (is_off t s)) (sym (ap (λ (l : List Sent). calls_in (part i l)) log_is ∙ split_calls i front back))
-      (asks_on everyone (comes_first first) b stands front asks s at (calls_in (part i back))
+  alternates _ _ _ _ (NextStops b stands log outcome m prefix back mids asks mids_is m_is apart stops log_is) s at =
+      let y_at = ap (λ (ss : List Stand). slice_get ss i) mids_is ∙ stand_here t stands prefix i s at in
+      subst (Alternates t (is_off t s)) (sym (ap (λ (l : List Sent). calls_in (part i l)) log_is ∙ split_calls i prefix back))
+      (asks_on everyone (comes_first first) b stands prefix asks s at (calls_in (part i back)) (stops_on (ends_elsewhere t b m) (is_elsewhere m) m mids back outcome stops (stand_by t s (part i prefix)) y_at))
+  alternates _ _ _ _ (NextMeet b stands log outcome m prefix back mids asks mids_is m_is apart next there is log_is) s at =
+      let y = stand_by t s (part i prefix) in
+      let y_at = ap (λ (ss : List Stand). slice_get ss i) mids_is ∙ stand_here t stands prefix i s at in
+      subst (Alternates t (is_off t s)) (sym (ap (λ (l : List Sent). calls_in (part i l)) log_is ∙ split_calls i prefix back))
+      (asks_on everyone (comes_first first) b stands prefix asks s at (calls_in (part i back))
       (subst (Alternates t (is_off t y)) (append-nil (calls_in (part i back))) (asks_on (ends_elsewhere t b m) (is_elsewhere m) m mids back next y y_at [] tt)))
-  alternates _ _ _ _ (GoesAnew b stands log outcome m c front back rest mids ends asks mids_is m_is apart next ends_is behind c_is more log_is) s at =
-      let y = stand_by t s (part i front) in
-      let y_at = ap (λ (ss : List Stand). slice_get ss i) mids_is ∙ stand_here t stands front i s at in
+  alternates _ _ _ _ (GoesAnew b stands log outcome m c prefix back rest mids ends asks mids_is m_is apart next ends_is beyond c_is more log_is) s at =
+      let y = stand_by t s (part i prefix) in
+      let y_at = ap (λ (ss : List Stand). slice_get ss i) mids_is ∙ stand_here t stands prefix i s at in
       let z_at = ap (λ (ss : List Stand). slice_get ss i) ends_is ∙ stand_here t mids back i y y_at in
-      subst (Alternates t (is_off t s)) (sym (ap (λ (l : List Sent). calls_in (part i l)) log_is ∙ split_calls i front (back ++ rest)))
-      (asks_on everyone (comes_first first) b stands front asks s at (calls_in (part i (back ++ rest)))
+      subst (Alternates t (is_off t s)) (sym (ap (λ (l : List Sent). calls_in (part i l)) log_is ∙ split_calls i prefix (back ++ rest)))
+      (asks_on everyone (comes_first first) b stands prefix asks s at (calls_in (part i (back ++ rest)))
       (subst (Alternates t (is_off t y)) (sym (split_calls i back rest)) (asks_on (ends_elsewhere t b m) (is_elsewhere m) m mids back next y y_at (calls_in (part i rest)) (alternates c ends rest outcome more (stand_by t y (part i back)) z_at))))
 
 -- from t on the first is a step

@@ -68,8 +68,8 @@ module _ (fmus : List Stepper) (t step : ℕ) where
             let w = fallen_within fmus t step b later well may apart again (not_all (λ (f : Stepper). f.end (met fmus b) == met fmus b) (others fmus b) some) in
             let low = w.0 in let high = w.1 in
             let on = go low (later_well fmus t step b later well may apart again never) in
-            let behind = on.0 in let inside = on.1 in
-            (behind, omega (arith, inside, high))
+            let after = on.0 in let inside = on.1 in
+            (after, omega (arith, inside, high))
 
   -- ---- the asks that are kept
 

@@ -18,16 +18,16 @@ use Rattle.run_model.specs.Run.{IsFmu, Run, each_from}
 use Rattle.run_model.specs.Steps.{AskedAgain, AskedFirst, AskedLater, FixedStep, IsAsked, MayAsk, MayAskAgain, Stepper, is_other, met}
 use Rattle.run_model.specs.Stepping.{asked_first, end_in, ending, is_asked_first, step_to}
 use Rattle.run_model.proofs.CallerLemmas.{each-get}
-use Rattle.slot_calls.specs.Log.{Sent, askings, part}
+use Rattle.slot_calls.specs.Log.{Sent, component_calls, part}
 use Rattle.slot_calls.specs.Replies.{AreReplies, RepliesBy, state_by}
 use Rattle.slot_calls.specs.Stage.{IsAnswered, IsFirst, IsGoodOf, shapes_of}
 use Rattle.slot_calls.specs.declared.bad_answer.BadAnswer.{BadAnswer}
-use Rattle.slot_calls.proofs.CallerLemmas.{part_append, replies_front, same, state_by_append, takes}
+use Rattle.slot_calls.proofs.CallerLemmas.{part_append, replies_prefix, same, state_by_append, takes}
 use Rattle.step_agreement.specs.Agreement.{Agrees, Asks, Fails, InBack, InStep, IsUnfit, Stand, Stops, are_at, comes_first, ends_elsewhere, everyone, is_away, is_elsewhere, putting_back, reached, shapes_in, stand_by, stands_by, stepping, unfit}
 use Rattle.step_agreement.specs.Ends.{AllOfThem, AreEnds, ComeFirst, EndsAs, Fmu, OneAlone, standing, stepper_of}
 use Rattle.step_agreement.specs.OverMachines.{IgnoreSlots, IsSavedOne, RestoresSaved, asks_last, fmus_of, saved_states, slot_in, steppers_of, with_slot}
 use Rattle.step_agreement.proofs.Agreed as A
-use Rattle.step_agreement.proofs.Agreed.{all_back, all_front, at_map, ends_back, ends_front}
+use Rattle.step_agreement.proofs.Agreed.{all_back, all_prefix, at_map, ends_back, ends_prefix}
 use Rattle.step_agreement.proofs.Lists.{Each}
 use Rattle.step_agreement.proofs.Machines.{NotBefore, asks_later, each_here, known_end, leads_asked, leads_none, leads_then, reached_later, who_first}
 use Rattle.step_agreement.proofs.Moves.{IsEnd}
@@ -64,18 +64,18 @@ module _ (m : Machine) (ignores : IgnoresSlot m) (before : MachineState) (slot :
   track _ _ _ _ (Begins b stands log next none is) later low s at shape_is state asks here saved replies = leads_none m ignores before slot t f f_is step first i s state asks log none here
   track _ _ _ _ (Others b stands log next asked apart is) later low s at shape_is state asks here saved replies =
       leads_asked m ignores before slot t f f_is step first i everyone (comes_first first) b stands log asked later s at shape_is state asks here saved replies
-  track _ _ _ _ (Anew b stands log next front back rest asked apart asked2 behind more log_is) later low s at shape_is state asks here saved replies =
-      let p = reached t b (stands_by t stands front) in
-      let low_mids = asks_later t step everyone (comes_first first) b stands front asked low in
-      let p_later = reached_later t b (stands_by t stands front) later low_mids in
-      let low_lasts = asks_later t step (ends_elsewhere t b p) (is_elsewhere p) p (stands_by t stands front) back asked2 low_mids in
-      let c_later = reached_later t p (stands_by t (stands_by t stands front) back) p_later low_lasts in
+  track _ _ _ _ (Anew b stands log next prefix back rest asked apart asked2 beyond more log_is) later low s at shape_is state asks here saved replies =
+      let p = reached t b (stands_by t stands prefix) in
+      let low_mids = asks_later t step everyone (comes_first first) b stands prefix asked low in
+      let p_later = reached_later t b (stands_by t stands prefix) later low_mids in
+      let low_lasts = asks_later t step (ends_elsewhere t b p) (is_elsewhere p) p (stands_by t stands prefix) back asked2 low_mids in
+      let c_later = reached_later t p (stands_by t (stands_by t stands prefix) back) p_later low_lasts in
       subst (λ (l : List Sent). Leads s state asks (part i l)) (sym log_is)
-      (leads_then m ignores before slot t f f_is step first i everyone (comes_first first) b stands front (back ++ rest) asked later s at shape_is state asks here
+      (leads_then m ignores before slot t f f_is step first i everyone (comes_first first) b stands prefix (back ++ rest) asked later s at shape_is state asks here
       (subst (λ (l : List Sent). All Saved (part i l)) log_is saved) (subst (λ (l : List Sent). RepliesBy m state (part i l)) log_is replies)
       (λ y z a y_at y_shape y_here y_saved y_replies.
-      leads_then m ignores before slot t f f_is step first i (ends_elsewhere t b p) (is_elsewhere p) p (stands_by t stands front) back rest asked2 p_later y y_at y_shape z a y_here y_saved y_replies
-      (λ u v d u_at u_shape u_here u_saved u_replies. track (reached t p (stands_by t (stands_by t stands front) back)) (stands_by t (stands_by t stands front) back) rest next more c_later low_lasts u u_at u_shape v d u_here u_saved u_replies)))
+      leads_then m ignores before slot t f f_is step first i (ends_elsewhere t b p) (is_elsewhere p) p (stands_by t stands prefix) back rest asked2 p_later y y_at y_shape z a y_here y_saved y_replies
+      (λ u v d u_at u_shape u_here u_saved u_replies. track (reached t p (stands_by t (stands_by t stands prefix) back)) (stands_by t (stands_by t stands prefix) back) rest next more c_later low_lasts u u_at u_shape v d u_here u_saved u_replies)))
 
 -- ---- what they are asked
 
@@ -105,39 +105,39 @@ module _ (t step : ℕ) (fmus : List Fmu) (first : Shape → Bool) (who : ComeFi
   abbrev Waits : (Fmu → ℕ) → Type 0
   Waits g = Each (λ (f : Fmu). first f.shape ≡ false → g f ≡ t) fmus
 
-  module _ (g q : Fmu → ℕ) (waits : Each (λ (f : Fmu). first f.shape ≡ false → g f ≡ t) fmus) (b : ℕ) (later : t < b) (front : List Sent) (asks : Asks t step everyone (comes_first first) b (map (stand_of g q) fmus) front) (ends : AreEnds t fmus front) where
+  module _ (g q : Fmu → ℕ) (waits : Each (λ (f : Fmu). first f.shape ≡ false → g f ≡ t) fmus) (b : ℕ) (later : t < b) (prefix : List Sent) (asks : Asks t step everyone (comes_first first) b (map (stand_of g q) fmus) prefix) (ends : AreEnds t fmus prefix) where
     abbrev first_points : Fmu → ℕ
-    first_points = A.first_points t step fmus first who g q waits b later front asks ends
+    first_points = A.first_points t step fmus first who g q waits b later prefix asks ends
 
     abbrev first_asks : Fmu → ℕ
-    first_asks = A.first_asks t step fmus first who g q waits b later front asks ends
+    first_asks = A.first_asks t step fmus first who g q waits b later prefix asks ends
 
     abbrev firsts : List Stand
-    firsts = A.firsts t step fmus first who g q waits b later front asks ends
+    firsts = A.firsts t step fmus first who g q waits b later prefix asks ends
 
-    firsts_are : stands_by t (map (stand_of g q) fmus) front ≡ firsts
-    firsts_are = A.firsts_are t step fmus first who g q waits b later front asks ends
+    firsts_are : stands_by t (map (stand_of g q) fmus) prefix ≡ firsts
+    firsts_are = A.firsts_are t step fmus first who g q waits b later prefix asks ends
 
     may_first : MayAsk steppers t step b
-    may_first = A.may_first t step fmus first who g q waits b later front asks ends
+    may_first = A.may_first t step fmus first who g q waits b later prefix asks ends
 
     point_asked : (f : Fmu) → first f.shape ≡ true → first_points f ≡ f.end b
-    point_asked f h = A.asked_point t step fmus first who g q waits b later front asks ends f h
+    point_asked f h = A.asked_point t step fmus first who g q waits b later prefix asks ends f h
 
-    module _ (m : ℕ) (m_is : m ≡ reached t b (A.firsts t step fmus first who g q waits b later front asks ends)) where
+    module _ (m : ℕ) (m_is : m ≡ reached t b (A.firsts t step fmus first who g q waits b later prefix asks ends)) where
       m_met : m ≡ met steppers b
-      m_met = A.m_met t step fmus first who g q waits b later front asks ends m m_is
+      m_met = A.m_met t step fmus first who g q waits b later prefix asks ends m m_is
 
       may_next : unfit step (m - t) (ends_elsewhere t b m) firsts ≡ None → MayAskAgain steppers t step b
       may_next fits = subst (λ (n : ℕ). (i : ℕ) → FixedStep steppers (is_other b n) t step i n → ⊥) m_met
           (A.may t step fmus (A.stand_of t step fmus first_points first_asks) (ends_elsewhere t b m) (is_other b m) m
-          (A.same_other t step fmus first who g q waits b later front asks ends m m_is) fits)
+          (A.same_other t step fmus first who g q waits b later prefix asks ends m m_is) fits)
 
       -- one that ends elsewhere is asked again
       asked_again : MayAskAgain steppers t step b → (i : ℕ) (f : Fmu) → slice_get fmus i ≡ Some f → f.end b ≢ m → IsAsked steppers comes t step b i m
       asked_again again i f at ne =
-          let low = A.low t step fmus first who g q waits b later front asks ends m m_is i f at in
-          let within = A.first_within t step fmus first who g q waits b later front asks ends i f at in
+          let low = A.low t step fmus first who g q waits b later prefix asks ends m m_is i f at in
+          let within = A.first_within t step fmus first who g q waits b later prefix asks ends i f at in
           let same = m_met in
           AskedAgain b i m may_first (λ e. ne (omega (arith, low, within, e, same))) again (stepper_of f) (at_map stepper_of fmus i f at) (λ e. ne (e ∙ sym m_met)) m_met
 
@@ -152,36 +152,36 @@ module _ (t step : ℕ) (fmus : List Fmu) (first : Shape → Bool) (who : ComeFi
           waiting false apart = asked_again again i f at (λ e. unequal m b apart (sym e ∙ A.whole t step fmus first who i f at is b later))
 
       -- all begin anew
-      module _ (back : List Sent) (asks2 : Asks t step (ends_elsewhere t b m) (is_elsewhere m) m (A.firsts t step fmus first who g q waits b later front asks ends) back) (ends2 : AreEnds t fmus back) where
+      module _ (back : List Sent) (asks2 : Asks t step (ends_elsewhere t b m) (is_elsewhere m) m (A.firsts t step fmus first who g q waits b later prefix asks ends) back) (ends2 : AreEnds t fmus back) where
         abbrev next_points : Fmu → ℕ
-        next_points = A.next_points t step fmus first who g q waits b later front asks ends m m_is back asks2 ends2
+        next_points = A.next_points t step fmus first who g q waits b later prefix asks ends m m_is back asks2 ends2
 
         abbrev next_asks : Fmu → ℕ
-        next_asks = A.next_asks t step fmus first who g q waits b later front asks ends m m_is back asks2 ends2
+        next_asks = A.next_asks t step fmus first who g q waits b later prefix asks ends m m_is back asks2 ends2
 
         abbrev nexts : List Stand
-        nexts = A.nexts t step fmus first who g q waits b later front asks ends m m_is back asks2 ends2
+        nexts = A.nexts t step fmus first who g q waits b later prefix asks ends m m_is back asks2 ends2
 
         nexts_are : stands_by t firsts back ≡ nexts
-        nexts_are = A.nexts_are t step fmus first who g q waits b later front asks ends m m_is back asks2 ends2
+        nexts_are = A.nexts_are t step fmus first who g q waits b later prefix asks ends m m_is back asks2 ends2
 
         may_again : MayAskAgain steppers t step b
-        may_again = A.may_again t step fmus first who g q waits b later front asks ends m m_is back asks2 ends2
+        may_again = A.may_again t step fmus first who g q waits b later prefix asks ends m m_is back asks2 ends2
 
-        module _ (behind : are_at m (A.nexts t step fmus first who g q waits b later front asks ends m m_is back asks2 ends2) ≡ false) where
+        module _ (beyond : are_at m (A.nexts t step fmus first who g q waits b later prefix asks ends m m_is back asks2 ends2) ≡ false) where
           never : ((i j : ℕ) (f g : Fmu) → slice_get fmus i ≡ Some f → slice_get fmus j ≡ Some g → first f.shape ≡ true → first g.shape ≡ true → i ≡ j) → ⊥
-          never = A.never t step fmus first who g q waits b later front asks ends m m_is back asks2 ends2 behind
+          never = A.never t step fmus first who g q waits b later prefix asks ends m m_is back asks2 ends2 beyond
 
           module _ (all : Each (λ (f : Fmu). first f.shape ≡ true) fmus) where
             later_anew : (c : ℕ) → c ≡ reached t m nexts → t < c
-            later_anew = A.c_later t step fmus first who g q waits b later front asks ends m m_is back asks2 ends2 behind all
+            later_anew = A.c_later t step fmus first who g q waits b later prefix asks ends m m_is back asks2 ends2 beyond all
 
             -- what is asked then is asked on the way from here
             asked_anew : (c : ℕ) → c ≡ reached t m nexts → (i e : ℕ) → IsAsked steppers comes t step c i e → IsAsked steppers comes t step b i e
             asked_anew c c_is i e asked =
-                AskedLater b i e may_first (A.not_bound t step fmus first who g q waits b later front asks ends m m_is back asks2 ends2 behind all) may_again
-                (A.others_apart t step fmus first who g q waits b later front asks ends m m_is back asks2 ends2 behind all)
-                (subst (λ (n : ℕ). IsAsked steppers comes t step n i e) (A.fallen t step fmus first who g q waits b later front asks ends m m_is back asks2 ends2 behind all c c_is) asked)
+                AskedLater b i e may_first (A.not_bound t step fmus first who g q waits b later prefix asks ends m m_is back asks2 ends2 beyond all) may_again
+                (A.others_apart t step fmus first who g q waits b later prefix asks ends m m_is back asks2 ends2 beyond all)
+                (subst (λ (n : ℕ). IsAsked steppers comes t step n i e) (A.fallen t step fmus first who g q waits b later prefix asks ends m m_is back asks2 ends2 beyond all c c_is) asked)
 
             -- what each was asked last
             last_asked : (P : ℕ → ℕ → Type 0) → ((i e : ℕ) → IsAsked steppers comes t step b i e → t < e → P i e) → t < m → (i : ℕ) (f : Fmu) → slice_get fmus i ≡ Some f → P i (next_asks f)
@@ -225,24 +225,24 @@ module _ (t step : ℕ) (fmus : List Fmu) (first : Shape → Bool) (who : ComeFi
         stood_so g q waits b later log asks ends P lift i f at true h =
             inr (subst (P i) (sym (ap (λ (x : Bool). if x then b else q f) h)) (lift i b (AskedFirst b i b (may_first g q waits b later log asks ends) (inl (comes_is i f at ∙ h)) refl) later))
         stood_so g q waits b later log asks ends P lift i f at false h = inl (A.waiting_point t step fmus first who g q waits b later log asks ends i f at h)
-  asked_so P _ _ _ _ (Anew b stands log next front back rest asks apart asks2 behind more log_is) later g q waits from ends lift was fits =
+  asked_so P _ _ _ _ (Anew b stands log next prefix back rest asks apart asks2 beyond more log_is) later g q waits from ends lift was fits =
       let all_ends = subst (AreEnds t fmus) log_is ends in
-      let ends' = ends_front t fmus front (back ++ rest) all_ends in
-      let ends_rest = ends_back t fmus front (back ++ rest) all_ends in
-      let ends2 = ends_front t fmus back rest ends_rest in
-      let asks' : Asks t step everyone (comes_first first) b (map (stand_of g q) fmus) front = subst (λ (ss : List Stand). Asks t step everyone (comes_first first) b ss front) from asks in
-      let m = reached t b (stands_by t stands front) in
-      let to = ap (λ (ss : List Stand). stands_by t ss front) from ∙ firsts_are g q waits b later front asks' ends' in
+      let ends' = ends_prefix t fmus prefix (back ++ rest) all_ends in
+      let ends_rest = ends_back t fmus prefix (back ++ rest) all_ends in
+      let ends2 = ends_prefix t fmus back rest ends_rest in
+      let asks' : Asks t step everyone (comes_first first) b (map (stand_of g q) fmus) prefix = subst (λ (ss : List Stand). Asks t step everyone (comes_first first) b ss prefix) from asks in
+      let m = reached t b (stands_by t stands prefix) in
+      let to = ap (λ (ss : List Stand). stands_by t ss prefix) from ∙ firsts_are g q waits b later prefix asks' ends' in
       let m_is = ap (reached t b) to in
       let asks2' = subst (λ (ss : List Stand). Asks t step (ends_elsewhere t b m) (is_elsewhere m) m ss back) to asks2 in
-      let on = ap (λ (ss : List Stand). stands_by t ss back) to ∙ nexts_are g q waits b later front asks' ends' m m_is back asks2' ends2 in
-      let behind' = ap (are_at m) (sym on) ∙ behind in
-      let c = reached t m (stands_by t (stands_by t stands front) back) in
-      either_first first t fmus who (never g q waits b later front asks' ends' m m_is back asks2' ends2 behind') (λ all.
-      asked_so P c (stands_by t (stands_by t stands front) back) rest next more (later_anew g q waits b later front asks' ends' m m_is back asks2' ends2 behind' all c (ap (reached t m) on))
-      (next_points g q waits b later front asks' ends' m m_is back asks2' ends2) (next_asks g q waits b later front asks' ends' m m_is back asks2' ends2) (none_waits g q waits b later front asks' ends' m m_is back asks2' ends2 behind' all) on (ends_back t fmus back rest ends_rest)
-      (λ j x asked above. lift j x (asked_anew g q waits b later front asks' ends' m m_is back asks2' ends2 behind' all c (ap (reached t m) on) j x asked) above)
-      (λ i f at. inr (last_asked g q waits b later front asks' ends' m m_is back asks2' ends2 behind' all P lift (A.m_later t step fmus first who g q waits b later front asks' ends' m m_is) i f at)) fits)
+      let on = ap (λ (ss : List Stand). stands_by t ss back) to ∙ nexts_are g q waits b later prefix asks' ends' m m_is back asks2' ends2 in
+      let beyond' = ap (are_at m) (sym on) ∙ beyond in
+      let c = reached t m (stands_by t (stands_by t stands prefix) back) in
+      either_first first t fmus who (never g q waits b later prefix asks' ends' m m_is back asks2' ends2 beyond') (λ all.
+      asked_so P c (stands_by t (stands_by t stands prefix) back) rest next more (later_anew g q waits b later prefix asks' ends' m m_is back asks2' ends2 beyond' all c (ap (reached t m) on))
+      (next_points g q waits b later prefix asks' ends' m m_is back asks2' ends2) (next_asks g q waits b later prefix asks' ends' m m_is back asks2' ends2) (none_waits g q waits b later prefix asks' ends' m m_is back asks2' ends2 beyond' all) on (ends_back t fmus back rest ends_rest)
+      (λ j x asked above. lift j x (asked_anew g q waits b later prefix asks' ends' m m_is back asks2' ends2 beyond' all c (ap (reached t m) on) j x asked) above)
+      (λ i f at. inr (last_asked g q waits b later prefix asks' ends' m m_is back asks2' ends2 beyond' all P lift (A.m_later t step fmus first who g q waits b later prefix asks' ends' m m_is) i f at)) fits)
 
 -- ---- the bad answer
 
@@ -253,17 +253,17 @@ pub data IsAskedIn (r : Run) (ss : List MachineState) (t step b : ℕ) (saves : 
 
 -- the first bad answer is that to such a call
 pub record IsBadAsk (r : Run) (ss : List MachineState) (t step b : ℕ) (saves : ℕ → Bool) (bad : BadAnswer) (log : List Sent) : Type 0 where
-  pub front : List Sent
+  pub prefix : List Sent
   pub last : Sent
   pub back : List Sent
-  pub log_is : log ≡ front ++ last ∷ back
-  pub first : IsFirst (shapes_of r.system) bad front last
+  pub log_is : log ≡ prefix ++ last ∷ back
+  pub first : IsFirst (shapes_of r.system) bad prefix last
   pub within : last.component < length r.system.components
   pub asked : (c : Component) (m : Machine) (s : MachineState) → IsFmu r ss last.component c m s →
-      IsAskedIn r ss t step b saves last.component m s (state_by m (with_slot (slot_in (saves last.component) s) s) (part last.component front)) last.exchange.call
+      IsAskedIn r ss t step b saves last.component m s (state_by m (with_slot (slot_in (saves last.component) s) s) (part last.component prefix)) last.exchange.call
 
-amid : (front : List Sent) (last : Sent) (back : List Sent) → part last.component (front ++ last ∷ back) ≡ part last.component front ++ last.exchange ∷ part last.component back
-amid front last back = part_append last.component front (last ∷ back) ∙ ap (λ (es : List Exchange). part last.component front ++ es) (takes (last.component == last.component) last.exchange (part last.component back) (same last.component last.component refl))
+amid : (prefix : List Sent) (last : Sent) (back : List Sent) → part last.component (prefix ++ last ∷ back) ≡ part last.component prefix ++ last.exchange ∷ part last.component back
+amid prefix last back = part_append last.component prefix (last ∷ back) ∙ ap (λ (es : List Exchange). part last.component prefix ++ es) (takes (last.component == last.component) last.exchange (part last.component back) (same last.component last.component refl))
 
 module _ (r : Run) (ss : List MachineState) (t step b : ℕ) (saves : ℕ → Bool) (bad : BadAnswer) (log : List Sent) (ignore : IgnoreSlots r) (later : t < b) (agrees : Agrees t step (asked_first (early_count (shapes_of r.system))) b (standing t (fmus_of r ss t)) log (Fails bad))
     (restores : RestoresSaved saves log) (replies : AreReplies r (saved_states r ss saves) log) (shapes_are : shapes_in (standing t (fmus_of r ss t)) ≡ shapes_of r.system) where
@@ -309,9 +309,9 @@ module _ (r : Run) (ss : List MachineState) (t step b : ℕ) (saves : ℕ → Bo
   abbrev May : ℕ → ℕ → Type 0
   May i e = IsAsked (steppers_of r ss t) (is_asked_first r) t step b i e × (t < e)
 
-  module _ (front more : List Sent) (next : Next) (log_is : log ≡ front ++ more) (under : Underway t step (asked_first (early_count (shapes_of r.system))) b (standing t (fmus_of r ss t)) front next) where
-    u : IsUnder t step first (standing t (fmus_of r ss t)) front next
-    u = is_under t step first b begin front next later low under
+  module _ (prefix more : List Sent) (next : Next) (log_is : log ≡ prefix ++ more) (under : Underway t step (asked_first (early_count (shapes_of r.system))) b (standing t (fmus_of r ss t)) prefix next) where
+    u : IsUnder t step first (standing t (fmus_of r ss t)) prefix next
+    u = is_under t step first b begin prefix next later low under
 
     module _ (i : ℕ) (c : Component) (m : Machine) (s : MachineState) (fmu : IsFmu r ss i c m s) where
       own_number : 0 + i ≡ i
@@ -330,29 +330,29 @@ module _ (r : Run) (ss : List MachineState) (t step b : ℕ) (saves : ℕ → Bo
         state = each_here (λ j d n z. save_of j z) 0 i r.system.components r.machines ss c m s fmu.component fmu.machine fmu.state ∙ ap (λ (n : ℕ). Some (save_of n s)) own_number;
       }
 
-      own_replies : RepliesBy m (save_of i s) (part i front ++ part i more)
-      own_replies = subst (RepliesBy m (save_of i s)) (ap (part i) log_is ∙ part_append i front more) (replies i c m (save_of i s) saved_fmu)
+      own_replies : RepliesBy m (save_of i s) (part i prefix ++ part i more)
+      own_replies = subst (RepliesBy m (save_of i s)) (ap (part i) log_is ∙ part_append i prefix more) (replies i c m (save_of i s) saved_fmu)
 
-      own_restores : All (IsSavedOne saves i) (part i front ++ part i more)
-      own_restores = subst (All (IsSavedOne saves i)) (ap (part i) log_is ∙ part_append i front more) (restores i)
+      own_restores : All (IsSavedOne saves i) (part i prefix ++ part i more)
+      own_restores = subst (All (IsSavedOne saves i)) (ap (part i) log_is ∙ part_append i prefix more) (restores i)
 
-      leads : Leads m (ignore i m fmu.machine) s (slot_in (saves i) s) t (fmu_of i c m s) (known_end t c m s) step i first (home (fmu_of i c m s)) (save_of i s) false (part i front)
-      leads = track m (ignore i m fmu.machine) s (slot_in (saves i) s) t (fmu_of i c m s) (known_end t c m s) step i first b begin front next under later low (home (fmu_of i c m s)) stood refl (save_of i s) false (T.Home refl refl)
-          (λ k d w h. ap (λ (x : Bool). slot_in x s) (all_front (IsSavedOne saves i) (part i front) (part i more) own_restores k d w h))
-          (replies_front m (save_of i s) (part i front) (part i more) own_replies)
+      leads : Leads m (ignore i m fmu.machine) s (slot_in (saves i) s) t (fmu_of i c m s) (known_end t c m s) step i first (home (fmu_of i c m s)) (save_of i s) false (part i prefix)
+      leads = track m (ignore i m fmu.machine) s (slot_in (saves i) s) t (fmu_of i c m s) (known_end t c m s) step i first b begin prefix next under later low (home (fmu_of i c m s)) stood refl (save_of i s) false (T.Home refl refl)
+          (λ k d w h. ap (λ (x : Bool). slot_in x s) (all_prefix (IsSavedOne saves i) (part i prefix) (part i more) own_restores k d w h))
+          (replies_prefix m (save_of i s) (part i prefix) (part i more) own_replies)
 
       -- where it stands
-      stands_there : slice_get next.stands i ≡ Some (stand_by t (home (fmu_of i c m s)) (part i front))
-      stands_there = ap (λ (xs : List Stand). slice_get xs i) u.stands_are ∙ stand_here t begin front i (home (fmu_of i c m s)) stood
+      stands_there : slice_get next.stands i ≡ Some (stand_by t (home (fmu_of i c m s)) (part i prefix))
+      stands_there = ap (λ (xs : List Stand). slice_get xs i) u.stands_are ∙ stand_here t begin prefix i (home (fmu_of i c m s)) stood
 
-    ends : AreEnds t fmus front
+    ends : AreEnds t fmus prefix
     ends i f at =
         let x = each-get fmu_of 0 i r.system.components r.machines ss f at in
-        subst (λ (g : Fmu). EndsAs t g (part i front)) (sym x.is) (leads i x.component x.machine x.state (record { component = x.of_c; machine = x.of_m; state = x.of_s })).ends
+        subst (λ (g : Fmu). EndsAs t g (part i prefix)) (sym x.is) (leads i x.component x.machine x.state (record { component = x.of_c; machine = x.of_m; state = x.of_s })).ends
 
     module _ (fits : unfit step (next.e - t) next.sized next.stands ≡ None) where
       asked : (i : ℕ) (f : Fmu) → slice_get fmus i ≡ Some f → IsAskedSo t step fmus first (who_first r ss t) (is_asked_first r) comes_is May next i f
-      asked = asked_so t step fmus first (who_first r ss t) (is_asked_first r) comes_is May b begin front next under later (λ f. t) (λ f. t) (λ i f at un. refl) refl ends (λ i e h above. (subst (λ (xs : List Stepper). IsAsked xs (is_asked_first r) t step b i e) steppers_are h, above)) (λ i f at. inl refl) fits
+      asked = asked_so t step fmus first (who_first r ss t) (is_asked_first r) comes_is May b begin prefix next under later (λ f. t) (λ f. t) (λ i f at un. refl) refl ends (λ i e h above. (subst (λ (xs : List Stepper). IsAsked xs (is_asked_first r) t step b i e) steppers_are h, above)) (λ i f at. inl refl) fits
 
       module _ (i : ℕ) (c : Component) (m : Machine) (s : MachineState) (fmu : IsFmu r ss i c m s) (x : Stand) (at : slice_get next.stands i ≡ Some x) where
         mine : IsAskedSo t step fmus first (who_first r ss t) (is_asked_first r) comes_is May next i (fmu_of i c m s)
@@ -370,20 +370,20 @@ module _ (r : Run) (ss : List MachineState) (t step b : ℕ) (saves : ℕ → Bo
           by (inl h) = absurd (away (ap (λ (y : Stand). y.point) (sym stand_is) ∙ h))
           by (inr h) = subst (λ (y : Stand). May i y.ask) stand_is h
 
-        here : Here m (ignore i m fmu.machine) s (slot_in (saves i) s) t (fmu_of i c m s) (known_end t c m s) step i first x (state_by m (save_of i s) (part i front)) (asks_last false (part i front))
-        here = subst (λ (y : Stand). Here m (ignore i m fmu.machine) s (slot_in (saves i) s) t (fmu_of i c m s) (known_end t c m s) step i first y (state_by m (save_of i s) (part i front)) (asks_last false (part i front)))
-            (same_Some (stand_by t (home (fmu_of i c m s)) (part i front)) x (sym (stands_there i c m s fmu) ∙ at)) (leads i c m s fmu).here
+        here : Here m (ignore i m fmu.machine) s (slot_in (saves i) s) t (fmu_of i c m s) (known_end t c m s) step i first x (state_by m (save_of i s) (part i prefix)) (asks_last false (part i prefix))
+        here = subst (λ (y : Stand). Here m (ignore i m fmu.machine) s (slot_in (saves i) s) t (fmu_of i c m s) (known_end t c m s) step i first y (state_by m (save_of i s) (part i prefix)) (asks_last false (part i prefix)))
+            (same_Some (stand_by t (home (fmu_of i c m s)) (part i prefix)) x (sym (stands_there i c m s fmu) ∙ at)) (leads i c m s fmu).here
 
         -- away it is in the state of what it was asked last
-        away_state : x.point ≢ t → state_by m (save_of i s) (part i front) ≡ with_slot (slot_in (saves i) s) (after m s (step_to t x.ask))
+        away_state : x.point ≢ t → state_by m (save_of i s) (part i prefix) ≡ with_slot (slot_in (saves i) s) (after m s (step_to t x.ask))
         away_state away = by here where
-          by : Here m (ignore i m fmu.machine) s (slot_in (saves i) s) t (fmu_of i c m s) (known_end t c m s) step i first x (state_by m (save_of i s) (part i front)) (asks_last false (part i front)) → state_by m (save_of i s) (part i front) ≡ with_slot (slot_in (saves i) s) (after m s (step_to t x.ask))
+          by : Here m (ignore i m fmu.machine) s (slot_in (saves i) s) t (fmu_of i c m s) (known_end t c m s) step i first x (state_by m (save_of i s) (part i prefix)) (asks_last false (part i prefix)) → state_by m (save_of i s) (part i prefix) ≡ with_slot (slot_in (saves i) s) (after m s (step_to t x.ask))
           by (T.Home h is) = absurd (away h)
           by (T.Away h is asks) = is
 
-        home_state : x.point ≡ t → state_by m (save_of i s) (part i front) ≡ save_of i s
+        home_state : x.point ≡ t → state_by m (save_of i s) (part i prefix) ≡ save_of i s
         home_state h = by here where
-          by : Here m (ignore i m fmu.machine) s (slot_in (saves i) s) t (fmu_of i c m s) (known_end t c m s) step i first x (state_by m (save_of i s) (part i front)) (asks_last false (part i front)) → state_by m (save_of i s) (part i front) ≡ save_of i s
+          by : Here m (ignore i m fmu.machine) s (slot_in (saves i) s) t (fmu_of i c m s) (known_end t c m s) step i first x (state_by m (save_of i s) (part i prefix)) (asks_last false (part i prefix)) → state_by m (save_of i s) (part i prefix) ≡ save_of i s
           by (T.Home h is) = is
           by (T.Away away is asks) = absurd (away h)
 
@@ -391,10 +391,10 @@ module _ (r : Run) (ss : List MachineState) (t step b : ℕ) (saves : ℕ → Bo
       module _ (backs steps : List Sent) (more_is : more ≡ backs ++ steps) (back : IsAnswered (shapes_in next.stands) (putting_back t next.test next.stands) backs) where
         module _ (i : ℕ) (c : Component) (m : Machine) (s : MachineState) (fmu : IsFmu r ss i c m s) (x : Stand) (at : slice_get next.stands i ≡ Some x) (test : next.test x ≡ true) where
           back_restores : All (IsSavedOne saves i) (part i backs)
-          back_restores = all_front (IsSavedOne saves i) (part i backs) (part i steps)
-              (subst (All (IsSavedOne saves i)) (ap (part i) more_is ∙ part_append i backs steps) (all_back (IsSavedOne saves i) (part i front) (part i more) (own_restores i c m s fmu)))
+          back_restores = all_prefix (IsSavedOne saves i) (part i backs) (part i steps)
+              (subst (All (IsSavedOne saves i)) (ap (part i) more_is ∙ part_append i backs steps) (all_back (IsSavedOne saves i) (part i prefix) (part i more) (own_restores i c m s fmu)))
 
-          is_home : state_by m (state_by m (save_of i s) (part i front)) (part i backs) ≡ save_of i s
+          is_home : state_by m (state_by m (save_of i s) (part i prefix)) (part i backs) ≡ save_of i s
           is_home = by (x.point == t) refl (part_of (is_away t next.test) C.Restore (shapes_in next.stands) next.stands backs back i x at) where
             number : (p q : ℕ) → (p == q) ≡ true → p ≡ q
             number p q h = grind (arith, nat_tests)
@@ -402,16 +402,16 @@ module _ (r : Run) (ss : List MachineState) (t step b : ℕ) (saves : ℕ → Bo
             tested : (y : Bool) → (x.point == t) ≡ y → is_away t next.test x ≡ not y
             tested y h = ap₂ (λ (v w : Bool). v && not w) test h
 
-            by : (y : Bool) → (x.point == t) ≡ y → OneIf (shapes_in next.stands) i C.Restore (is_away t next.test x) (part i backs) → state_by m (state_by m (save_of i s) (part i front)) (part i backs) ≡ save_of i s
+            by : (y : Bool) → (x.point == t) ≡ y → OneIf (shapes_in next.stands) i C.Restore (is_away t next.test x) (part i backs) → state_by m (state_by m (save_of i s) (part i prefix)) (part i backs) ≡ save_of i s
             by true h one =
-                ap (state_by m (state_by m (save_of i s) (part i front))) (subst (λ (v : Bool). OneIf (shapes_in next.stands) i C.Restore v (part i backs)) (tested true h) one) ∙ home_state i c m s fmu x at (number x.point t h)
+                ap (state_by m (state_by m (save_of i s) (part i prefix))) (subst (λ (v : Bool). OneIf (shapes_in next.stands) i C.Restore v (part i backs)) (tested true h) one) ∙ home_state i c m s fmu x at (number x.point t h)
             by false h one = put (subst (λ (v : Bool). OneIf (shapes_in next.stands) i C.Restore v (part i backs)) (tested false h) one) where
-              put : OneIf (shapes_in next.stands) i C.Restore true (part i backs) → state_by m (state_by m (save_of i s) (part i front)) (part i backs) ≡ save_of i s
+              put : OneIf (shapes_in next.stands) i C.Restore true (part i backs) → state_by m (state_by m (save_of i s) (part i prefix)) (part i backs) ≡ save_of i s
               put e =
                   let full : saves i ≡ true = All-head (IsSavedOne saves i) e.exchange [] (subst (All (IsSavedOne saves i)) e.is back_restores) e.call_is in
                   let gone = away_state i c m s fmu x at (unequal x.point t h) in
-                  ap (state_by m (state_by m (save_of i s) (part i front))) e.is ∙ ap (after m (state_by m (save_of i s) (part i front))) e.call_is
-                  ∙ T.restored m (ignore i m fmu.machine) s (slot_in (saves i) s) t (fmu_of i c m s) (known_end t c m s) (ap (λ (v : Bool). slot_in v s) full) (state_by m (save_of i s) (part i front)) (ap (λ (z : MachineState). z.slot) gone)
+                  ap (state_by m (state_by m (save_of i s) (part i prefix))) e.is ∙ ap (after m (state_by m (save_of i s) (part i prefix))) e.call_is
+                  ∙ T.restored m (ignore i m fmu.machine) s (slot_in (saves i) s) t (fmu_of i c m s) (known_end t c m s) (ap (λ (v : Bool). slot_in v s) full) (state_by m (save_of i s) (part i prefix)) (ap (λ (z : MachineState). z.slot) gone)
 
   same_bad : (x y : BadAnswer) → Fails x ≡ Fails y → x ≡ y
   same_bad x y h = cc
@@ -434,28 +434,28 @@ module _ (r : Run) (ss : List MachineState) (t step b : ℕ) (saves : ℕ → Bo
     stops_so l (IsUnfit i size none is) = absurd (cc)
     stops_so l (InBack other fits f is) =
         let n = l.next in
-        let under = u l.front l.more n l.log_is l.under in
-        let first : IsFirst (shapes_of r.system) bad f.front f.last = subst (λ (x : BadAnswer). IsFirst (shapes_of r.system) x f.front f.last) (sym (same_bad bad other is)) (subst (λ (zs : List Shape). IsFirst zs other f.front f.last) (under.shapes ∙ shapes_are) f.first) in
-        let calls : putting_back t n.test n.stands ≡ askings (f.front ++ f.last ∷ f.back) ++ [] = sym f.calls_are ∙ ap askings f.log_is ∙ sym (append-nil (askings (f.front ++ f.last ∷ f.back))) in
-        let own = turn (is_away t n.test) (λ (x : Stand). C.Restore) f.last f.back [] 0 n.stands f.front calls in
+        let under = u l.prefix l.more n l.log_is l.under in
+        let first : IsFirst (shapes_of r.system) bad f.prefix f.last = subst (λ (x : BadAnswer). IsFirst (shapes_of r.system) x f.prefix f.last) (sym (same_bad bad other is)) (subst (λ (zs : List Shape). IsFirst zs other f.prefix f.last) (under.shapes ∙ shapes_are) f.first) in
+        let calls : putting_back t n.test n.stands ≡ component_calls (f.prefix ++ f.last ∷ f.back) ++ [] = sym f.calls_are ∙ ap component_calls f.log_is ∙ sym (append-nil (component_calls (f.prefix ++ f.last ∷ f.back))) in
+        let own = turn (is_away t n.test) (λ (x : Stand). C.Restore) f.last f.back [] 0 n.stands f.prefix calls in
         let at = own_place n.stands f.last.component own.to.place own.to.one own.to.at own.to.is in
-        let whole : log ≡ (l.front ++ f.front) ++ f.last ∷ f.back = l.log_is ∙ ap (λ (x : List Sent). l.front ++ x) f.log_is ∙ sym (append_assoc l.front f.front (f.last ∷ f.back)) in
+        let whole : log ≡ (l.prefix ++ f.prefix) ++ f.last ∷ f.back = l.log_is ∙ ap (λ (x : List Sent). l.prefix ++ x) f.log_is ∙ sym (append_assoc l.prefix f.prefix (f.last ∷ f.back)) in
         record {
-          front = l.front ++ f.front;
+          prefix = l.prefix ++ f.prefix;
           last = f.last;
           back = f.back;
           log_is = whole;
-          first = record { good = All-append (IsGoodOf (shapes_of r.system)) l.front f.front (subst (λ (zs : List Shape). All (IsGoodOf zs) l.front) shapes_are under.good) first.good; component = first.component; why = first.why };
+          first = record { good = All-append (IsGoodOf (shapes_of r.system)) l.prefix f.prefix (subst (λ (zs : List Shape). All (IsGoodOf zs) l.prefix) shapes_are under.good) first.good; component = first.component; why = first.why };
           within = inside n.stands under.shapes f.last.component own.to.place own.to.one own.to.at own.to.is;
           asked = λ c m s fmu.
               let i = f.last.component in
               let x = own.to.one in
               let away = is_gone n.test x own.to.asked in
-              let last = was_asked l.front l.more n l.log_is l.under fits i c m s fmu x at away in
-              let here : part i (l.front ++ f.front) ≡ part i l.front = part_append i l.front f.front ∙ ap (λ (es : List Exchange). part i l.front ++ es) own.none ∙ append-nil (part i l.front) in
-              let full : saves i ≡ true = All-head (IsSavedOne saves i) f.last.exchange (part i f.back) (all_back (IsSavedOne saves i) (part i (l.front ++ f.front)) (f.last.exchange ∷ part i f.back)
-              (subst (All (IsSavedOne saves i)) (ap (part i) whole ∙ amid (l.front ++ f.front) f.last f.back) (restores i))) own.to.call_is in
-              ToGoBack x.ask last.0 last.1 full (ap (state_by m (save_of i s)) here ∙ away_state l.front l.more n l.log_is l.under fits i c m s fmu x at away) own.to.call_is;
+              let last = was_asked l.prefix l.more n l.log_is l.under fits i c m s fmu x at away in
+              let here : part i (l.prefix ++ f.prefix) ≡ part i l.prefix = part_append i l.prefix f.prefix ∙ ap (λ (es : List Exchange). part i l.prefix ++ es) own.none ∙ append-nil (part i l.prefix) in
+              let full : saves i ≡ true = All-head (IsSavedOne saves i) f.last.exchange (part i f.back) (all_back (IsSavedOne saves i) (part i (l.prefix ++ f.prefix)) (f.last.exchange ∷ part i f.back)
+              (subst (All (IsSavedOne saves i)) (ap (part i) whole ∙ amid (l.prefix ++ f.prefix) f.last f.back) (restores i))) own.to.call_is in
+              ToGoBack x.ask last.0 last.1 full (ap (state_by m (save_of i s)) here ∙ away_state l.prefix l.more n l.log_is l.under fits i c m s fmu x at away) own.to.call_is;
         } where
           is_gone : (test : Stand → Bool) (x : Stand) → is_away t test x ≡ true → x.point ≢ t
           is_gone test x h = go (test x) (x.point == t) refl h where
@@ -465,19 +465,19 @@ module _ (r : Run) (ss : List MachineState) (t step b : ℕ) (saves : ℕ → Bo
             go false w e k = absurd (cc)
     stops_so l (InStep other backs steps fits back f steps_is is) =
         let n = l.next in
-        let under = u l.front l.more n l.log_is l.under in
-        let first : IsFirst (shapes_of r.system) bad f.front f.last = subst (λ (x : BadAnswer). IsFirst (shapes_of r.system) x f.front f.last) (sym (same_bad bad other is)) (subst (λ (zs : List Shape). IsFirst zs other f.front f.last) (under.shapes ∙ shapes_are) f.first) in
-        let calls : stepping t n.e n.test n.stands ≡ askings (f.front ++ f.last ∷ f.back) ++ [] = sym f.calls_are ∙ ap askings f.log_is ∙ sym (append-nil (askings (f.front ++ f.last ∷ f.back))) in
-        let own = turn n.test (λ (x : Stand). C.DoStep t (n.e - t)) f.last f.back [] 0 n.stands f.front calls in
+        let under = u l.prefix l.more n l.log_is l.under in
+        let first : IsFirst (shapes_of r.system) bad f.prefix f.last = subst (λ (x : BadAnswer). IsFirst (shapes_of r.system) x f.prefix f.last) (sym (same_bad bad other is)) (subst (λ (zs : List Shape). IsFirst zs other f.prefix f.last) (under.shapes ∙ shapes_are) f.first) in
+        let calls : stepping t n.e n.test n.stands ≡ component_calls (f.prefix ++ f.last ∷ f.back) ++ [] = sym f.calls_are ∙ ap component_calls f.log_is ∙ sym (append-nil (component_calls (f.prefix ++ f.last ∷ f.back))) in
+        let own = turn n.test (λ (x : Stand). C.DoStep t (n.e - t)) f.last f.back [] 0 n.stands f.prefix calls in
         let at = own_place n.stands f.last.component own.to.place own.to.one own.to.at own.to.is in
         record {
-          front = l.front ++ (backs ++ f.front);
+          prefix = l.prefix ++ (backs ++ f.prefix);
           last = f.last;
           back = f.back;
-          log_is = l.log_is ∙ ap (λ (x : List Sent). l.front ++ x) (steps_is ∙ ap (λ (x : List Sent). backs ++ x) f.log_is ∙ sym (append_assoc backs f.front (f.last ∷ f.back))) ∙ sym (append_assoc l.front (backs ++ f.front) (f.last ∷ f.back));
+          log_is = l.log_is ∙ ap (λ (x : List Sent). l.prefix ++ x) (steps_is ∙ ap (λ (x : List Sent). backs ++ x) f.log_is ∙ sym (append_assoc backs f.prefix (f.last ∷ f.back))) ∙ sym (append_assoc l.prefix (backs ++ f.prefix) (f.last ∷ f.back));
           first = record {
-            good = All-append (IsGoodOf (shapes_of r.system)) l.front (backs ++ f.front) (subst (λ (zs : List Shape). All (IsGoodOf zs) l.front) shapes_are under.good)
-                (All-append (IsGoodOf (shapes_of r.system)) backs f.front (subst (λ (zs : List Shape). All (IsGoodOf zs) backs) (under.shapes ∙ shapes_are) back.good) first.good);
+            good = All-append (IsGoodOf (shapes_of r.system)) l.prefix (backs ++ f.prefix) (subst (λ (zs : List Shape). All (IsGoodOf zs) l.prefix) shapes_are under.good)
+                (All-append (IsGoodOf (shapes_of r.system)) backs f.prefix (subst (λ (zs : List Shape). All (IsGoodOf zs) backs) (under.shapes ∙ shapes_are) back.good) first.good);
             component = first.component;
             why = first.why;
           };
@@ -485,11 +485,11 @@ module _ (r : Run) (ss : List MachineState) (t step b : ℕ) (saves : ℕ → Bo
           asked = λ c m s fmu.
               let i = f.last.component in
               let x = own.to.one in
-              let may = may_step l.front l.more n l.log_is l.under fits i c m s fmu x at own.to.asked in
-              let here : part i (l.front ++ (backs ++ f.front)) ≡ part i l.front ++ part i backs =
-              part_append i l.front (backs ++ f.front) ∙ ap (λ (es : List Exchange). part i l.front ++ es) (part_append i backs f.front ∙ ap (λ (es : List Exchange). part i backs ++ es) own.none ∙ append-nil (part i backs)) in
+              let may = may_step l.prefix l.more n l.log_is l.under fits i c m s fmu x at own.to.asked in
+              let here : part i (l.prefix ++ (backs ++ f.prefix)) ≡ part i l.prefix ++ part i backs =
+              part_append i l.prefix (backs ++ f.prefix) ∙ ap (λ (es : List Exchange). part i l.prefix ++ es) (part_append i backs f.prefix ∙ ap (λ (es : List Exchange). part i backs ++ es) own.none ∙ append-nil (part i backs)) in
               ToStep n.e may.0 may.1
-              (ap (state_by m (save_of i s)) here ∙ state_by_append m (save_of i s) (part i l.front) (part i backs) ∙ is_home l.front l.more n l.log_is l.under fits backs steps steps_is back i c m s fmu x at own.to.asked) own.to.call_is;
+              (ap (state_by m (save_of i s)) here ∙ state_by_append m (save_of i s) (part i l.prefix) (part i backs) ∙ is_home l.prefix l.more n l.log_is l.under fits backs steps steps_is back i c m s fmu x at own.to.asked) own.to.call_is;
         }
 
     by : Lasts t step first b begin log (Fails bad) → IsBadAsk r ss t step b saves bad log

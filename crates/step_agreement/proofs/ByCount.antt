@@ -11,7 +11,7 @@ use Rattle.fmu_peer.specs.Lean.{SizesFall}
 use Rattle.system_model.specs.EarlyReturn.{early_count}
 use Rattle.system_model.proofs.CallerLemmas.{counts_two}
 use Rattle.run_model.specs.Stepping.{asked_first}
-use Rattle.slot_calls.specs.Log.{Asking, Sent, part}
+use Rattle.slot_calls.specs.Log.{ComponentCall, Sent, part}
 use Rattle.slot_calls.specs.Stage.{FailsIn}
 use Rattle.step_agreement.specs.Agreement.{Agrees, FirstMeet, FirstStops, GoesAnew, InBack, InStep, IsUnfit, Meets, NextMeet, NextStops, Outcome, Stand, Stops, are_at, comes_first, ends_elsewhere, everyone, is_elsewhere, shapes_in, stand_by, stands_by, stepping}
 use Rattle.step_agreement.specs.Falling.{SizesFallAlong}
@@ -76,28 +76,28 @@ module _ (t step i : ℕ) where
   one_falls _ _ _ _ later home alone (FirstStops b stands log outcome stops) s at = stops_fall t step one_first i everyone (comes_first one_first) b stands log outcome stops s at None (λ h. tt)
   one_falls _ _ _ _ later home alone (FirstMeet b stands log outcome m asks m_is there is) s at =
       whole t step one_first i None (calls_in (part i log)) (asks_fall t step one_first i everyone (comes_first one_first) b stands log asks s at None (λ h. tt) [] (none_left s.shape.might_return_early (b - t) None))
-  one_falls _ _ _ _ later home alone (NextStops b stands log outcome m front back mids asks mids_are m_is apart stops is) s at =
-      let y = stand_by t s (part i front) in
-      let y_at = ap (λ (ss : List Stand). slice_get ss i) mids_are ∙ stand_here t stands front i s at in
-      subst (SizesFall None) (sym (ap (λ (l : List Sent). calls_in (part i l)) is ∙ split_calls i front back))
-      (asks_fall t step one_first i everyone (comes_first one_first) b stands front asks s at None (λ h. tt) (calls_in (part i back))
+  one_falls _ _ _ _ later home alone (NextStops b stands log outcome m prefix back mids asks mids_are m_is apart stops is) s at =
+      let y = stand_by t s (part i prefix) in
+      let y_at = ap (λ (ss : List Stand). slice_get ss i) mids_are ∙ stand_here t stands prefix i s at in
+      subst (SizesFall None) (sym (ap (λ (l : List Sent). calls_in (part i l)) is ∙ split_calls i prefix back))
+      (asks_fall t step one_first i everyone (comes_first one_first) b stands prefix asks s at None (λ h. tt) (calls_in (part i back))
       (stops_fall t step one_first i (ends_elsewhere t b m) (is_elsewhere m) m mids back outcome stops y y_at (if s.shape.might_return_early then Some (b - t) else None)
-      (λ h. below s b m (sym (ap (λ (z : Shape). z.might_return_early) (shape_kept t s (part i front))) ∙ (elsewhere_waits t step b later stands home alone front asks mids mids_are m m_is i y y_at h).1)))) where
+      (λ h. below s b m (sym (ap (λ (z : Shape). z.might_return_early) (shape_kept t s (part i prefix))) ∙ (elsewhere_waits t step b later stands home alone prefix asks mids mids_are m m_is i y y_at h).1)))) where
         below : (s : Stand) (b m : ℕ) → s.shape.might_return_early ≡ false → Below (if s.shape.might_return_early then Some (b - t) else None) (m - t)
         below s b m h = subst (λ (x : Bool). Below (if x then Some (b - t) else None) (m - t)) (sym h) tt
-  one_falls _ _ _ _ later home alone (NextMeet b stands log outcome m front back mids asks mids_are m_is apart asks2 there met is) s at =
-      let y = stand_by t s (part i front) in
-      let y_at = ap (λ (ss : List Stand). slice_get ss i) mids_are ∙ stand_here t stands front i s at in
+  one_falls _ _ _ _ later home alone (NextMeet b stands log outcome m prefix back mids asks mids_are m_is apart asks2 there met is) s at =
+      let y = stand_by t s (part i prefix) in
+      let y_at = ap (λ (ss : List Stand). slice_get ss i) mids_are ∙ stand_here t stands prefix i s at in
       let last : Option ℕ = if s.shape.might_return_early then Some (b - t) else None in
-      subst (SizesFall None) (sym (ap (λ (l : List Sent). calls_in (part i l)) is ∙ split_calls i front back))
-      (asks_fall t step one_first i everyone (comes_first one_first) b stands front asks s at None (λ h. tt) (calls_in (part i back))
+      subst (SizesFall None) (sym (ap (λ (l : List Sent). calls_in (part i l)) is ∙ split_calls i prefix back))
+      (asks_fall t step one_first i everyone (comes_first one_first) b stands prefix asks s at None (λ h. tt) (calls_in (part i back))
       (whole t step one_first i last (calls_in (part i back)) (asks_fall t step one_first i (ends_elsewhere t b m) (is_elsewhere m) m mids back asks2 y y_at last
-      (λ h. below s b m (sym (ap (λ (z : Shape). z.might_return_early) (shape_kept t s (part i front))) ∙ (elsewhere_waits t step b later stands home alone front asks mids mids_are m m_is i y y_at h).1)) []
+      (λ h. below s b m (sym (ap (λ (z : Shape). z.might_return_early) (shape_kept t s (part i prefix))) ∙ (elsewhere_waits t step b later stands home alone prefix asks mids mids_are m m_is i y y_at h).1)) []
       (none_left (is_elsewhere m y) (m - t) last)))) where
         below : (s : Stand) (b m : ℕ) → s.shape.might_return_early ≡ false → Below (if s.shape.might_return_early then Some (b - t) else None) (m - t)
         below s b m h = subst (λ (x : Bool). Below (if x then Some (b - t) else None) (m - t)) (sym h) tt
-  one_falls _ _ _ _ later home alone (GoesAnew b stands log outcome m c front back rest mids lasts asks mids_are m_is apart asks2 lasts_are behind c_is more is) s at =
-      absurd (all_meet t step b later stands home alone front asks mids mids_are m m_is back asks2 (ap (are_at m) (sym lasts_are) ∙ behind))
+  one_falls _ _ _ _ later home alone (GoesAnew b stands log outcome m c prefix back rest mids lasts asks mids_are m_is apart asks2 lasts_are after c_is more is) s at =
+      absurd (all_meet t step b later stands home alone prefix asks mids mids_are m m_is back asks2 (ap (are_at m) (sym lasts_are) ∙ after))
 
 pub sizes_fall_along : SizesFallAlong
 sizes_fall_along t step b stands log outcome later home agrees i s at =
@@ -135,11 +135,11 @@ module _ (t step : ℕ) where
   one_meets_within _ _ _ _ p at later home alone (FirstStops b stands log outcome stops) = absurd (not_met p outcome everyone (comes_first one_first) b stands log at stops)
   one_meets_within _ _ _ _ p at later home alone (FirstMeet b stands log outcome m asks m_is there is) =
       let same : m ≡ p = same_point m p (sym is ∙ at) in let l = O.m_within t step b later stands home alone log asks (stands_by t stands log) refl m m_is in omega (arith, same, l)
-  one_meets_within _ _ _ _ p at later home alone (NextStops b stands log outcome m front back mids asks mids_are m_is apart stops whole) = absurd (not_met p outcome (ends_elsewhere t b m) (is_elsewhere m) m mids back at stops)
-  one_meets_within _ _ _ _ p at later home alone (NextMeet b stands log outcome m front back mids asks mids_are m_is apart asks2 there is whole) =
-      let same : m ≡ p = same_point m p (sym is ∙ at) in let l = O.m_within t step b later stands home alone front asks mids mids_are m m_is in omega (arith, same, l)
-  one_meets_within _ _ _ _ p at later home alone (GoesAnew b stands log outcome m c front back rest mids lasts asks mids_are m_is apart asks2 lasts_are behind c_is more whole) =
-      absurd (all_meet t step b later stands home alone front asks mids mids_are m m_is back asks2 (ap (are_at m) (sym lasts_are) ∙ behind))
+  one_meets_within _ _ _ _ p at later home alone (NextStops b stands log outcome m prefix back mids asks mids_are m_is apart stops whole) = absurd (not_met p outcome (ends_elsewhere t b m) (is_elsewhere m) m mids back at stops)
+  one_meets_within _ _ _ _ p at later home alone (NextMeet b stands log outcome m prefix back mids asks mids_are m_is apart asks2 there is whole) =
+      let same : m ≡ p = same_point m p (sym is ∙ at) in let l = O.m_within t step b later stands home alone prefix asks mids mids_are m m_is in omega (arith, same, l)
+  one_meets_within _ _ _ _ p at later home alone (GoesAnew b stands log outcome m c prefix back rest mids lasts asks mids_are m_is apart asks2 lasts_are after c_is more whole) =
+      absurd (all_meet t step b later stands home alone prefix asks mids mids_are m m_is back asks2 (ap (are_at m) (sym lasts_are) ∙ after))
 
 -- the point where all meet is at most the bound
 pub meets_within : (t step b : ℕ) (stands : List Stand) (log : List Sent) (p : ℕ) → t < b → AreAllAt t stands → Agrees t step (asked_first (early_count (shapes_in stands))) b stands log (Meets p) → p ≤ b
@@ -150,18 +150,18 @@ meets_within t step b stands log p later home agrees =
 
 module _ (t step : ℕ) (shapes : List Shape) (one : early_count shapes ≡ 1) where
   -- after well answered rounds, one of those that stand at t
-  stops_one : (sized test : Stand → Bool) (e : ℕ) (mids : List Stand) → shapes_in mids ≡ shapes → ((i : ℕ) (s : Stand) → slice_get mids i ≡ Some s → test s ≡ true → s.point ≡ t) → (stands : List Stand) (front back : List Sent) (outcome : Outcome) → AreGoodSteps t shapes front →
-      Stops t step sized test e mids back outcome → EndsSo t step shapes stands (front ++ back) outcome
-  stops_one sized test e mids same home stands front back outcome good (IsUnfit i unfit none is) =
-      subst (EndsSo t step shapes stands (front ++ back)) (sym is) (All-append (IsGoodStep t shapes) front back good (subst (AreGoodSteps t shapes) (sym none) (All-nil (IsGoodStep t shapes))), inr (inr one))
-  stops_one sized test e mids same home stands front back outcome good (InBack bad fits fails is) =
-      absurd (no_asking (shapes_in mids) bad back (subst (λ (calls : List Asking). FailsIn (shapes_in mids) calls bad back) (none_back t step sized test e mids home) fails))
-  stops_one sized test e mids same home stands front back outcome good (InStep bad backs steps fits backed fails log_is is) =
+  stops_one : (sized test : Stand → Bool) (e : ℕ) (mids : List Stand) → shapes_in mids ≡ shapes → ((i : ℕ) (s : Stand) → slice_get mids i ≡ Some s → test s ≡ true → s.point ≡ t) → (stands : List Stand) (prefix back : List Sent) (outcome : Outcome) → AreGoodSteps t shapes prefix →
+      Stops t step sized test e mids back outcome → EndsSo t step shapes stands (prefix ++ back) outcome
+  stops_one sized test e mids same home stands prefix back outcome good (IsUnfit i unfit none is) =
+      subst (EndsSo t step shapes stands (prefix ++ back)) (sym is) (All-append (IsGoodStep t shapes) prefix back good (subst (AreGoodSteps t shapes) (sym none) (All-nil (IsGoodStep t shapes))), inr (inr one))
+  stops_one sized test e mids same home stands prefix back outcome good (InBack bad fits fails is) =
+      absurd (no_asking (shapes_in mids) bad back (subst (λ (calls : List ComponentCall). FailsIn (shapes_in mids) calls bad back) (none_back t step sized test e mids home) fails))
+  stops_one sized test e mids same home stands prefix back outcome good (InStep bad backs steps fits backed fails log_is is) =
       let none : backs ≡ [] = O.no_log t step sized test e mids home backs (backed.calls_are ∙ none_back t step sized test e mids home) in
-      subst (EndsSo t step shapes stands (front ++ back)) (sym is) (record {
-        front = front;
+      subst (EndsSo t step shapes stands (prefix ++ back)) (sym is) (record {
+        prefix = prefix;
         more = steps;
-        log_is = ap (λ (l : List Sent). front ++ l) (log_is ∙ ap (λ (l : List Sent). l ++ steps) none);
+        log_is = ap (λ (l : List Sent). prefix ++ l) (log_is ∙ ap (λ (l : List Sent). l ++ steps) none);
         good = good;
         test = test;
         there = mids;
@@ -176,19 +176,19 @@ module _ (t step : ℕ) (shapes : List Shape) (one : early_count shapes ≡ 1) w
         there,
         O.m_later t step b later stands home alone log asks (stands_by t stands log) refl m m_is,
       )
-  one_ends_so _ _ _ _ later same home alone (NextStops b stands log outcome m front back mids asks mids_are m_is apart stops whole) =
+  one_ends_so _ _ _ _ later same home alone (NextStops b stands log outcome m prefix back mids asks mids_are m_is apart stops whole) =
       subst (λ (l : List Sent). EndsSo t step shapes stands l outcome) (sym whole)
-      (stops_one (ends_elsewhere t b m) (is_elsewhere m) m mids (ap shapes_in mids_are ∙ same_shapes t step stands front ∙ same) (λ i y at h. (elsewhere_waits t step b later stands home alone front asks mids mids_are m m_is i y at h).0)
-      stands front back outcome (good_asks t step shapes everyone (comes_first one_first) b stands same front asks) stops)
-  one_ends_so _ _ _ _ later same home alone (NextMeet b stands log outcome m front back mids asks mids_are m_is apart asks2 there is whole) =
+      (stops_one (ends_elsewhere t b m) (is_elsewhere m) m mids (ap shapes_in mids_are ∙ same_shapes t step stands prefix ∙ same) (λ i y at h. (elsewhere_waits t step b later stands home alone prefix asks mids mids_are m m_is i y at h).0)
+      stands prefix back outcome (good_asks t step shapes everyone (comes_first one_first) b stands same prefix asks) stops)
+  one_ends_so _ _ _ _ later same home alone (NextMeet b stands log outcome m prefix back mids asks mids_are m_is apart asks2 there is whole) =
       subst (EndsSo t step shapes stands log) (sym is) (
-        subst (AreGoodSteps t shapes) (sym whole) (All-append (IsGoodStep t shapes) front back (good_asks t step shapes everyone (comes_first one_first) b stands same front asks)
-            (good_asks t step shapes (ends_elsewhere t b m) (is_elsewhere m) m mids (ap shapes_in mids_are ∙ same_shapes t step stands front ∙ same) back asks2)),
-        ap (are_at m) (ap (stands_by t stands) whole ∙ stands_on t stands front back ∙ ap (λ (ss : List Stand). stands_by t ss back) (sym mids_are)) ∙ there,
-        O.m_later t step b later stands home alone front asks mids mids_are m m_is,
+        subst (AreGoodSteps t shapes) (sym whole) (All-append (IsGoodStep t shapes) prefix back (good_asks t step shapes everyone (comes_first one_first) b stands same prefix asks)
+            (good_asks t step shapes (ends_elsewhere t b m) (is_elsewhere m) m mids (ap shapes_in mids_are ∙ same_shapes t step stands prefix ∙ same) back asks2)),
+        ap (are_at m) (ap (stands_by t stands) whole ∙ stands_on t stands prefix back ∙ ap (λ (ss : List Stand). stands_by t ss back) (sym mids_are)) ∙ there,
+        O.m_later t step b later stands home alone prefix asks mids mids_are m m_is,
       )
-  one_ends_so _ _ _ _ later same home alone (GoesAnew b stands log outcome m c front back rest mids lasts asks mids_are m_is apart asks2 lasts_are behind c_is more whole) =
-      absurd (all_meet t step b later stands home alone front asks mids mids_are m m_is back asks2 (ap (are_at m) (sym lasts_are) ∙ behind))
+  one_ends_so _ _ _ _ later same home alone (GoesAnew b stands log outcome m c prefix back rest mids lasts asks mids_are m_is apart asks2 lasts_are after c_is more whole) =
+      absurd (all_meet t step b later stands home alone prefix asks mids mids_are m m_is back asks2 (ap (are_at m) (sym lasts_are) ∙ after))
 
 pub ends_so : (t step b : ℕ) (stands : List Stand) (log : List Sent) (outcome : Outcome) → t < b → AreAllAt t stands → Agrees t step (asked_first (early_count (shapes_in stands))) b stands log outcome → EndsSo t step (shapes_in stands) stands log outcome
 ends_so t step b stands log outcome later home agrees =

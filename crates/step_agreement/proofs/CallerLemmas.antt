@@ -1,5 +1,5 @@
 -- The lemmas of this crate that others may cite.
-pub use Rattle.step_agreement.proofs.Along.{HasAlong, IsAlong, IsOfRound, along_agreement}
+pub use Rattle.step_agreement.proofs.RoundInduction.{HasAlong, IsAlong, IsOfRound, along_agreement}
 pub use Rattle.step_agreement.proofs.Alternating.{Alternates, alternates_from}
 pub use Rattle.step_agreement.proofs.Apart.{AreApart, AreGoodSteps, EndsSo, IsBroken, IsGoodStep, all_there, round_calls, there_all}
 pub use Rattle.step_agreement.proofs.Agreed.{stands_on, stand_on}

@@ -11,7 +11,7 @@ use Rattle.fmi_calls.specs.declared.call.Call.TheVariants as C
 use Rattle.fmu_peer.specs.declared.peer.Exchange.{Exchange}
 use Rattle.fmu_peer.specs.Lean.{SizesFall}
 use Rattle.run_model.specs.Steps.{least_or}
-use Rattle.slot_calls.specs.Log.{Asking, Sent, asking_of, askings, part}
+use Rattle.slot_calls.specs.Log.{ComponentCall, Sent, component_call, component_calls, part}
 use Rattle.slot_calls.proofs.CallerLemmas.{part_append}
 use Rattle.slot_calls.proofs.CallerLemmas.{first_same, other, rest_same, same, skips, takes}
 use Rattle.step_agreement.specs.Agreement.{Agrees, Asks, FirstMeet, FirstStops, GoesAnew, InBack, InStep, IsUnfit, NextMeet, NextStops, Outcome, Stand, Stops, are_at, comes_first, end_at, ends_elsewhere, everyone, is_away, is_elsewhere, moved, reached, stand_by, stands_by, to_some, to_some_from}
@@ -34,42 +34,42 @@ abbrev pub OneCall : Call → Bool → List Call → Type 0
 OneCall call true cs = cs ≡ call ∷ []
 OneCall call false cs = cs ≡ []
 
-record Rest (a : Asking) (cs : List Asking) (log : List Sent) : Type 0 where
+record Rest (a : ComponentCall) (cs : List ComponentCall) (log : List Sent) : Type 0 where
   rest : List Sent
-  rest_is : askings rest ≡ cs
+  rest_is : component_calls rest ≡ cs
   others : (j : ℕ) → j ≢ a.component → part j log ≡ part j rest
 
-rest_if : (b : Bool) (a : Asking) (cs : List Asking) (log : List Sent) → askings log ≡ (if b then a ∷ cs else cs) → Rest a cs log
+rest_if : (b : Bool) (a : ComponentCall) (cs : List ComponentCall) (log : List Sent) → component_calls log ≡ (if b then a ∷ cs else cs) → Rest a cs log
 rest_if true a cs [] is = absurd (cc)
 rest_if true a cs (s ∷ log) is =
-    let at : s.component ≡ a.component = ap (λ (x : Asking). x.component) (first_same (asking_of s) a (askings log) cs is) in
-    record { rest = log; rest_is = rest_same (asking_of s) a (askings log) cs is; others = λ j ne. skips (s.component == j) s.exchange (part j log) (other s.component j (λ e. ne (sym e ∙ at))) }
+    let at : s.component ≡ a.component = ap (λ (x : ComponentCall). x.component) (first_same (component_call s) a (component_calls log) cs is) in
+    record { rest = log; rest_is = rest_same (component_call s) a (component_calls log) cs is; others = λ j ne. skips (s.component == j) s.exchange (part j log) (other s.component j (λ e. ne (sym e ∙ at))) }
 rest_if false a cs log is = record { rest = log; rest_is = is; others = λ j ne. refl }
 
-part_nil : (j : ℕ) (log : List Sent) → askings log ≡ [] → part j log ≡ []
+part_nil : (j : ℕ) (log : List Sent) → component_calls log ≡ [] → part j log ≡ []
 part_nil j [] is = refl
 part_nil j (s ∷ log) is = absurd (cc)
 
 module _ {A : Type 0} (test : A → Bool) (call : Call) where
-  abbrev at_place : ℕ → Asking
+  abbrev at_place : ℕ → ComponentCall
   at_place k = record { component = k; call = call }
 
-  none_before : (k j : ℕ) (xs : List A) (log : List Sent) → askings log ≡ to_some_from k test call xs → j < k → part j log ≡ []
+  none_before : (k j : ℕ) (xs : List A) (log : List Sent) → component_calls log ≡ to_some_from k test call xs → j < k → part j log ≡ []
   none_before k j [] log is h = part_nil j log is
   none_before k j (x ∷ xs) log is h =
       let r = rest_if (test x) (at_place k) (to_some_from (k + 1) test call xs) log is in
       r.others j (λ e. absurd (omega (arith, e, h))) ∙ none_before (k + 1) j xs r.rest r.rest_is (omega (arith, h))
 
-  here : (k : ℕ) (xs : List A) (b : Bool) (log : List Sent) → askings log ≡ (if b then at_place k ∷ to_some_from (k + 1) test call xs else to_some_from (k + 1) test call xs) → OneCall call b (calls_in (part k log))
+  here : (k : ℕ) (xs : List A) (b : Bool) (log : List Sent) → component_calls log ≡ (if b then at_place k ∷ to_some_from (k + 1) test call xs else to_some_from (k + 1) test call xs) → OneCall call b (calls_in (part k log))
   here k xs true [] is = absurd (cc)
   here k xs true (s ∷ log) is =
-      let first = first_same (asking_of s) (at_place k) (askings log) (to_some_from (k + 1) test call xs) is in
-      let at : s.component ≡ k = ap (λ (x : Asking). x.component) first in
-      ap calls_in (takes (s.component == k) s.exchange (part k log) (same s.component k at) ∙ ap (λ (es : List Exchange). s.exchange ∷ es) (none_before (k + 1) k xs log (rest_same (asking_of s) (at_place k) (askings log) (to_some_from (k + 1) test call xs) is) (omega arith)))
-      ∙ ap (λ (x : Asking). x.call ∷ []) first
+      let first = first_same (component_call s) (at_place k) (component_calls log) (to_some_from (k + 1) test call xs) is in
+      let at : s.component ≡ k = ap (λ (x : ComponentCall). x.component) first in
+      ap calls_in (takes (s.component == k) s.exchange (part k log) (same s.component k at) ∙ ap (λ (es : List Exchange). s.exchange ∷ es) (none_before (k + 1) k xs log (rest_same (component_call s) (at_place k) (component_calls log) (to_some_from (k + 1) test call xs) is) (omega arith)))
+      ∙ ap (λ (x : ComponentCall). x.call ∷ []) first
   here k xs false log is = ap calls_in (none_before (k + 1) k xs log is (omega arith))
 
-  from_k : (k : ℕ) (xs : List A) (log : List Sent) → askings log ≡ to_some_from k test call xs → (i : ℕ) (x : A) → slice_get xs i ≡ Some x → OneCall call (test x) (calls_in (part (k + i) log))
+  from_k : (k : ℕ) (xs : List A) (log : List Sent) → component_calls log ≡ to_some_from k test call xs → (i : ℕ) (x : A) → slice_get xs i ≡ Some x → OneCall call (test x) (calls_in (part (k + i) log))
   from_k k [] log is i x at = absurd (none_some x at)
   from_k k (y ∷ xs) log is zero x at =
       let place : k ≡ k + 0 = omega arith in
@@ -80,7 +80,7 @@ module _ {A : Type 0} (test : A → Bool) (call : Call) where
       subst (λ (es : List Exchange). OneCall call (test x) (calls_in es)) (sym (r.others (k + suc i) (λ e. absurd (omega (arith, e)))))
       (subst (λ (n : ℕ). OneCall call (test x) (calls_in (part n r.rest))) place (from_k (k + 1) xs r.rest r.rest_is i x at))
 
-  pub own_call : (xs : List A) (log : List Sent) → askings log ≡ to_some test call xs → (i : ℕ) (x : A) → slice_get xs i ≡ Some x → OneCall call (test x) (calls_in (part i log))
+  pub own_call : (xs : List A) (log : List Sent) → component_calls log ≡ to_some test call xs → (i : ℕ) (x : A) → slice_get xs i ≡ Some x → OneCall call (test x) (calls_in (part i log))
   own_call xs log is i x at = let place : 0 + i ≡ i = omega arith in subst (λ (n : ℕ). OneCall call (test x) (calls_in (part n log))) place (from_k 0 xs log is i x at)
 
 -- ---- sizes
@@ -175,11 +175,11 @@ module _ (t step : ℕ) (first : Shape → Bool) (i : ℕ) where
       ap (λ (z : Stand). first z.shape) was.2 ∙ ap first (shape_kept t was.0 (part j log)) ∙ h j was.0 was.1
 
   -- after the first asking
-  module _ (b : ℕ) (later : t < b) (stands : List Stand) (firsts : ComeFirst stands) (front : List Sent) (asks : Asks t step everyone (comes_first first) b stands front) (mids : List Stand) (mids_are : mids ≡ stands_by t stands front) (m : ℕ) (m_is : m ≡ reached t b mids) where
+  module _ (b : ℕ) (later : t < b) (stands : List Stand) (firsts : ComeFirst stands) (prefix : List Sent) (asks : Asks t step everyone (comes_first first) b stands prefix) (mids : List Stand) (mids_are : mids ≡ stands_by t stands prefix) (m : ℕ) (m_is : m ≡ reached t b mids) where
     mid_within : Each (λ (y : Stand). (t < y.point) × (y.point ≤ b)) mids
     mid_within j y at =
-        let was = stood stands front j y (ap (λ (ss : List Stand). slice_get ss j) (sym mids_are) ∙ at) in
-        let w = own_within b later (first was.0.shape) was.0 (part j front) (own t step everyone (comes_first first) b stands front asks j was.0 was.1) (firsts j was.0 was.1) in
+        let was = stood stands prefix j y (ap (λ (ss : List Stand). slice_get ss j) (sym mids_are) ∙ at) in
+        let w = own_within b later (first was.0.shape) was.0 (part j prefix) (own t step everyone (comes_first first) b stands prefix asks j was.0 was.1) (firsts j was.0 was.1) in
         subst (λ (z : Stand). (t < z.point) × (z.point ≤ b)) (sym was.2) w
 
     end_is : (j : ℕ) (y : Stand) → slice_get mids j ≡ Some y → end_at t b y ≡ y.point
@@ -207,7 +207,7 @@ module _ (t step : ℕ) (first : Shape → Bool) (i : ℕ) where
           unnot false h = refl
 
     -- after the second, where not all are there
-    module _ (back : List Sent) (asks2 : Asks t step (ends_elsewhere t b m) (is_elsewhere m) m mids back) (lasts : List Stand) (lasts_are : lasts ≡ stands_by t mids back) (behind : are_at m lasts ≡ false) (c : ℕ) (c_is : c ≡ reached t m lasts) where
+    module _ (back : List Sent) (asks2 : Asks t step (ends_elsewhere t b m) (is_elsewhere m) m mids back) (lasts : List Stand) (lasts_are : lasts ≡ stands_by t mids back) (after : are_at m lasts ≡ false) (c : ℕ) (c_is : c ≡ reached t m lasts) where
       last_by : (j : ℕ) (y : Stand) → slice_get mids j ≡ Some y → (x : Bool) → is_elsewhere m y ≡ x → (t < (stand_by t y (part j back)).point) × ((stand_by t y (part j back)).point ≤ m)
       last_by j y at true is = own_within m m_within.0 (is_elsewhere m y) y (part j back) (own t step (ends_elsewhere t b m) (is_elsewhere m) m mids back asks2 j y at) is
       last_by j y at false is =
@@ -225,7 +225,7 @@ module _ (t step : ℕ) (first : Shape → Bool) (i : ℕ) where
 
       c_below : (t < c) × (c < m)
       c_below =
-          let miss = not_all (λ (s : Stand). s.point == m) lasts behind in
+          let miss = not_all (λ (s : Stand). s.point == m) lasts after in
           let w = last_within miss.0 miss.1 miss.2 in
           let h = w.1 in
           let n = unequal miss.1.point m miss.3 in
@@ -250,34 +250,34 @@ module _ (t step : ℕ) (first : Shape → Bool) (i : ℕ) where
         none_left : (x : Bool) → SizesFall (if x then Some (b - t) else last) []
         none_left true = tt
         none_left false = tt
-  falls (NextStops b stands log outcome m front back mids asks mids_are m_is apart stops is) later firsts s at last below =
-      let y_at = ap (λ (ss : List Stand). slice_get ss i) mids_are ∙ stand_here t stands front i s at in
-      subst (SizesFall last) (sym (ap (λ (l : List Sent). calls_in (part i l)) is ∙ split_calls i front back))
-      (asks_fall everyone (comes_first first) b stands front asks s at last (λ h. below) (calls_in (part i back))
+  falls (NextStops b stands log outcome m prefix back mids asks mids_are m_is apart stops is) later firsts s at last below =
+      let y_at = ap (λ (ss : List Stand). slice_get ss i) mids_are ∙ stand_here t stands prefix i s at in
+      subst (SizesFall last) (sym (ap (λ (l : List Sent). calls_in (part i l)) is ∙ split_calls i prefix back))
+      (asks_fall everyone (comes_first first) b stands prefix asks s at last (λ h. below) (calls_in (part i back))
       (subst (λ (x : Bool). SizesFall (if x then Some (b - t) else last) (calls_in (part i back))) (sym (firsts i s at))
-      (stops_fall (ends_elsewhere t b m) (is_elsewhere m) m mids back outcome stops (stand_by t s (part i front)) y_at (Some (b - t)) (λ h. next_below b later stands firsts front asks mids mids_are m m_is (stand_by t s (part i front)) y_at h))))
-  falls (NextMeet b stands log outcome m front back mids asks mids_are m_is apart asks2 there is whole_is) later firsts s at last below =
-      let y_at = ap (λ (ss : List Stand). slice_get ss i) mids_are ∙ stand_here t stands front i s at in
-      subst (SizesFall last) (sym (ap (λ (l : List Sent). calls_in (part i l)) whole_is ∙ split_calls i front back))
-      (asks_fall everyone (comes_first first) b stands front asks s at last (λ h. below) (calls_in (part i back))
+      (stops_fall (ends_elsewhere t b m) (is_elsewhere m) m mids back outcome stops (stand_by t s (part i prefix)) y_at (Some (b - t)) (λ h. next_below b later stands firsts prefix asks mids mids_are m m_is (stand_by t s (part i prefix)) y_at h))))
+  falls (NextMeet b stands log outcome m prefix back mids asks mids_are m_is apart asks2 there is whole_is) later firsts s at last below =
+      let y_at = ap (λ (ss : List Stand). slice_get ss i) mids_are ∙ stand_here t stands prefix i s at in
+      subst (SizesFall last) (sym (ap (λ (l : List Sent). calls_in (part i l)) whole_is ∙ split_calls i prefix back))
+      (asks_fall everyone (comes_first first) b stands prefix asks s at last (λ h. below) (calls_in (part i back))
       (subst (λ (x : Bool). SizesFall (if x then Some (b - t) else last) (calls_in (part i back))) (sym (firsts i s at))
-      (whole (Some (b - t)) (calls_in (part i back)) (asks_fall (ends_elsewhere t b m) (is_elsewhere m) m mids back asks2 (stand_by t s (part i front)) y_at (Some (b - t)) (λ h. next_below b later stands firsts front asks mids mids_are m m_is (stand_by t s (part i front)) y_at h) []
-      (none_left (is_elsewhere m (stand_by t s (part i front)))))))) where
+      (whole (Some (b - t)) (calls_in (part i back)) (asks_fall (ends_elsewhere t b m) (is_elsewhere m) m mids back asks2 (stand_by t s (part i prefix)) y_at (Some (b - t)) (λ h. next_below b later stands firsts prefix asks mids mids_are m m_is (stand_by t s (part i prefix)) y_at h) []
+      (none_left (is_elsewhere m (stand_by t s (part i prefix)))))))) where
         none_left : (x : Bool) → SizesFall (if x then Some (m - t) else Some (b - t)) []
         none_left true = tt
         none_left false = tt
-  falls (GoesAnew b stands log outcome m c front back rest mids lasts asks mids_are m_is apart asks2 lasts_are behind c_is more whole_is) later firsts s at last below =
-      let y_at = ap (λ (ss : List Stand). slice_get ss i) mids_are ∙ stand_here t stands front i s at in
-      let z_at = ap (λ (ss : List Stand). slice_get ss i) lasts_are ∙ stand_here t mids back i (stand_by t s (part i front)) y_at in
-      let first_mids = subst ComeFirst (sym mids_are) (firsts_stay stands front firsts) in
+  falls (GoesAnew b stands log outcome m c prefix back rest mids lasts asks mids_are m_is apart asks2 lasts_are after c_is more whole_is) later firsts s at last below =
+      let y_at = ap (λ (ss : List Stand). slice_get ss i) mids_are ∙ stand_here t stands prefix i s at in
+      let z_at = ap (λ (ss : List Stand). slice_get ss i) lasts_are ∙ stand_here t mids back i (stand_by t s (part i prefix)) y_at in
+      let first_mids = subst ComeFirst (sym mids_are) (firsts_stay stands prefix firsts) in
       let first_lasts = subst ComeFirst (sym lasts_are) (firsts_stay mids back first_mids) in
-      subst (SizesFall last) (sym (ap (λ (l : List Sent). calls_in (part i l)) whole_is ∙ split_calls i front (back ++ rest)))
-      (asks_fall everyone (comes_first first) b stands front asks s at last (λ h. below) (calls_in (part i (back ++ rest)))
+      subst (SizesFall last) (sym (ap (λ (l : List Sent). calls_in (part i l)) whole_is ∙ split_calls i prefix (back ++ rest)))
+      (asks_fall everyone (comes_first first) b stands prefix asks s at last (λ h. below) (calls_in (part i (back ++ rest)))
       (subst (λ (x : Bool). SizesFall (if x then Some (b - t) else last) (calls_in (part i (back ++ rest)))) (sym (firsts i s at))
       (subst (SizesFall (Some (b - t))) (sym (split_calls i back rest))
-      (asks_fall (ends_elsewhere t b m) (is_elsewhere m) m mids back asks2 (stand_by t s (part i front)) y_at (Some (b - t)) (λ h. next_below b later stands firsts front asks mids mids_are m m_is (stand_by t s (part i front)) y_at h) (calls_in (part i rest))
-      (falls more (c_below b later stands firsts front asks mids mids_are m m_is back asks2 lasts lasts_are behind c c_is).0 first_lasts (stand_by t (stand_by t s (part i front)) (part i back)) z_at (if is_elsewhere m (stand_by t s (part i front)) then Some (m - t) else Some (b - t))
-      (anew_below b later stands firsts front asks mids mids_are m m_is back asks2 lasts lasts_are behind c c_is (is_elsewhere m (stand_by t s (part i front)))))))))
+      (asks_fall (ends_elsewhere t b m) (is_elsewhere m) m mids back asks2 (stand_by t s (part i prefix)) y_at (Some (b - t)) (λ h. next_below b later stands firsts prefix asks mids mids_are m m_is (stand_by t s (part i prefix)) y_at h) (calls_in (part i rest))
+      (falls more (c_below b later stands firsts prefix asks mids mids_are m m_is back asks2 lasts lasts_are after c c_is).0 first_lasts (stand_by t (stand_by t s (part i prefix)) (part i back)) z_at (if is_elsewhere m (stand_by t s (part i prefix)) then Some (m - t) else Some (b - t))
+      (anew_below b later stands firsts prefix asks mids mids_are m m_is back asks2 lasts lasts_are after c c_is (is_elsewhere m (stand_by t s (part i prefix)))))))))
 
 -- where all come first
 pub all_fall : (t step : ℕ) (first : Shape → Bool) (i b : ℕ) (stands : List Stand) (log : List Sent) (outcome : Outcome) → t < b → ((j : ℕ) (s : Stand) → slice_get stands j ≡ Some s → first s.shape ≡ true) → Agrees t step first b stands log outcome → (s : Stand) → slice_get stands i ≡ Some s → SizesFall None (calls_in (part i log))

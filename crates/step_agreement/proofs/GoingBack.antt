@@ -45,22 +45,22 @@ module _ (t step : ℕ) where
   pub same_shapes : (stands : List Stand) (log : List Sent) → shapes_in (stands_by t stands log) ≡ shapes_in stands
   same_shapes stands log = same_shapes_from 0 stands log
 
-  module _ (b : ℕ) (later : t < b) (stands : List Stand) (front : List Sent) (asks : Asks t step everyone (comes_first (λ (shape : Shape). true)) b stands front) where
+  module _ (b : ℕ) (later : t < b) (stands : List Stand) (prefix : List Sent) (asks : Asks t step everyone (comes_first (λ (shape : Shape). true)) b stands prefix) where
     abbrev pub mids : List Stand
-    mids = stands_by t stands front
+    mids = stands_by t stands prefix
 
     abbrev pub m : ℕ
     m = reached t b mids
 
-    was : (j : ℕ) (y : Stand) → slice_get mids j ≡ Some y → (s : Stand) × (slice_get stands j ≡ Some s) × (y ≡ stand_by t s (part j front))
-    was j y at = stood t step all_first j stands front j y at
+    was : (j : ℕ) (y : Stand) → slice_get mids j ≡ Some y → (s : Stand) × (slice_get stands j ≡ Some s) × (y ≡ stand_by t s (part j prefix))
+    was j y at = stood t step all_first j stands prefix j y at
 
     -- where each ended
     pub first_end : (j : ℕ) (y : Stand) → slice_get mids j ≡ Some y → IsEnd y.shape t (b - t) y.point
     first_end j y at =
         let w = was j y at in
-        let e = own_is_end t b true w.0 (part j front) (own t step everyone (comes_first (λ (shape : Shape). true)) b stands front asks j w.0 w.1) refl in
-        subst (λ (z : Stand). IsEnd z.shape t (b - t) z.point) (sym w.2) (subst (λ (z : Shape). IsEnd z t (b - t) (stand_by t w.0 (part j front)).point) (sym (shape_kept t w.0 (part j front))) e)
+        let e = own_is_end t b true w.0 (part j prefix) (own t step everyone (comes_first (λ (shape : Shape). true)) b stands prefix asks j w.0 w.1) refl in
+        subst (λ (z : Stand). IsEnd z.shape t (b - t) z.point) (sym w.2) (subst (λ (z : Shape). IsEnd z t (b - t) (stand_by t w.0 (part j prefix)).point) (sym (shape_kept t w.0 (part j prefix))) e)
 
     pub counts_as : (j : ℕ) (y : Stand) → slice_get mids j ≡ Some y → end_at t b y ≡ y.point
     counts_as j y at = let e = (first_end j y at).later in ap (λ (z : Bool). if z then b else y.point) (other_number y.point t (omega (arith, e)))

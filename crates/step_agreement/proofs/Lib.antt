@@ -8,7 +8,7 @@ mod Machines
 mod Existence
 mod Falling
 mod GoingBack
-mod Along
+mod RoundInduction
 mod Apart
 mod Turns
 mod Underway

@@ -19,11 +19,11 @@ use Rattle.slot_calls.specs.Log.{Sent, part}
 use Rattle.slot_calls.specs.Replies.{AreReplies, RepliesBy, state_by}
 use Rattle.slot_calls.specs.Stage.{shapes_of}
 use Rattle.slot_calls.proofs.CallerLemmas.{part_append}
-use Rattle.slot_calls.proofs.CallerLemmas.{replies_front}
+use Rattle.slot_calls.proofs.CallerLemmas.{replies_prefix}
 use Rattle.step_agreement.specs.Agreement.{Agrees, Asks, Fails, FirstMeet, FirstStops, GoesAnew, InBack, InStep, IsUnfit, Meets, NextMeet, NextStops, Outcome, Stand, Unfit, are_at, comes_first, end_at, ends_elsewhere, everyone, is_elsewhere, moved, reached, stand_by, stands_by, stands_from}
 use Rattle.step_agreement.specs.Ends.{AllOfThem, AreEnds, ComeFirst, OneAlone, EndsAs, Fmu, ResultAt, asks_in, standing, stepper_of}
 use Rattle.step_agreement.specs.OverMachines.{AgreesOverMachines, IgnoreSlots, MachinesCome, RestoresSaved, asks_last, fmus_of, saved_states, slot_in, steppers_of, with_slot}
-use Rattle.step_agreement.proofs.Agreed.{agrees_by_log, all_back, all_front}
+use Rattle.step_agreement.proofs.Agreed.{agrees_by_log, all_back, all_prefix}
 use Rattle.step_agreement.proofs.Lists.{Each, Holds, all_each, least_is}
 use Rattle.step_agreement.proofs.Moves.{IsEnd, FromAway, FromHere, Own, Skips, good_end, own}
 use Rattle.step_agreement.proofs.Tracks as T
@@ -99,17 +99,17 @@ module _ (m : Machine) (ignores : IgnoresSlot m) (before : MachineState) (slot :
       T.leads_by m ignores before slot t f f_is e later (test s) s shape_is state asks (part i log) (own t step sized test e stands log asked i s at) here saved replies
 
   -- an asking, and what follows it
-  pub leads_then : (sized test : Stand → Bool) (e : ℕ) (stands : List Stand) (front back : List Sent) → Asks t step sized test e stands front → t < e → (s : Stand) → slice_get stands i ≡ Some s → s.shape ≡ f.shape → (state : MachineState) (asks : Bool) → Here s state asks →
-      All Saved (part i (front ++ back)) → RepliesBy m state (part i (front ++ back)) →
-      ((y : Stand) (z : MachineState) (a : Bool) → slice_get (stands_by t stands front) i ≡ Some y → y.shape ≡ f.shape → Here y z a → All Saved (part i back) → RepliesBy m z (part i back) → Leads y z a (part i back)) →
-      Leads s state asks (part i (front ++ back))
-  leads_then sized test e stands front back asked later s at shape_is state asks here saved replies on =
-      let split = part_append i front back in
+  pub leads_then : (sized test : Stand → Bool) (e : ℕ) (stands : List Stand) (prefix back : List Sent) → Asks t step sized test e stands prefix → t < e → (s : Stand) → slice_get stands i ≡ Some s → s.shape ≡ f.shape → (state : MachineState) (asks : Bool) → Here s state asks →
+      All Saved (part i (prefix ++ back)) → RepliesBy m state (part i (prefix ++ back)) →
+      ((y : Stand) (z : MachineState) (a : Bool) → slice_get (stands_by t stands prefix) i ≡ Some y → y.shape ≡ f.shape → Here y z a → All Saved (part i back) → RepliesBy m z (part i back) → Leads y z a (part i back)) →
+      Leads s state asks (part i (prefix ++ back))
+  leads_then sized test e stands prefix back asked later s at shape_is state asks here saved replies on =
+      let split = part_append i prefix back in
       let saved' = subst (All Saved) split saved in
       let replies' = subst (RepliesBy m state) split replies in
-      let one = leads_asked sized test e stands front asked later s at shape_is state asks here (all_front Saved (part i front) (part i back) saved') (replies_front m state (part i front) (part i back) replies') in
-      let rest = on (stand_by t s (part i front)) (state_by m state (part i front)) (asks_last asks (part i front)) (stand_here t stands front i s at) (shape_kept t s (part i front) ∙ shape_is) one.here (all_back Saved (part i front) (part i back) saved') (one.replies (part i back) replies') in
-      subst (Leads s state asks) (sym split) (T.leads_on m ignores before slot t f f_is s state asks (part i front) (part i back) one rest)
+      let one = leads_asked sized test e stands prefix asked later s at shape_is state asks here (all_prefix Saved (part i prefix) (part i back) saved') (replies_prefix m state (part i prefix) (part i back) replies') in
+      let rest = on (stand_by t s (part i prefix)) (state_by m state (part i prefix)) (asks_last asks (part i prefix)) (stand_here t stands prefix i s at) (shape_kept t s (part i prefix) ∙ shape_is) one.here (all_back Saved (part i prefix) (part i back) saved') (one.replies (part i back) replies') in
+      subst (Leads s state asks) (sym split) (T.leads_on m ignores before slot t f f_is s state asks (part i prefix) (part i back) one rest)
 
   pub track : {b : ℕ} {stands : List Stand} {log : List Sent} {outcome : Outcome} → Agrees t step first b stands log outcome → IsGoodOutcome outcome → t < b → Each (NotBefore t) stands → (s : Stand) → slice_get stands i ≡ Some s → s.shape ≡ f.shape →
       (state : MachineState) (asks : Bool) → Here s state asks → All Saved (part i log) → RepliesBy m state (part i log) → Leads s state asks (part i log)
@@ -117,25 +117,25 @@ module _ (m : Machine) (ignores : IgnoresSlot m) (before : MachineState) (slot :
   track (FirstStops b stands log outcome (InBack bad fits fails is)) good later low s at shape_is state asks here saved replies = absurd (subst IsGoodOutcome is good)
   track (FirstStops b stands log outcome (InStep bad backs steps fits back fails log_is is)) good later low s at shape_is state asks here saved replies = absurd (subst IsGoodOutcome is good)
   track (FirstMeet b stands log outcome p asked p_is there is) good later low s at shape_is state asks here saved replies = leads_asked everyone (comes_first first) b stands log asked later s at shape_is state asks here saved replies
-  track (NextStops b stands log outcome p front back mids asked mids_are p_is apart (IsUnfit k h log_is is) whole) good later low s at shape_is state asks here saved replies =
+  track (NextStops b stands log outcome p prefix back mids asked mids_are p_is apart (IsUnfit k h log_is is) whole) good later low s at shape_is state asks here saved replies =
       subst (λ (l : List Sent). Leads s state asks (part i l)) (sym whole)
-      (leads_then everyone (comes_first first) b stands front back asked later s at shape_is state asks here (subst (λ (l : List Sent). All Saved (part i l)) whole saved) (subst (λ (l : List Sent). RepliesBy m state (part i l)) whole replies)
+      (leads_then everyone (comes_first first) b stands prefix back asked later s at shape_is state asks here (subst (λ (l : List Sent). All Saved (part i l)) whole saved) (subst (λ (l : List Sent). RepliesBy m state (part i l)) whole replies)
       (λ y z a y_at y_shape y_here y_saved y_replies. leads_none y z a back log_is y_here))
-  track (NextStops b stands log outcome p front back mids asked mids_are p_is apart (InBack bad fits fails is) whole) good later low s at shape_is state asks here saved replies = absurd (subst IsGoodOutcome is good)
-  track (NextStops b stands log outcome p front back mids asked mids_are p_is apart (InStep bad backs steps fits backed fails log_is is) whole) good later low s at shape_is state asks here saved replies = absurd (subst IsGoodOutcome is good)
-  track (NextMeet b stands log outcome p front back mids asked mids_are p_is apart asked2 there is whole) good later low s at shape_is state asks here saved replies =
-      let low_mids = subst (Each (NotBefore t)) (sym mids_are) (asks_later t step everyone (comes_first first) b stands front asked low) in
+  track (NextStops b stands log outcome p prefix back mids asked mids_are p_is apart (InBack bad fits fails is) whole) good later low s at shape_is state asks here saved replies = absurd (subst IsGoodOutcome is good)
+  track (NextStops b stands log outcome p prefix back mids asked mids_are p_is apart (InStep bad backs steps fits backed fails log_is is) whole) good later low s at shape_is state asks here saved replies = absurd (subst IsGoodOutcome is good)
+  track (NextMeet b stands log outcome p prefix back mids asked mids_are p_is apart asked2 there is whole) good later low s at shape_is state asks here saved replies =
+      let low_mids = subst (Each (NotBefore t)) (sym mids_are) (asks_later t step everyone (comes_first first) b stands prefix asked low) in
       let p_later = subst (λ (n : ℕ). t < n) (sym p_is) (reached_later t b mids later low_mids) in
       subst (λ (l : List Sent). Leads s state asks (part i l)) (sym whole)
-      (leads_then everyone (comes_first first) b stands front back asked later s at shape_is state asks here (subst (λ (l : List Sent). All Saved (part i l)) whole saved) (subst (λ (l : List Sent). RepliesBy m state (part i l)) whole replies)
+      (leads_then everyone (comes_first first) b stands prefix back asked later s at shape_is state asks here (subst (λ (l : List Sent). All Saved (part i l)) whole saved) (subst (λ (l : List Sent). RepliesBy m state (part i l)) whole replies)
       (λ y z a y_at y_shape y_here y_saved y_replies. leads_asked (ends_elsewhere t b p) (is_elsewhere p) p mids back asked2 p_later y (ap (λ (ss : List Stand). slice_get ss i) mids_are ∙ y_at) y_shape z a y_here y_saved y_replies))
-  track (GoesAnew b stands log outcome p c front back rest mids lasts asked mids_are p_is apart asked2 lasts_are behind c_is more whole) good later low s at shape_is state asks here saved replies =
-      let low_mids = subst (Each (NotBefore t)) (sym mids_are) (asks_later t step everyone (comes_first first) b stands front asked low) in
+  track (GoesAnew b stands log outcome p c prefix back rest mids lasts asked mids_are p_is apart asked2 lasts_are beyond c_is more whole) good later low s at shape_is state asks here saved replies =
+      let low_mids = subst (Each (NotBefore t)) (sym mids_are) (asks_later t step everyone (comes_first first) b stands prefix asked low) in
       let p_later = subst (λ (n : ℕ). t < n) (sym p_is) (reached_later t b mids later low_mids) in
       let low_lasts = subst (Each (NotBefore t)) (sym lasts_are) (asks_later t step (ends_elsewhere t b p) (is_elsewhere p) p mids back asked2 low_mids) in
       let c_later = subst (λ (n : ℕ). t < n) (sym c_is) (reached_later t p lasts p_later low_lasts) in
       subst (λ (l : List Sent). Leads s state asks (part i l)) (sym whole)
-      (leads_then everyone (comes_first first) b stands front (back ++ rest) asked later s at shape_is state asks here (subst (λ (l : List Sent). All Saved (part i l)) whole saved) (subst (λ (l : List Sent). RepliesBy m state (part i l)) whole replies)
+      (leads_then everyone (comes_first first) b stands prefix (back ++ rest) asked later s at shape_is state asks here (subst (λ (l : List Sent). All Saved (part i l)) whole saved) (subst (λ (l : List Sent). RepliesBy m state (part i l)) whole replies)
       (λ y z a y_at y_shape y_here y_saved y_replies. leads_then (ends_elsewhere t b p) (is_elsewhere p) p mids back rest asked2 p_later y (ap (λ (ss : List Stand). slice_get ss i) mids_are ∙ y_at) y_shape z a y_here y_saved y_replies
       (λ u v d u_at u_shape u_here u_saved u_replies. track more good c_later low_lasts u (ap (λ (ss : List Stand). slice_get ss i) lasts_are ∙ u_at) u_shape v d u_here u_saved u_replies)))
 

@@ -9,7 +9,7 @@ use Rattle.value_types.specs.declared.shape.Shape.{Shape}
 use Rattle.fmi_calls.specs.declared.call.Call.{Call}
 use Rattle.fmi_calls.specs.declared.call.Call.TheVariants as C
 use Rattle.run_model.specs.Steps.{least_or}
-use Rattle.slot_calls.specs.Log.{Asking, Sent, askings, part}
+use Rattle.slot_calls.specs.Log.{ComponentCall, Sent, component_calls, part}
 use Rattle.slot_calls.specs.Stage.{FailsIn, IsAnswered}
 use Rattle.step_agreement.specs.Agreement.{Agrees, Asks, FirstMeet, FirstStops, GoesAnew, InBack, InStep, IsUnfit, NextMeet, NextStops, Outcome, Stand, Stops, are_at, comes_first, end_at, ends_elsewhere, everyone, is_away, is_elsewhere, putting_back, reached, shapes_in, stand_by, stands_by, to_some_from}
 use Rattle.step_agreement.proofs.Apart.{no_asking, round_calls}
@@ -50,26 +50,26 @@ module _ (t step : ℕ) (sized test : Stand → Bool) (e : ℕ) (stands : List S
         ap (λ (x : Bool). if x then record { component = k; call = C.Restore } ∷ to_some_from (k + 1) (is_away t test) C.Restore ss else to_some_from (k + 1) (is_away t test) C.Restore ss)
         (off s (test s) refl (h 0 s refl)) ∙ by (k + 1) ss (λ i x at. h (suc i) x at)
 
-  pub no_log : (log : List Sent) → askings log ≡ [] → log ≡ []
+  pub no_log : (log : List Sent) → component_calls log ≡ [] → log ≡ []
   no_log [] is = refl
   no_log (s ∷ log) is = absurd (cc)
 
   backs_none : (backs : List Sent) → IsAnswered (shapes_in stands) (putting_back t test stands) backs → backs ≡ []
   backs_none backs back = no_log backs (back.calls_are ∙ none_back)
 
-  steps_no_back : (steps : List Sent) → askings steps ≡ to_some_from 0 test (C.DoStep t (e - t)) stands → All IsNoBack steps
+  steps_no_back : (steps : List Sent) → component_calls steps ≡ to_some_from 0 test (C.DoStep t (e - t)) stands → All IsNoBack steps
   steps_no_back steps is = round_calls (λ (c : Call). c ≡ C.Restore → ⊥) test (C.DoStep t (e - t)) (no_back_step t (e - t)) stands steps is
 
-  behind_none : (log backs steps : List Sent) → log ≡ backs ++ steps → IsAnswered (shapes_in stands) (putting_back t test stands) backs → log ≡ steps
-  behind_none log backs steps is back = is ∙ ap (λ (l : List Sent). l ++ steps) (backs_none backs back)
+  after_none : (log backs steps : List Sent) → log ≡ backs ++ steps → IsAnswered (shapes_in stands) (putting_back t test stands) backs → log ≡ steps
+  after_none log backs steps is back = is ∙ ap (λ (l : List Sent). l ++ steps) (backs_none backs back)
 
   pub asks_no_back : (log : List Sent) → Asks t step sized test e stands log → All IsNoBack log
-  asks_no_back log a = subst (All IsNoBack) (sym (behind_none log a.backs a.steps a.log_is a.back)) (steps_no_back a.steps a.stepped.calls_are)
+  asks_no_back log a = subst (All IsNoBack) (sym (after_none log a.backs a.steps a.log_is a.back)) (steps_no_back a.steps a.stepped.calls_are)
 
   pub stops_no_back : (log : List Sent) (outcome : Outcome) → Stops t step sized test e stands log outcome → All IsNoBack log
   stops_no_back log outcome (IsUnfit i h none is) = subst (All IsNoBack) (sym none) (All-nil IsNoBack)
-  stops_no_back log outcome (InBack bad fits fails is) = absurd (no_asking (shapes_in stands) bad log (subst (λ (calls : List Asking). FailsIn (shapes_in stands) calls bad log) none_back fails))
-  stops_no_back log outcome (InStep bad backs steps fits back fails log_is is) = subst (All IsNoBack) (sym (behind_none log backs steps log_is back)) (steps_no_back steps fails.calls_are)
+  stops_no_back log outcome (InBack bad fits fails is) = absurd (no_asking (shapes_in stands) bad log (subst (λ (calls : List ComponentCall). FailsIn (shapes_in stands) calls bad log) none_back fails))
+  stops_no_back log outcome (InStep bad backs steps fits back fails log_is is) = subst (All IsNoBack) (sym (after_none log backs steps log_is back)) (steps_no_back steps fails.calls_are)
 
 -- ---- one alone might return early
 
@@ -86,26 +86,26 @@ module _ (t step : ℕ) where
   stood_at stands log j y at = stood t step one_first j stands log j y at
 
   -- after the first asking
-  module _ (b : ℕ) (later : t < b) (stands : List Stand) (home : Each (λ (s : Stand). s.point ≡ t) stands) (alone : OneEarlyIn stands) (front : List Sent) (asks : Asks t step everyone (comes_first one_first) b stands front)
-      (mids : List Stand) (mids_are : mids ≡ stands_by t stands front) (m : ℕ) (m_is : m ≡ reached t b mids) where
-    was : (j : ℕ) (y : Stand) → slice_get mids j ≡ Some y → (s : Stand) × (slice_get stands j ≡ Some s) × (y ≡ stand_by t s (part j front))
-    was j y at = stood_at stands front j y (ap (λ (ss : List Stand). slice_get ss j) (sym mids_are) ∙ at)
+  module _ (b : ℕ) (later : t < b) (stands : List Stand) (home : Each (λ (s : Stand). s.point ≡ t) stands) (alone : OneEarlyIn stands) (prefix : List Sent) (asks : Asks t step everyone (comes_first one_first) b stands prefix)
+      (mids : List Stand) (mids_are : mids ≡ stands_by t stands prefix) (m : ℕ) (m_is : m ≡ reached t b mids) where
+    was : (j : ℕ) (y : Stand) → slice_get mids j ≡ Some y → (s : Stand) × (slice_get stands j ≡ Some s) × (y ≡ stand_by t s (part j prefix))
+    was j y at = stood_at stands prefix j y (ap (λ (ss : List Stand). slice_get ss j) (sym mids_are) ∙ at)
 
     shape_is : (j : ℕ) (y : Stand) (at : slice_get mids j ≡ Some y) → y.shape ≡ (was j y at).0.shape
-    shape_is j y at = let w = was j y at in ap (λ (z : Stand). z.shape) w.2 ∙ shape_kept t w.0 (part j front)
+    shape_is j y at = let w = was j y at in ap (λ (z : Stand). z.shape) w.2 ∙ shape_kept t w.0 (part j prefix)
 
     -- one that comes first
     asked_end : (j : ℕ) (y : Stand) → slice_get mids j ≡ Some y → one_first y.shape ≡ true → IsEnd y.shape t (b - t) y.point
     asked_end j y at h =
         let w = was j y at in
-        let e = own_is_end t b (one_first w.0.shape) w.0 (part j front) (own t step everyone (comes_first one_first) b stands front asks j w.0 w.1) (ap one_first (sym (shape_is j y at)) ∙ h) in
+        let e = own_is_end t b (one_first w.0.shape) w.0 (part j prefix) (own t step everyone (comes_first one_first) b stands prefix asks j w.0 w.1) (ap one_first (sym (shape_is j y at)) ∙ h) in
         subst (λ (z : Shape). IsEnd z t (b - t) y.point) (sym (shape_is j y at)) (subst (λ (z : Stand). IsEnd w.0.shape t (b - t) z.point) (sym w.2) e)
 
     -- one that waits
     pub waits : (j : ℕ) (y : Stand) → slice_get mids j ≡ Some y → one_first y.shape ≡ false → y.point ≡ t
     waits j y at h =
         let w = was j y at in
-        ap (λ (z : Stand). z.point) (w.2 ∙ own_stays t step one_first j b (one_first w.0.shape) w.0 (part j front) (own t step everyone (comes_first one_first) b stands front asks j w.0 w.1) (ap one_first (sym (shape_is j y at)) ∙ h)) ∙ home j w.0 w.1
+        ap (λ (z : Stand). z.point) (w.2 ∙ own_stays t step one_first j b (one_first w.0.shape) w.0 (part j prefix) (own t step everyone (comes_first one_first) b stands prefix asks j w.0 w.1) (ap one_first (sym (shape_is j y at)) ∙ h)) ∙ home j w.0 w.1
 
     -- what it counts as, and that it is the bound where it may not end early
     end_by : (j : ℕ) (y : Stand) → slice_get mids j ≡ Some y → (x : Bool) → one_first y.shape ≡ x → (t < end_at t b y) × (end_at t b y ≤ b) × (y.shape.might_return_early ≡ false → end_at t b y ≡ b)
@@ -168,8 +168,8 @@ module _ (t step : ℕ) where
     module _ (back : List Sent) (asks2 : Asks t step (ends_elsewhere t b m) (is_elsewhere m) m mids back) where
       -- all are there then
       pub all_meet : are_at m (stands_by t mids back) ≡ false → ⊥
-      all_meet behind =
-          let miss = not_all (λ (s : Stand). s.point == m) (stands_by t mids back) behind in
+      all_meet after =
+          let miss = not_all (λ (s : Stand). s.point == m) (stands_by t mids back) after in
           let w = stood_at mids back miss.0 miss.1 miss.2 in
           by miss.0 miss.1 w.0 w.1 w.2 (unequal miss.1.point m miss.3) (is_elsewhere m w.0) refl where
             unflip : (x : Bool) → not x ≡ false → x ≡ true
@@ -189,13 +189,13 @@ module _ (t step : ℕ) where
   pub none_goes_back : (b : ℕ) (stands : List Stand) (log : List Sent) (outcome : Outcome) → t < b → Each (λ (s : Stand). s.point ≡ t) stands → OneEarlyIn stands → Agrees t step one_first b stands log outcome → All IsNoBack log
   none_goes_back _ _ _ _ later home alone (FirstStops b stands log outcome stops) = stops_no_back t step everyone (comes_first one_first) b stands (λ i s at h. home i s at) log outcome stops
   none_goes_back _ _ _ _ later home alone (FirstMeet b stands log outcome m asks m_is there is) = asks_no_back t step everyone (comes_first one_first) b stands (λ i s at h. home i s at) log asks
-  none_goes_back _ _ _ _ later home alone (NextStops b stands log outcome m front back mids asks mids_are m_is apart stops whole) =
+  none_goes_back _ _ _ _ later home alone (NextStops b stands log outcome m prefix back mids asks mids_are m_is apart stops whole) =
       subst (All IsNoBack) (sym whole)
-      (All-append IsNoBack front back (asks_no_back t step everyone (comes_first one_first) b stands (λ i s at h. home i s at) front asks)
-      (stops_no_back t step (ends_elsewhere t b m) (is_elsewhere m) m mids (λ i y at h. (elsewhere_waits b later stands home alone front asks mids mids_are m m_is i y at h).0) back outcome stops))
-  none_goes_back _ _ _ _ later home alone (NextMeet b stands log outcome m front back mids asks mids_are m_is apart asks2 there is whole) =
+      (All-append IsNoBack prefix back (asks_no_back t step everyone (comes_first one_first) b stands (λ i s at h. home i s at) prefix asks)
+      (stops_no_back t step (ends_elsewhere t b m) (is_elsewhere m) m mids (λ i y at h. (elsewhere_waits b later stands home alone prefix asks mids mids_are m m_is i y at h).0) back outcome stops))
+  none_goes_back _ _ _ _ later home alone (NextMeet b stands log outcome m prefix back mids asks mids_are m_is apart asks2 there is whole) =
       subst (All IsNoBack) (sym whole)
-      (All-append IsNoBack front back (asks_no_back t step everyone (comes_first one_first) b stands (λ i s at h. home i s at) front asks)
-      (asks_no_back t step (ends_elsewhere t b m) (is_elsewhere m) m mids (λ i y at h. (elsewhere_waits b later stands home alone front asks mids mids_are m m_is i y at h).0) back asks2))
-  none_goes_back _ _ _ _ later home alone (GoesAnew b stands log outcome m c front back rest mids lasts asks mids_are m_is apart asks2 lasts_are behind c_is more whole) =
-      absurd (all_meet b later stands home alone front asks mids mids_are m m_is back asks2 (ap (are_at m) (sym lasts_are) ∙ behind))
+      (All-append IsNoBack prefix back (asks_no_back t step everyone (comes_first one_first) b stands (λ i s at h. home i s at) prefix asks)
+      (asks_no_back t step (ends_elsewhere t b m) (is_elsewhere m) m mids (λ i y at h. (elsewhere_waits b later stands home alone prefix asks mids mids_are m m_is i y at h).0) back asks2))
+  none_goes_back _ _ _ _ later home alone (GoesAnew b stands log outcome m c prefix back rest mids lasts asks mids_are m_is apart asks2 lasts_are after c_is more whole) =
+      absurd (all_meet b later stands home alone prefix asks mids mids_are m m_is back asks2 (ap (are_at m) (sym lasts_are) ∙ after))

@@ -9,7 +9,7 @@ use Rattle.std.proofs.lemmas.Option.{slice_get-map}
 use Rattle.value_types.specs.declared.shape.Shape.{Shape}
 use Rattle.fmi_calls.specs.declared.call.Call.TheVariants as C
 use Rattle.system_model.specs.EarlyReturn.{early_count}
-use Rattle.slot_calls.specs.Log.{Asking, Sent, askings}
+use Rattle.slot_calls.specs.Log.{ComponentCall, Sent, component_calls}
 use Rattle.slot_calls.specs.Stage.{IsGoodOf}
 use Rattle.slot_calls.proofs.CallerLemmas.{sent_all}
 use Rattle.step_agreement.specs.Agreement.{Agrees, Asks, FirstMeet, FirstStops, GoesAnew, InBack, InStep, IsUnfit, Meets, NextMeet, NextStops, Outcome, Stand, Stops, are_at, comes_first, ends_elsewhere, everyone, is_away, is_elsewhere, putting_back, reached, shapes_in, stands_by, stands_from, stepping}
@@ -36,19 +36,19 @@ module _ (t step : ℕ) (first : Shape → Bool) where
   first_next b stands = record { sized = everyone; test = comes_first first; e = b; stands = stands }
 
   abbrev pub mids : List Stand → List Sent → List Stand
-  mids stands front = stands_by t stands front
+  mids stands prefix = stands_by t stands prefix
 
   -- the least end
   abbrev pub least_end : ℕ → List Stand → List Sent → ℕ
-  least_end b stands front = reached t b (stands_by t stands front)
+  least_end b stands prefix = reached t b (stands_by t stands prefix)
 
   -- the others are asked for it
   abbrev pub other_next : ℕ → List Stand → List Sent → Next
-  other_next b stands front = record {
-    sized = ends_elsewhere t b (least_end b stands front);
-    test = is_elsewhere (least_end b stands front);
-    e = least_end b stands front;
-    stands = stands_by t stands front;
+  other_next b stands prefix = record {
+    sized = ends_elsewhere t b (least_end b stands prefix);
+    test = is_elsewhere (least_end b stands prefix);
+    e = least_end b stands prefix;
+    stands = stands_by t stands prefix;
   }
 
   abbrev pub AsksNext : Next → List Sent → Type 0
@@ -58,9 +58,9 @@ module _ (t step : ℕ) (first : Shape → Bool) where
   pub data Underway : ℕ → List Stand → List Sent → Next → Type 0 where
     Begins : (b : ℕ) (stands : List Stand) (log : List Sent) (next : Next) → log ≡ [] → next ≡ first_next b stands → Underway b stands log next
     Others : (b : ℕ) (stands : List Stand) (log : List Sent) (next : Next) → AsksNext (first_next b stands) log → are_at (least_end b stands log) (stands_by t stands log) ≡ false → next ≡ other_next b stands log → Underway b stands log next
-    Anew : (b : ℕ) (stands : List Stand) (log : List Sent) (next : Next) (front back rest : List Sent) → AsksNext (first_next b stands) front → are_at (least_end b stands front) (stands_by t stands front) ≡ false →
-        AsksNext (other_next b stands front) back → are_at (least_end b stands front) (stands_by t (stands_by t stands front) back) ≡ false →
-        Underway (least_end (least_end b stands front) (stands_by t stands front) back) (stands_by t (stands_by t stands front) back) rest next → log ≡ front ++ (back ++ rest) → Underway b stands log next
+    Anew : (b : ℕ) (stands : List Stand) (log : List Sent) (next : Next) (prefix back rest : List Sent) → AsksNext (first_next b stands) prefix → are_at (least_end b stands prefix) (stands_by t stands prefix) ≡ false →
+        AsksNext (other_next b stands prefix) back → are_at (least_end b stands prefix) (stands_by t (stands_by t stands prefix) back) ≡ false →
+        Underway (least_end (least_end b stands prefix) (stands_by t stands prefix) back) (stands_by t (stands_by t stands prefix) back) rest next → log ≡ prefix ++ (back ++ rest) → Underway b stands log next
 
   -- they were asked, and met, or they couldn't be, or one of them answered badly
   pub data Closes (next : Next) (log : List Sent) (outcome : Outcome) : Type 0 where
@@ -69,40 +69,40 @@ module _ (t step : ℕ) (first : Shape → Bool) where
 
   -- each agreement ends with an asking
   pub record Lasts (b : ℕ) (stands : List Stand) (log : List Sent) (outcome : Outcome) : Type 0 where
-    pub front : List Sent
+    pub prefix : List Sent
     pub more : List Sent
     pub next : Next
-    pub log_is : log ≡ front ++ more
-    pub under : Underway b stands front next
+    pub log_is : log ≡ prefix ++ more
+    pub under : Underway b stands prefix next
     pub closes : Closes next more outcome
 
   -- what is said of the least end and where they stand is said of these
-  own : (b : ℕ) (stands : List Stand) (front : List Sent) (P : ℕ → List Stand → Type 0) (m : ℕ) (xs : List Stand) → xs ≡ stands_by t stands front → m ≡ reached t b xs → P m xs → P (least_end b stands front) (stands_by t stands front)
-  own b stands front P m xs xs_is m_is h = subst (λ (ys : List Stand). P (reached t b ys) ys) xs_is (subst (λ (n : ℕ). P n xs) m_is h)
+  own : (b : ℕ) (stands : List Stand) (prefix : List Sent) (P : ℕ → List Stand → Type 0) (m : ℕ) (xs : List Stand) → xs ≡ stands_by t stands prefix → m ≡ reached t b xs → P m xs → P (least_end b stands prefix) (stands_by t stands prefix)
+  own b stands prefix P m xs xs_is m_is h = subst (λ (ys : List Stand). P (reached t b ys) ys) xs_is (subst (λ (n : ℕ). P n xs) m_is h)
 
   pub lasts : (b : ℕ) (stands : List Stand) (log : List Sent) (outcome : Outcome) → Agrees t step first b stands log outcome → Lasts b stands log outcome
-  lasts _ _ _ _ (FirstStops b stands log outcome h) = record { front = []; more = log; next = first_next b stands; log_is = refl; under = Begins b stands [] (first_next b stands) refl refl; closes = Stopped h }
-  lasts _ _ _ _ (FirstMeet b stands log outcome m asks m_is there is) = record { front = []; more = log; next = first_next b stands; log_is = refl; under = Begins b stands [] (first_next b stands) refl refl; closes = Met m asks is }
-  lasts _ _ _ _ (NextStops b stands log outcome m front back xs asks xs_is m_is apart h log_is) =
+  lasts _ _ _ _ (FirstStops b stands log outcome h) = record { prefix = []; more = log; next = first_next b stands; log_is = refl; under = Begins b stands [] (first_next b stands) refl refl; closes = Stopped h }
+  lasts _ _ _ _ (FirstMeet b stands log outcome m asks m_is there is) = record { prefix = []; more = log; next = first_next b stands; log_is = refl; under = Begins b stands [] (first_next b stands) refl refl; closes = Met m asks is }
+  lasts _ _ _ _ (NextStops b stands log outcome m prefix back xs asks xs_is m_is apart h log_is) =
       let P : ℕ → List Stand → Type 0 = λ n ys. (are_at n ys ≡ false) × Stops t step (ends_elsewhere t b n) (is_elsewhere n) n ys back outcome in
-      let so : P (least_end b stands front) (stands_by t stands front) = own b stands front P m xs xs_is m_is (apart, h) in
-      record { front = front; more = back; next = other_next b stands front; log_is = log_is; under = Others b stands front (other_next b stands front) asks so.0 refl; closes = Stopped so.1 }
-  lasts _ _ _ _ (NextMeet b stands log outcome m front back xs asks xs_is m_is apart asks2 there is log_is) =
+      let so : P (least_end b stands prefix) (stands_by t stands prefix) = own b stands prefix P m xs xs_is m_is (apart, h) in
+      record { prefix = prefix; more = back; next = other_next b stands prefix; log_is = log_is; under = Others b stands prefix (other_next b stands prefix) asks so.0 refl; closes = Stopped so.1 }
+  lasts _ _ _ _ (NextMeet b stands log outcome m prefix back xs asks xs_is m_is apart asks2 there is log_is) =
       let P : ℕ → List Stand → Type 0 = λ n ys. (are_at n ys ≡ false) × Asks t step (ends_elsewhere t b n) (is_elsewhere n) n ys back in
-      let so : P (least_end b stands front) (stands_by t stands front) = own b stands front P m xs xs_is m_is (apart, asks2) in
-      record { front = front; more = back; next = other_next b stands front; log_is = log_is; under = Others b stands front (other_next b stands front) asks so.0 refl; closes = Met m so.1 is }
-  lasts _ _ _ _ (GoesAnew b stands log outcome m c front back rest xs ys asks xs_is m_is apart asks2 ys_is behind c_is more log_is) =
+      let so : P (least_end b stands prefix) (stands_by t stands prefix) = own b stands prefix P m xs xs_is m_is (apart, asks2) in
+      record { prefix = prefix; more = back; next = other_next b stands prefix; log_is = log_is; under = Others b stands prefix (other_next b stands prefix) asks so.0 refl; closes = Met m so.1 is }
+  lasts _ _ _ _ (GoesAnew b stands log outcome m c prefix back rest xs ys asks xs_is m_is apart asks2 ys_is after c_is more log_is) =
       let R : ℕ → List Stand → Type 0 = λ n zs. Lasts n zs rest outcome in
       let fell : R (reached t m (stands_by t xs back)) (stands_by t xs back) = subst (λ (zs : List Stand). R (reached t m zs) zs) ys_is (subst (λ (n : ℕ). R n ys) c_is (lasts c ys rest outcome more)) in
       let P : ℕ → List Stand → Type 0 = λ n zs. (are_at n zs ≡ false) × (Asks t step (ends_elsewhere t b n) (is_elsewhere n) n zs back × ((are_at n (stands_by t zs back) ≡ false) × R (reached t n (stands_by t zs back)) (stands_by t zs back))) in
-      let so : P (least_end b stands front) (stands_by t stands front) = own b stands front P m xs xs_is m_is (apart, (asks2, (ap (are_at m) (sym ys_is) ∙ behind, fell))) in
+      let so : P (least_end b stands prefix) (stands_by t stands prefix) = own b stands prefix P m xs xs_is m_is (apart, (asks2, (ap (are_at m) (sym ys_is) ∙ after, fell))) in
       let l = so.1.1.1 in
       record {
-        front = front ++ (back ++ l.front);
+        prefix = prefix ++ (back ++ l.prefix);
         more = l.more;
         next = l.next;
-        log_is = log_is ∙ ap (λ (x : List Sent). front ++ (back ++ x)) l.log_is ∙ ap (λ (x : List Sent). front ++ x) (sym (append_assoc back l.front l.more)) ∙ sym (append_assoc front (back ++ l.front) l.more);
-        under = Anew b stands (front ++ (back ++ l.front)) l.next front back l.front asks so.0 so.1.0 so.1.1.0 l.under refl;
+        log_is = log_is ∙ ap (λ (x : List Sent). prefix ++ (back ++ x)) l.log_is ∙ ap (λ (x : List Sent). prefix ++ x) (sym (append_assoc back l.prefix l.more)) ∙ sym (append_assoc prefix (back ++ l.prefix) l.more);
+        under = Anew b stands (prefix ++ (back ++ l.prefix)) l.next prefix back l.prefix asks so.0 so.1.0 so.1.1.0 l.under refl;
         closes = l.closes;
       }
 
@@ -117,18 +117,18 @@ module _ (t step : ℕ) where
   all_meet_within _ _ _ _ p at later (FirstStops b stands log outcome (InStep bad backs steps fits back fails log_is is)) = absurd (let wrong = sym at ∙ is in cc)
   all_meet_within _ _ _ _ p at later (FirstMeet b stands log outcome m asks m_is there is) =
       let same : m ≡ p = same_point m p (sym is ∙ at) in let l = m_within t step b later stands log asks in omega (arith, same, m_is, l)
-  all_meet_within _ _ _ _ p at later (NextStops b stands log outcome m front back xs asks xs_is m_is apart (IsUnfit i unfit none is) log_is) = absurd (let wrong = sym at ∙ is in cc)
-  all_meet_within _ _ _ _ p at later (NextStops b stands log outcome m front back xs asks xs_is m_is apart (InBack bad fits fails is) log_is) = absurd (let wrong = sym at ∙ is in cc)
-  all_meet_within _ _ _ _ p at later (NextStops b stands log outcome m front back xs asks xs_is m_is apart (InStep bad backs steps fits back_good fails steps_is is) log_is) = absurd (let wrong = sym at ∙ is in cc)
-  all_meet_within _ _ _ _ p at later (NextMeet b stands log outcome m front back xs asks xs_is m_is apart asks2 there is log_is) =
-      let same : m ≡ p = same_point m p (sym is ∙ at) in let l = m_within t step b later stands front asks in let own_m = m_is ∙ ap (reached t b) xs_is in omega (arith, same, own_m, l)
-  all_meet_within _ _ _ _ p at later (GoesAnew b stands log outcome m c front back rest xs ys asks xs_is m_is apart asks2 ys_is behind c_is more log_is) =
+  all_meet_within _ _ _ _ p at later (NextStops b stands log outcome m prefix back xs asks xs_is m_is apart (IsUnfit i unfit none is) log_is) = absurd (let wrong = sym at ∙ is in cc)
+  all_meet_within _ _ _ _ p at later (NextStops b stands log outcome m prefix back xs asks xs_is m_is apart (InBack bad fits fails is) log_is) = absurd (let wrong = sym at ∙ is in cc)
+  all_meet_within _ _ _ _ p at later (NextStops b stands log outcome m prefix back xs asks xs_is m_is apart (InStep bad backs steps fits back_good fails steps_is is) log_is) = absurd (let wrong = sym at ∙ is in cc)
+  all_meet_within _ _ _ _ p at later (NextMeet b stands log outcome m prefix back xs asks xs_is m_is apart asks2 there is log_is) =
+      let same : m ≡ p = same_point m p (sym is ∙ at) in let l = m_within t step b later stands prefix asks in let own_m = m_is ∙ ap (reached t b) xs_is in omega (arith, same, own_m, l)
+  all_meet_within _ _ _ _ p at later (GoesAnew b stands log outcome m c prefix back rest xs ys asks xs_is m_is apart asks2 ys_is after c_is more log_is) =
       let P : ℕ → List Stand → Type 0 = λ n zs. Asks t step (ends_elsewhere t b n) (is_elsewhere n) n zs back × ((are_at n (stands_by t zs back) ≡ false) × (c ≡ reached t n (stands_by t zs back))) in
-      let so : P (reached t b (stands_by t stands front)) (stands_by t stands front) = own t step all_first b stands front P m xs xs_is m_is (asks2, (ap (are_at m) (sym ys_is) ∙ behind, c_is ∙ ap (reached t m) ys_is)) in
+      let so : P (reached t b (stands_by t stands prefix)) (stands_by t stands prefix) = own t step all_first b stands prefix P m xs xs_is m_is (asks2, (ap (are_at m) (sym ys_is) ∙ after, c_is ∙ ap (reached t m) ys_is)) in
       let same = so.1.1 in
-      let low = c_before t step b later stands front asks back so.0 so.1.0 in
-      let above = c_later t step b later stands front asks back so.0 in
-      let m_low = m_within t step b later stands front asks in
+      let low = c_before t step b later stands prefix asks back so.0 so.1.0 in
+      let above = c_later t step b later stands prefix asks back so.0 in
+      let m_low = m_within t step b later stands prefix asks in
       let rest_within = all_meet_within c ys rest outcome p at (omega (arith, same, above)) more in
       omega (arith, same, low, m_low, rest_within)
 
@@ -159,9 +159,9 @@ module _ (t step : ℕ) where
       ap (λ o. option_map_or (λ (shape : Shape). is_saved (early_count (shapes_in stands)) shape) o false) (slice_get-map (λ (x : Stand). x.shape) stands i ∙ ap (option_map (λ (x : Stand). x.shape)) at) ∙ h
 
   module _ (test : Stand → Bool) (stands : List Stand) (saved : AreSaved t test stands) where
-    kept_back : (log : List Sent) → askings log ≡ putting_back t test stands → All (IsKept (shapes_in stands)) log
-    kept_back log is = sent_all (λ (a : Asking). a.call ≡ C.Restore → saved_in (shapes_in stands) a.component ≡ true) log (putting_back t test stands) is
-        (All-weaker (IsTo (is_away t test) (λ (s : Stand). C.Restore) 0 stands) (λ (a : Asking). a.call ≡ C.Restore → saved_in (shapes_in stands) a.component ≡ true)
+    kept_back : (log : List Sent) → component_calls log ≡ putting_back t test stands → All (IsKept (shapes_in stands)) log
+    kept_back log is = sent_all (λ (a : ComponentCall). a.call ≡ C.Restore → saved_in (shapes_in stands) a.component ≡ true) log (putting_back t test stands) is
+        (All-weaker (IsTo (is_away t test) (λ (s : Stand). C.Restore) 0 stands) (λ (a : ComponentCall). a.call ≡ C.Restore → saved_in (shapes_in stands) a.component ≡ true)
         (λ a to restore.
         let x = away_is test to.one to.asked in
         let at = to.at in
@@ -169,9 +169,9 @@ module _ (t step : ℕ) where
         subst (λ (n : ℕ). saved_in (shapes_in stands) n ≡ true) place (saved_there stands to.place to.one to.is (saved to.place to.one to.is x.0 x.1)))
         (putting_back t test stands) (those_to (is_away t test) (λ (s : Stand). C.Restore) 0 stands))
 
-    kept_steps : (e : ℕ) (log : List Sent) → askings log ≡ stepping t e test stands → All (IsKept (shapes_in stands)) log
-    kept_steps e log is = sent_all (λ (a : Asking). a.call ≡ C.Restore → saved_in (shapes_in stands) a.component ≡ true) log (stepping t e test stands) is
-        (All-weaker (IsTo test (λ (s : Stand). C.DoStep t (e - t)) 0 stands) (λ (a : Asking). a.call ≡ C.Restore → saved_in (shapes_in stands) a.component ≡ true)
+    kept_steps : (e : ℕ) (log : List Sent) → component_calls log ≡ stepping t e test stands → All (IsKept (shapes_in stands)) log
+    kept_steps e log is = sent_all (λ (a : ComponentCall). a.call ≡ C.Restore → saved_in (shapes_in stands) a.component ≡ true) log (stepping t e test stands) is
+        (All-weaker (IsTo test (λ (s : Stand). C.DoStep t (e - t)) 0 stands) (λ (a : ComponentCall). a.call ≡ C.Restore → saved_in (shapes_in stands) a.component ≡ true)
         (λ a to restore. absurd (let wrong : C.Restore ≡ C.DoStep t (e - t) = sym restore ∙ to.call_is in cc))
         (stepping t e test stands) (those_to test (λ (s : Stand). C.DoStep t (e - t)) 0 stands))
 
@@ -218,22 +218,22 @@ module _ (t step : ℕ) where
         saved = λ i s at h away. elsewhere_saved t step b later stands log asks i s at (elsewhere (reached t b (stands_by t stands log)) s.point h) (subst (λ (ss : List Shape). early_count ss ≢ 1) (sym (same_shapes t step stands log)) many);
         kept = kept_asks everyone stands saved everyone b log asks;
       })
-  are_kept _ _ _ _ later many saved (Anew b stands log next front back rest asks apart asks2 behind more log_is) =
-      let first_shapes = same_shapes t step stands front in
-      let shapes = same_shapes t step (stands_by t stands front) back ∙ first_shapes in
-      let m = reached t b (stands_by t stands front) in
+  are_kept _ _ _ _ later many saved (Anew b stands log next prefix back rest asks apart asks2 after more log_is) =
+      let first_shapes = same_shapes t step stands prefix in
+      let shapes = same_shapes t step (stands_by t stands prefix) back ∙ first_shapes in
+      let m = reached t b (stands_by t stands prefix) in
       let many_mids = subst (λ (ss : List Shape). early_count ss ≢ 1) (sym first_shapes) many in
       let many_lasts = subst (λ (ss : List Shape). early_count ss ≢ 1) (sym shapes) many in
-      let two : 1 < early_count (shapes_in (stands_by t (stands_by t stands front) back)) = subst (λ (ss : List Shape). 1 < early_count ss) (sym (same_shapes t step (stands_by t stands front) back)) (two_at_last t step b later stands front asks back asks2 behind) in
-      let u = are_kept (reached t m (stands_by t (stands_by t stands front) back)) (stands_by t (stands_by t stands front) back) rest next (c_later t step b later stands front asks back asks2) many_lasts (all_saved (stands_by t (stands_by t stands front) back) everyone two) more in
+      let two : 1 < early_count (shapes_in (stands_by t (stands_by t stands prefix) back)) = subst (λ (ss : List Shape). 1 < early_count ss) (sym (same_shapes t step (stands_by t stands prefix) back)) (two_at_last t step b later stands prefix asks back asks2 after) in
+      let u = are_kept (reached t m (stands_by t (stands_by t stands prefix) back)) (stands_by t (stands_by t stands prefix) back) rest next (c_later t step b later stands prefix asks back asks2) many_lasts (all_saved (stands_by t (stands_by t stands prefix) back) everyone two) more in
       record {
         shapes = u.shapes ∙ shapes;
         saved = u.saved;
         kept = subst (λ (l : List Sent). All (IsKept (shapes_in stands)) l) (sym log_is)
-            (All-append (IsKept (shapes_in stands)) front (back ++ rest) (kept_asks everyone stands saved everyone b front asks)
+            (All-append (IsKept (shapes_in stands)) prefix (back ++ rest) (kept_asks everyone stands saved everyone b prefix asks)
             (All-append (IsKept (shapes_in stands)) back rest
             (subst (λ (ss : List Shape). All (IsKept ss) back) first_shapes
-            (kept_asks (is_elsewhere m) (stands_by t stands front) (λ i s at h away. elsewhere_saved t step b later stands front asks i s at (elsewhere m s.point h) many_mids) (ends_elsewhere t b m) m back asks2))
+            (kept_asks (is_elsewhere m) (stands_by t stands prefix) (λ i s at h away. elsewhere_saved t step b later stands prefix asks i s at (elsewhere m s.point h) many_mids) (ends_elsewhere t b m) m back asks2))
             (subst (λ (ss : List Shape). All (IsKept ss) rest) shapes u.kept)));
       }
 
@@ -246,9 +246,9 @@ module _ (t step : ℕ) where
 
     by : Lasts t step all_first b stands log outcome → All (IsKept (shapes_in stands)) log
     by l =
-        let u = are_kept b stands l.front l.next later many saved l.under in
+        let u = are_kept b stands l.prefix l.next later many saved l.under in
         subst (λ (x : List Sent). All (IsKept (shapes_in stands)) x) (sym l.log_is)
-        (All-append (IsKept (shapes_in stands)) l.front l.more u.kept (subst (λ (ss : List Shape). All (IsKept ss) l.more) u.shapes (closed l.next l.more u.saved l.closes)))
+        (All-append (IsKept (shapes_in stands)) l.prefix l.more u.kept (subst (λ (ss : List Shape). All (IsKept ss) l.more) u.shapes (closed l.next l.more u.saved l.closes)))
 
 -- ---- between two askings
 
@@ -270,21 +270,21 @@ module _ (t step : ℕ) (first : Shape → Bool) where
         stands_are = refl;
         good = good_asks t step everyone (comes_first first) b stands log asks;
       })
-  is_under _ _ _ _ later low (Anew b stands log next front back rest asks apart asks2 behind more log_is) =
-      let first_shapes = same_shapes t step stands front in
-      let shapes = same_shapes t step (stands_by t stands front) back ∙ first_shapes in
-      let m = reached t b (stands_by t stands front) in
-      let low_mids = asks_later t step everyone (comes_first first) b stands front asks low in
-      let m_after = reached_later t b (stands_by t stands front) later low_mids in
-      let low_lasts = asks_later t step (ends_elsewhere t b m) (is_elsewhere m) m (stands_by t stands front) back asks2 low_mids in
-      let u = is_under (reached t m (stands_by t (stands_by t stands front) back)) (stands_by t (stands_by t stands front) back) rest next (reached_later t m (stands_by t (stands_by t stands front) back) m_after low_lasts) low_lasts more in
+  is_under _ _ _ _ later low (Anew b stands log next prefix back rest asks apart asks2 after more log_is) =
+      let first_shapes = same_shapes t step stands prefix in
+      let shapes = same_shapes t step (stands_by t stands prefix) back ∙ first_shapes in
+      let m = reached t b (stands_by t stands prefix) in
+      let low_mids = asks_later t step everyone (comes_first first) b stands prefix asks low in
+      let m_after = reached_later t b (stands_by t stands prefix) later low_mids in
+      let low_lasts = asks_later t step (ends_elsewhere t b m) (is_elsewhere m) m (stands_by t stands prefix) back asks2 low_mids in
+      let u = is_under (reached t m (stands_by t (stands_by t stands prefix) back)) (stands_by t (stands_by t stands prefix) back) rest next (reached_later t m (stands_by t (stands_by t stands prefix) back) m_after low_lasts) low_lasts more in
       record {
         later = u.later;
         shapes = u.shapes ∙ shapes;
-        stands_are = u.stands_are ∙ sym (ap (stands_by t stands) log_is ∙ stands_on t stands front (back ++ rest) ∙ stands_on t (stands_by t stands front) back rest);
+        stands_are = u.stands_are ∙ sym (ap (stands_by t stands) log_is ∙ stands_on t stands prefix (back ++ rest) ∙ stands_on t (stands_by t stands prefix) back rest);
         good = subst (λ (l : List Sent). All (IsGoodOf (shapes_in stands)) l) (sym log_is)
-            (All-append (IsGoodOf (shapes_in stands)) front (back ++ rest) (good_asks t step everyone (comes_first first) b stands front asks)
+            (All-append (IsGoodOf (shapes_in stands)) prefix (back ++ rest) (good_asks t step everyone (comes_first first) b stands prefix asks)
             (All-append (IsGoodOf (shapes_in stands)) back rest
-            (subst (λ (ss : List Shape). All (IsGoodOf ss) back) first_shapes (good_asks t step (ends_elsewhere t b m) (is_elsewhere m) m (stands_by t stands front) back asks2))
+            (subst (λ (ss : List Shape). All (IsGoodOf ss) back) first_shapes (good_asks t step (ends_elsewhere t b m) (is_elsewhere m) m (stands_by t stands prefix) back asks2))
             (subst (λ (ss : List Shape). All (IsGoodOf ss) rest) shapes u.good)));
       }

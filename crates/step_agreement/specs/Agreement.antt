@@ -10,7 +10,7 @@ use Rattle.fmu_peer.specs.declared.peer.Exchange.{Exchange}
 use Rattle.fmu_peer.specs.declared.peer.PeerFault.{PeerFault}
 use Rattle.run_model.specs.Steps.{least_or}
 use Rattle.slot_calls.specs.declared.bad_answer.BadAnswer.{BadAnswer}
-use Rattle.slot_calls.specs.Log.{Asking, Sent, part}
+use Rattle.slot_calls.specs.Log.{ComponentCall, Sent, part}
 use Rattle.slot_calls.specs.Stage.{FailsIn, IsAnswered, to_those_from}
 
 -- ---- where the FMUs stand
@@ -50,10 +50,10 @@ stands_by t stands log = stands_from t 0 stands log
 -- ---- one asking
 
 -- from the i-th on, the call to those that pass the test
-abbrev pub to_some_from : {A : Type 0} → ℕ → (A → Bool) → Call → List A → List Asking
+abbrev pub to_some_from : {A : Type 0} → ℕ → (A → Bool) → Call → List A → List ComponentCall
 to_some_from i test call xs = to_those_from i test (λ x. call) xs
 
-abbrev pub to_some : {A : Type 0} → (A → Bool) → Call → List A → List Asking
+abbrev pub to_some : {A : Type 0} → (A → Bool) → Call → List A → List ComponentCall
 to_some test call xs = to_some_from 0 test call xs
 
 -- those that pass the test and are past t
@@ -66,10 +66,10 @@ unfit step size test stands =
     if size == step then None
     else position (λ (s : Stand). test s && not s.shape.has_variable_steps) stands
 
-abbrev pub putting_back : ℕ → (Stand → Bool) → List Stand → List Asking
+abbrev pub putting_back : ℕ → (Stand → Bool) → List Stand → List ComponentCall
 putting_back t test stands = to_some (is_away t test) C.Restore stands
 
-abbrev pub stepping : ℕ → ℕ → (Stand → Bool) → List Stand → List Asking
+abbrev pub stepping : ℕ → ℕ → (Stand → Bool) → List Stand → List ComponentCall
 stepping t e test stands = to_some test (C.DoStep t (e - t)) stands
 
 -- those that pass the test were asked to step from t to e, in a round: before it, in another, those of them that were past t were put back, and before that it was seen that each of some takes a step of this size
@@ -138,23 +138,23 @@ pub data Agrees (t step : ℕ) (first : Shape → Bool) : ℕ → List Stand →
       are_at m (stands_by t stands log) ≡ true → outcome ≡ Meets m →
       Agrees t step first b stands log outcome
   NextStops : (b : ℕ) (stands : List Stand) (log : List Sent) (outcome : Outcome) (m : ℕ)
-      (front back : List Sent) (mids : List Stand) →
-      Asks t step everyone (comes_first first) b stands front → mids ≡ stands_by t stands front →
+      (prefix back : List Sent) (mids : List Stand) →
+      Asks t step everyone (comes_first first) b stands prefix → mids ≡ stands_by t stands prefix →
       m ≡ reached t b mids → are_at m mids ≡ false →
       Stops t step (ends_elsewhere t b m) (is_elsewhere m) m mids back outcome →
-      log ≡ front ++ back → Agrees t step first b stands log outcome
+      log ≡ prefix ++ back → Agrees t step first b stands log outcome
   NextMeet : (b : ℕ) (stands : List Stand) (log : List Sent) (outcome : Outcome) (m : ℕ)
-      (front back : List Sent) (mids : List Stand) →
-      Asks t step everyone (comes_first first) b stands front → mids ≡ stands_by t stands front →
+      (prefix back : List Sent) (mids : List Stand) →
+      Asks t step everyone (comes_first first) b stands prefix → mids ≡ stands_by t stands prefix →
       m ≡ reached t b mids → are_at m mids ≡ false →
       Asks t step (ends_elsewhere t b m) (is_elsewhere m) m mids back →
-      are_at m (stands_by t mids back) ≡ true → outcome ≡ Meets m → log ≡ front ++ back →
+      are_at m (stands_by t mids back) ≡ true → outcome ≡ Meets m → log ≡ prefix ++ back →
       Agrees t step first b stands log outcome
   GoesAnew : (b : ℕ) (stands : List Stand) (log : List Sent) (outcome : Outcome) (m c : ℕ)
-      (front back rest : List Sent) (mids ends : List Stand) →
-      Asks t step everyone (comes_first first) b stands front → mids ≡ stands_by t stands front →
+      (prefix back rest : List Sent) (mids ends : List Stand) →
+      Asks t step everyone (comes_first first) b stands prefix → mids ≡ stands_by t stands prefix →
       m ≡ reached t b mids → are_at m mids ≡ false →
       Asks t step (ends_elsewhere t b m) (is_elsewhere m) m mids back →
       ends ≡ stands_by t mids back → are_at m ends ≡ false → c ≡ reached t m ends →
-      Agrees t step first c ends rest outcome → log ≡ front ++ (back ++ rest) →
+      Agrees t step first c ends rest outcome → log ≡ prefix ++ (back ++ rest) →
       Agrees t step first b stands log outcome

@@ -15,7 +15,7 @@ use Rattle.fmu_peer.specs.declared.peer.PeerFault.{PeerFault}
 use Rattle.fmu_peer.specs.Close.{SendsInTurn}
 use Rattle.fmu_peer.specs.Talk.{LegalFrom, phase_from, Closed, EndsFreed, EndsKeeping, IsGood, Legal, StartsBadly, next_by, phase_after, calls_in}
 use Rattle.fmu_peer.specs.View.{View, Fixed, talked}
-use Rattle.step_master.specs.Lives.{ComeInTurn, Counts, is_unanswered, Freed, IsLife, IsOver, Keeping, Life, LostHere, Unasked, shape_in, talk_in}
+use Rattle.step_master.specs.Histories.{ComeInTurn, Counts, is_unanswered, Freed, IsPeerHistory, IsOver, Keeping, PeerHistory, LostHere, Unasked, shape_in, talk_in}
 use Rattle.slot_calls.specs.Log.{Talks, Has}
 use Rattle.value_types.specs.declared.shape.Shape.{Shape}
 use Rattle.fmi_calls.specs.declared.call.BadStatus.{BadStatus}
@@ -178,9 +178,9 @@ none_permitted shape phase call ended p = by (makes shape phase call (inr ended)
   by (event_mode, early_return, batches, is) (inl gone) = absurd (let e : P.Gone ≡ P.Fresh = sym gone ∙ (subst (Permitted shape phase) is p).0 in cc)
   by (event_mode, early_return, batches, is) (inr lost) = absurd (let e : P.Lost ≡ P.Fresh = sym lost ∙ (subst (Permitted shape phase) is p).0 in cc)
 
-none_behind : (shape : Shape) (phase : Phase) (es : List Exchange) → IsEnded phase.state → LegalFrom shape phase es → es ≡ []
-none_behind shape phase [] ended legal = refl
-none_behind shape phase (e ∷ es) ended legal = absurd (none_permitted shape phase e.call ended legal.0)
+none_after : (shape : Shape) (phase : Phase) (es : List Exchange) → IsEnded phase.state → LegalFrom shape phase es → es ≡ []
+none_after shape phase [] ended legal = refl
+none_after shape phase (e ∷ es) ended legal = absurd (none_permitted shape phase e.call ended legal.0)
 
 -- ---- an Instantiate that isn't good
 
@@ -223,41 +223,41 @@ kept_full shape phase e is result may =
     ap (λ (c : Call). (next_of shape phase c (result_ok e.result)).slot.is_full) is
     ∙ ap (λ (r : Result Reply PeerFault). (next_of shape phase C.Free (result_ok r)).slot.is_full) result ∙ full
 
-legal_last : (shape : Shape) (phase : Phase) (front : List Exchange) (last : Exchange) → LegalFrom shape phase (front ++ last ∷ []) → Permitted shape (phase_from shape phase front) last.call
+legal_last : (shape : Shape) (phase : Phase) (prefix : List Exchange) (last : Exchange) → LegalFrom shape phase (prefix ++ last ∷ []) → Permitted shape (phase_from shape phase prefix) last.call
 legal_last shape phase [] last legal = legal.0
-legal_last shape phase (e ∷ front) last legal = legal_last shape (next_by shape phase e) front last legal.1
+legal_last shape phase (e ∷ prefix) last legal = legal_last shape (next_by shape phase e) prefix last legal.1
 
 -- ---- the whole
 
-module _ (life : Life) (is : IsLife life) where
-  ended_over : (talk : List Exchange) → talk_in life ≡ talk → IsEnded (phase_after (shape_in life) talk).state → IsOver life
-  ended_over talk same (inl gone) = Freed (ap (λ (p : Phase). p.state) (is.phase ∙ ap (phase_after (shape_in life)) same) ∙ gone)
-  ended_over talk same (inr lost) = LostHere (ap (λ (p : Phase). p.state) (is.phase ∙ ap (phase_after (shape_in life)) same) ∙ lost)
+module _ (history : PeerHistory) (is : IsPeerHistory history) where
+  ended_over : (talk : List Exchange) → talk_in history ≡ talk → IsEnded (phase_after (shape_in history) talk).state → IsOver history
+  ended_over talk same (inl gone) = Freed (ap (λ (p : Phase). p.state) (is.phase ∙ ap (phase_after (shape_in history)) same) ∙ gone)
+  ended_over talk same (inr lost) = LostHere (ap (λ (p : Phase). p.state) (is.phase ∙ ap (phase_after (shape_in history)) same) ∙ lost)
 
-  badly_over : StartsBadly (shape_in life) (talk_in life) → IsOver life
+  badly_over : StartsBadly (shape_in history) (talk_in history) → IsOver history
   badly_over s =
-      let shape = shape_in life in
+      let shape = shape_in history in
       let legal : LegalFrom shape (fresh shape) (s.first ∷ s.rest) = subst (Legal shape) s.is is.legal in
       let start = only_start shape s.first.call legal.0 in
       let ended : IsEnded (next_by shape (fresh shape) s.first).state = start_ended shape (fresh shape) start.0 start.1 start.2 s.first start.3 s.bad in
-      let none : s.rest ≡ [] = none_behind shape (next_by shape (fresh shape) s.first) s.rest ended legal.1 in
+      let none : s.rest ≡ [] = none_after shape (next_by shape (fresh shape) s.first) s.rest ended legal.1 in
       ended_over (s.first ∷ []) (s.is ∙ ap (λ (es : List Exchange). s.first ∷ es) none) ended
 
-  freed_over : EndsFreed (shape_in life) (fresh (shape_in life)) (talk_in life) → IsOver life
+  freed_over : EndsFreed (shape_in history) (fresh (shape_in history)) (talk_in history) → IsOver history
   freed_over f =
-      let shape = shape_in life in
-      ended_over (f.front ++ f.last ∷ []) f.is
-      (subst (λ (p : Phase). IsEnded p.state) (sym (phase_from-append shape (fresh shape) f.front f.last)) (freed_ended shape (phase_from shape (fresh shape) f.front) f.last f.frees))
+      let shape = shape_in history in
+      ended_over (f.prefix ++ f.last ∷ []) f.is
+      (subst (λ (p : Phase). IsEnded p.state) (sym (phase_from-append shape (fresh shape) f.prefix f.last)) (freed_ended shape (phase_from shape (fresh shape) f.prefix) f.last f.frees))
 
-  keeping_over : EndsKeeping (talk_in life) → IsOver life
+  keeping_over : EndsKeeping (talk_in history) → IsOver history
   keeping_over k =
-      let shape = shape_in life in
-      let may = legal_last shape (fresh shape) k.front k.last (subst (Legal shape) k.is is.legal) in
-      Keeping (ap (λ (p : Phase). p.slot.is_full) (is.phase ∙ ap (phase_after shape) k.is ∙ phase_from-append shape (fresh shape) k.front k.last)
-      ∙ kept_full shape (phase_from shape (fresh shape) k.front) k.last k.frees k.discarded may) k
+      let shape = shape_in history in
+      let may = legal_last shape (fresh shape) k.prefix k.last (subst (Legal shape) k.is is.legal) in
+      Keeping (ap (λ (p : Phase). p.slot.is_full) (is.phase ∙ ap (phase_after shape) k.is ∙ phase_from-append shape (fresh shape) k.prefix k.last)
+      ∙ kept_full shape (phase_from shape (fresh shape) k.prefix) k.last k.frees k.discarded may) k
 
-  pub closed_over : Closed (shape_in life) (talk_in life) → IsOver life
-  closed_over (inl none) = Unasked (ap (λ (p : Phase). p.state) (is.phase ∙ ap (phase_after (shape_in life)) none))
+  pub closed_over : Closed (shape_in history) (talk_in history) → IsOver history
+  closed_over (inl none) = Unasked (ap (λ (p : Phase). p.state) (is.phase ∙ ap (phase_after (shape_in history)) none))
   closed_over (inr (inl badly)) = badly_over badly
   closed_over (inr (inr (inl lost))) = LostHere (ap (λ (p : Phase). p.state) is.phase ∙ lost)
   closed_over (inr (inr (inr (inl freed)))) = freed_over freed
@@ -370,8 +370,8 @@ module _ (resumed : Bool) (shape : Shape) (can : shape.can_serialize_state ≡ t
   good_closable call reply good m goes may = record { state = h.state; kept = h.kept }
 
   -- or it was given up by a Free
-  abbrev Behind : Call → Result Reply PeerFault → Type 0
-  Behind call result = IsClosable resumed shape (next_of shape p call (result_ok result)) (saved_by shape call result saved)
+  abbrev After : Call → Result Reply PeerFault → Type 0
+  After call result = IsClosable resumed shape (next_of shape p call (result_ok result)) (saved_by shape call result saved)
       ⊎ (IsGivenUp (record { call = call; result = result }) × IsStanding (next_of shape p call (result_ok result)).state)
 
   module _ (call : Call) (m : IsMid call) where
@@ -416,7 +416,7 @@ module _ (resumed : Bool) (shape : Shape) (can : shape.can_serialize_state ≡ t
     by_grade reply G.Refused is goes may = refused reply (bad_status_of reply) refl is
     by_grade reply G.Misreply is goes may = inl (dead _ _ (after_mid p.state call B.Error m))
 
-    next_closable : (result : Result Reply PeerFault) → GoesWith resumed call → Permitted shape p call → Behind call result
+    next_closable : (result : Result Reply PeerFault) → GoesWith resumed call → Permitted shape p call → After call result
     next_closable (Err fault) goes may = inl (lost _ _ refl)
     next_closable (Ok reply) goes may = by_grade reply (grade_of shape call reply) refl goes may
 
@@ -429,10 +429,10 @@ record Left (resumed : Bool) (shape : Shape) (p : Phase) (saved : Bool) (talk : 
 
 -- nothing follows a state that was given up
 abbrev IsLastGivenUp : List Exchange → Type 0
-IsLastGivenUp es = (front rest : List Exchange) (e : Exchange) → es ≡ front ++ e ∷ rest → IsGivenUp e → rest ≡ []
+IsLastGivenUp es = (prefix rest : List Exchange) (e : Exchange) → es ≡ prefix ++ e ∷ rest → IsGivenUp e → rest ≡ []
 
 last_later : (e : Exchange) (es : List Exchange) → IsLastGivenUp (e ∷ es) → IsLastGivenUp es
-last_later e es last front rest x is = last (e ∷ front) rest x (ap (λ (l : List Exchange). e ∷ l) is)
+last_later e es last prefix rest x is = last (e ∷ prefix) rest x (ap (λ (l : List Exchange). e ∷ l) is)
 
 abbrev LeavesSo : Bool → Shape → List Exchange → Phase → Bool → Type 0
 LeavesSo resumed shape talk p saved = (talk ≡ []) ⊎ (StartsBadly shape talk ⊎ Left resumed shape p saved talk)
@@ -442,14 +442,14 @@ module _ (resumed : Bool) (shape : Shape) (can : shape.can_serialize_state ≡ t
   one_more p saved e es l = record { state = l.state; kept = λ full. by (l.kept full) } where
     by : IsKept resumed shape p.state saved ⊎ ((saved ≡ false) × EndsKeeping es) → IsKept resumed shape p.state saved ⊎ ((saved ≡ false) × EndsKeeping (e ∷ es))
     by (inl kept) = inl kept
-    by (inr (none, k)) = inr (none, record { front = e ∷ k.front; last = k.last; is = ap (λ (l : List Exchange). e ∷ l) k.is; frees = k.frees; discarded = k.discarded })
+    by (inr (none, k)) = inr (none, record { prefix = e ∷ k.prefix; last = k.last; is = ap (λ (l : List Exchange). e ∷ l) k.is; frees = k.frees; discarded = k.discarded })
 
   given_up : (q : Phase) (saved : Bool) (e : Exchange) → IsGivenUp e → IsStanding q.state → Left resumed shape q (saved_by shape e.call e.result saved) (e ∷ [])
   given_up q saved e g standing = record {
     state = standing;
     kept = λ full. inr (
       ap (λ (c : Call). saved_by shape c e.result saved) g.frees,
-      record { front = []; last = e; is = refl; frees = g.frees; discarded = g.discarded },
+      record { prefix = []; last = e; is = refl; frees = g.frees; discarded = g.discarded },
     );
   }
 

@@ -3,10 +3,10 @@ mod Leaving
 mod Living
 mod Parted
 mod Resuming
-mod SeatLemmas
+mod FreshLemmas
 mod Told
 mod ToldStates
 mod ToldRests
 mod ToldWell
 mod WithoutMachines
-mod Wholes
+mod SessionLemmas

@@ -14,7 +14,7 @@ use Rattle.slot_calls.specs.SavedStates.{IsEnding, IsOfClosing, IsParted, Leaves
 use Rattle.slot_calls.proofs.CallerLemmas.{first_same, rest_same}
 use Rattle.fmu_peer.specs.Talk.{calls_in}
 use Rattle.step_master.proofs.Leaving.{turn_all}
-use Rattle.step_master.proofs.SeatLemmas.{all_under}
+use Rattle.step_master.proofs.FreshLemmas.{all_under}
 
 -- ---- what a closing sends
 
@@ -41,15 +41,15 @@ turn_closes false true v sent w (inr (never, more)) = Plainly (turn_all IsEnding
 -- ---- whose each is
 
 module _ (talks : List Talk) (shape : Shape) where
-  ending_of_closing : (front : List Exchange) (call : Call) (rest : List Exchange) → IsEnding call → IsOfClosing talks shape front call rest
-  ending_of_closing front C.Free rest ends = absurd ends
-  ending_of_closing front call rest ends = ends
+  ending_of_closing : (prefix : List Exchange) (call : Call) (rest : List Exchange) → IsEnding call → IsOfClosing talks shape prefix call rest
+  ending_of_closing prefix C.Free rest ends = absurd ends
+  ending_of_closing prefix call rest ends = ends
 
-  not_free : (front : List Exchange) (call : Call) (rest : List Exchange) → IsRunCall call → (call ≡ C.Free → IsOfClosing talks shape front C.Free rest → ⊥) → IsOfClosing talks shape front call rest → ⊥
-  not_free front C.Free rest run h o = h refl o
-  not_free front C.Terminate rest run h o = absurd (cc)
-  not_free front C.FreeInstance rest run h o = absurd (cc)
-  not_free front call rest run h o = o
+  not_free : (prefix : List Exchange) (call : Call) (rest : List Exchange) → IsRunCall call → (call ≡ C.Free → IsOfClosing talks shape prefix C.Free rest → ⊥) → IsOfClosing talks shape prefix call rest → ⊥
+  not_free prefix C.Free rest run h o = h refl o
+  not_free prefix C.Terminate rest run h o = absurd (cc)
+  not_free prefix C.FreeInstance rest run h o = absurd (cc)
+  not_free prefix call rest run h o = o
 
 none_ends : (call : Call) → IsRunCall call → IsEnding call → ⊥
 none_ends C.Terminate run ends = absurd (cc)
@@ -57,19 +57,19 @@ none_ends C.FreeInstance run ends = absurd (cc)
 none_ends call run ends = ends
 
 -- what holds of the calls of a talk holds of one of them, and of those after it
-all_behind : (P : Call → Type 0) (front rest : List Exchange) (e : Exchange) (all : List Exchange) → all ≡ front ++ e ∷ rest → All P (calls_in all) → All P (e.call ∷ calls_in rest)
-all_behind P [] rest e all is rs = subst (λ (l : List Exchange). All P (calls_in l)) is rs
-all_behind P (x ∷ front) rest e all is rs = all_behind P front rest e (front ++ e ∷ rest) refl (All-tail P x.call (calls_in (front ++ e ∷ rest)) (subst (λ (l : List Exchange). All P (calls_in l)) is rs))
+all_after : (P : Call → Type 0) (prefix rest : List Exchange) (e : Exchange) (all : List Exchange) → all ≡ prefix ++ e ∷ rest → All P (calls_in all) → All P (e.call ∷ calls_in rest)
+all_after P [] rest e all is rs = subst (λ (l : List Exchange). All P (calls_in l)) is rs
+all_after P (x ∷ prefix) rest e all is rs = all_after P prefix rest e (prefix ++ e ∷ rest) refl (All-tail P x.call (calls_in (prefix ++ e ∷ rest)) (subst (λ (l : List Exchange). All P (calls_in l)) is rs))
 
 module _ (talks : List Talk) (shape : Shape) (run closing : List Exchange) (runs : All IsRunCall (calls_in run)) (leaves : LeavesState talks shape run) where
-  of_run : (front rest : List Exchange) (e : Exchange) → run ≡ front ++ e ∷ rest → IsOfClosing talks shape front e.call (rest ++ closing) → ⊥
-  of_run front rest e is = not_free talks shape front e.call (rest ++ closing) (All-head IsRunCall e.call (calls_in rest) here) (free rest refl) where
+  of_run : (prefix rest : List Exchange) (e : Exchange) → run ≡ prefix ++ e ∷ rest → IsOfClosing talks shape prefix e.call (rest ++ closing) → ⊥
+  of_run prefix rest e is = not_free talks shape prefix e.call (rest ++ closing) (All-head IsRunCall e.call (calls_in rest) here) (free rest refl) where
     here : All IsRunCall (e.call ∷ calls_in rest)
-    here = all_behind IsRunCall front rest e run is runs
+    here = all_after IsRunCall prefix rest e run is runs
 
-    free : (more : List Exchange) → more ≡ rest → e.call ≡ C.Free → IsOfClosing talks shape front C.Free (rest ++ closing) → ⊥
+    free : (more : List Exchange) → more ≡ rest → e.call ≡ C.Free → IsOfClosing talks shape prefix C.Free (rest ++ closing) → ⊥
     free [] none frees o =
-        elim (leaves.freed front e (is ∙ ap (λ (l : List Exchange). front ++ e ∷ l) (sym none)) frees) [
+        elim (leaves.freed prefix e (is ∙ ap (λ (l : List Exchange). prefix ++ e ∷ l) (sym none)) frees) [
           | inl served ↦ absurd (let same : true ≡ false = sym served ∙ o.1 in cc)
           | inr met ↦ elim o.2 [
             | inl apart ↦ apart met.0
@@ -80,18 +80,18 @@ module _ (talks : List Talk) (shape : Shape) (run closing : List Exchange) (runs
         none_ends x.call (All-head IsRunCall x.call (calls_in more) (All-tail IsRunCall e.call (calls_in (x ∷ more)) (subst (λ (l : List Exchange). All IsRunCall (e.call ∷ calls_in l)) (sym some) here)))
         (All-head (λ (y : Exchange). IsEnding y.call) x (more ++ closing) (subst (λ (l : List Exchange). All (λ (y : Exchange). IsEnding y.call) (l ++ closing)) (sym some) o.0))
 
-  ending_at : (front rest : List Exchange) (e : Exchange) (all : List Exchange) → all ≡ front ++ e ∷ rest → All IsEnding (calls_in all) → IsEnding e.call
-  ending_at front rest e all is es = All-head IsEnding e.call (calls_in rest) (all_behind IsEnding front rest e all is es)
+  ending_at : (prefix rest : List Exchange) (e : Exchange) (all : List Exchange) → all ≡ prefix ++ e ∷ rest → All IsEnding (calls_in all) → IsEnding e.call
+  ending_at prefix rest e all is es = All-head IsEnding e.call (calls_in rest) (all_after IsEnding prefix rest e all is es)
 
-  of_closing : Closes (saved_after shape false run) closing → (front rest : List Exchange) (e : Exchange) → closing ≡ front ++ e ∷ rest → IsOfClosing talks shape (run ++ front) e.call rest
-  of_closing (Plainly all) front rest e is = ending_of_closing talks shape (run ++ front) e.call rest (ending_at front rest e closing is all)
+  of_closing : Closes (saved_after shape false run) closing → (prefix rest : List Exchange) (e : Exchange) → closing ≡ prefix ++ e ∷ rest → IsOfClosing talks shape (run ++ prefix) e.call rest
+  of_closing (Plainly all) prefix rest e is = ending_of_closing talks shape (run ++ prefix) e.call rest (ending_at prefix rest e closing is all)
   of_closing (Freeing held f more sent frees all) [] rest e is =
       let same : f ∷ more ≡ e ∷ rest = sym sent ∙ is in
       subst (λ (l : List Exchange). IsOfClosing talks shape l e.call rest) (sym (append-nil run))
       (subst (λ (c : Call). IsOfClosing talks shape run c rest) (sym frees ∙ ap (λ (x : Exchange). x.call) (first_same f e more rest same))
       (all_under (λ (x : Exchange). x.call) IsEnding rest (calls_in rest) refl (subst (λ (l : List Exchange). All IsEnding (calls_in l)) (rest_same f e more rest same) all), (leaves.held held).0, (leaves.held held).1))
-  of_closing (Freeing held f more sent frees all) (x ∷ front) rest e is =
-      ending_of_closing talks shape (run ++ x ∷ front) e.call rest (ending_at front rest e more (rest_same f x more (front ++ e ∷ rest) (sym sent ∙ is)) all)
+  of_closing (Freeing held f more sent frees all) (x ∷ prefix) rest e is =
+      ending_of_closing talks shape (run ++ x ∷ prefix) e.call rest (ending_at prefix rest e more (rest_same f x more (prefix ++ e ∷ rest) (sym sent ∙ is)) all)
 
   -- each call of the run is the run's, and each of the closing the closing's
   pub is_parted : Closes (saved_after shape false run) closing → IsParted talks shape run closing

@@ -39,24 +39,24 @@ use Rattle.calling_sequence.specs.declared.experiment.Experiment.{Experiment}
 use Rattle.calling_sequence.specs.declared.run_end.RunEnd.{RunEnd}
 use Rattle.calling_sequence.specs.declared.run_end.RunEnd.TheVariants as E
 use Rattle.calling_sequence.specs.Calls.{making}
-use Rattle.calling_sequence.specs.Course.{FromHeld, Seen, Spot, UpToHeld}
+use Rattle.calling_sequence.specs.Course.{FromHeld, InstantDone, Spot, UpToHeld}
 use Rattle.calling_sequence.specs.Ends.{EndsIn, RunsIn, header_of}
 use Rattle.calling_sequence.specs.Holding as Q
 use Rattle.calling_sequence.specs.Holding.{ArePacked, ComesToHold, HoldsWith, PutsPiece, ResumesSlots, kept_at, spot_in}
 use Rattle.calling_sequence.specs.Ready.{IsPlanOf}
-use Rattle.machine_courses.specs.Fronts.{Behind, IsFront}
-use Rattle.machine_courses.proofs.Fronts.{stands_in}
+use Rattle.machine_courses.specs.Prefixes.{After, IsPrefix}
+use Rattle.machine_courses.proofs.Prefixes.{stands_in}
 use Rattle.machine_courses.proofs.RestLaw.{came_of, none_lost_done}
 use Rattle.machine_courses.specs.Held as M
 use Rattle.machine_courses.specs.Held.{GoesAs, HoldsBy, HoldsRun, IsHeldRunOf, IsRestOf, StandsAs, checkpoint_of, packings_of}
 use Rattle.machine_courses.specs.Laws.{EarlyHasNone, HeldByLog, RestByLog, SnapshotsStand}
-use Rattle.machine_courses.specs.Outcomes.{PutsRunIn, rest_behind}
-use Rattle.step_master.specs.Lived.{Account, HeldLived, experiment_in}
-use Rattle.step_master.specs.Lives.{AreLives}
-use Rattle.step_master.specs.Seats.{seated}
-use Rattle.step_master.specs.System.{ArePeersOf, TellTheirs}
-use Rattle.step_master.specs.Traced.{IsRunOf, TellMachines, ToldHeld, ToldNone, ToldRest, output_of}
-use Rattle.step_master.proofs.SeatLemmas.{got, length_seated, views_seated}
+use Rattle.machine_courses.specs.Outcomes.{PutsRunIn, rest_after}
+use Rattle.step_master.specs.Sessions.{Account, HeldSession, experiment_in}
+use Rattle.step_master.specs.Histories.{ArePeerHistories}
+use Rattle.step_master.specs.FreshInstances.{fresh_instances}
+use Rattle.step_master.specs.System.{ArePeersOf, MachinesMatchShapes}
+use Rattle.step_master.specs.Traced.{AreMachinesOf, IsRunOf, ToldHeld, ToldNone, ToldRest, output_of}
+use Rattle.step_master.proofs.FreshLemmas.{got, length_fresh, views_fresh}
 use Rattle.step_master.proofs.Told.{log_replies}
 use Rattle.step_master.proofs.ToldStates.{Tells, told_back}
 
@@ -92,20 +92,20 @@ empty_at (x ∷ ss) empty (suc i) s is = empty_at ss empty.1 i s is
 -- ---- where the instances stand
 
 -- after good answers they are in the states after them
-at_behind : (r : Run) (ss : List MachineState) (olds news : List Instance) → AreAt r ss olds → (log : List Sent) → Told log olds news → All (IsGoodOf (shapes_of r.system)) log → AreAt r (states_by r ss log) news
-at_behind r ss olds news at log told good i c m z fmu =
+at_after : (r : Run) (ss : List MachineState) (olds news : List Instance) → AreAt r ss olds → (log : List Sent) → Told log olds news → All (IsGoodOf (shapes_of r.system)) log → AreAt r (states_by r ss log) news
+at_after r ss olds news at log told good i c m z fmu =
     let old = fmu_before r ss (λ j d n s. state_by n s (part j log)) i c m z fmu in
     let b = told_at r ss olds news at log told good i c m old.before old.fmu in
     (b.instance, b.is, b.machine, b.state ∙ ap (λ (s : MachineState). Some s) (sym old.is))
 
-module _ (r : Run) (olds : List View) (peers : ArePeersOf r.system olds) (tell : TellMachines olds r.machines) where
-  abbrev seats : List Instance
-  seats = seated r.system.components olds
+module _ (r : Run) (olds : List View) (peers : ArePeersOf r.system olds) (tell : AreMachinesOf olds r.machines) where
+  abbrev fresh_slots : List Instance
+  fresh_slots = fresh_instances r.system.components olds
 
   view_at : (k : ℕ) → k < length r.system.components → (v : View) × (slice_get olds k ≡ Some v)
   view_at k w = got olds k (let e = peers.len in omega (arith, e, w))
 
-  pub machines_of : TellTheirs r.system olds → AreMachines r
+  pub machines_of : MachinesMatchShapes r.system olds → AreMachines r
   machines_of theirs = record {
     count = tell.count ∙ peers.len;
     each = λ i c m at_c at_m.
@@ -114,7 +114,7 @@ module _ (r : Run) (olds : List View) (peers : ArePeersOf r.system olds) (tell :
         (its.0, its.1);
   }
 
-  ignores : TellTheirs r.system olds → IgnoreSlots r
+  ignores : MachinesMatchShapes r.system olds → IgnoreSlots r
   ignores theirs i m at_m =
       let all = tell.count in
       let told = peers.len in
@@ -124,25 +124,25 @@ module _ (r : Run) (olds : List View) (peers : ArePeersOf r.system olds) (tell :
       let v = view_at i inside in
       (theirs i c.0 v.0 m c.1 v.1 (tell.each i v.0 m v.1 at_m).0).2
 
-  seats_at : AreAt r (I.first_states r) seats
-  seats_at i c m s fmu =
+  fresh_at : AreAt r (I.first_states r) fresh_slots
+  fresh_at i c m s fmu =
       let inside = slice_get_within r.system.components i c fmu.component in
       let v = view_at i inside in
-      let x = got seats i (let e = length_seated r.system.components olds (sym peers.len) in let f = peers.len in omega (arith, e, f, inside)) in
+      let x = got fresh_slots i (let e = length_fresh r.system.components olds (sym peers.len) in let f = peers.len in omega (arith, e, f, inside)) in
       let same : x.0.view ≡ v.0 = same_Some x.0.view v.0
-      (sym (slice_get-map (λ (y : Instance). y.view) seats i ∙ ap (option_map (λ (y : Instance). y.view)) x.1) ∙ ap (λ (vs : List View). slice_get vs i) (views_seated r.system.components olds peers.len) ∙ v.1) in
+      (sym (slice_get-map (λ (y : Instance). y.view) fresh_slots i ∙ ap (option_map (λ (y : Instance). y.view)) x.1) ∙ ap (λ (vs : List View). slice_get vs i) (views_fresh r.system.components olds peers.len) ∙ v.1) in
       let first : m.first ≡ s = same_Some m.first s (sym (slice_get-map (λ (n : Machine). n.first) r.machines i ∙ ap (option_map (λ (n : Machine). n.first)) fmu.machine) ∙ fmu.state) in
       let told = tell.each i v.0 m v.1 fmu.machine in
       (x.0, x.1, ap (λ (w : View). w.fixed.machine) same ∙ told.0, ap (λ (w : View). w.state) same ∙ told.1 ∙ ap (λ (y : MachineState). Some y) first)
 
-  module _ (made : List Sent) (starts : List Instance) (told : Told made seats starts) (making_is : IsAnswered (shapes_of r.system) (making r.plan.link r.system) made) where
+  module _ (made : List Sent) (starts : List Instance) (told : Told made fresh_slots starts) (making_is : IsAnswered (shapes_of r.system) (making r.plan.link r.system) made) where
     pub starts_at : AreAt r (I.instantiated r) starts
     starts_at = subst (λ (ss : List MachineState). AreAt r ss starts) (stage_states r (I.first_states r) everyone (instantiate_of r.plan.link) made making_is)
-        (at_behind r (I.first_states r) seats starts seats_at made told making_is.good)
+        (at_after r (I.first_states r) fresh_slots starts fresh_at made told making_is.good)
 
     -- ---- a run that was held
 
-    module _ (theirs : TellTheirs r.system olds) (log : List Sent) (mids : List Instance) (told_mids : Told log starts mids) (good : All (IsGoodOf (shapes_of r.system)) log) (states : List (List ℕ)) (packs : ArePacked mids states) where
+    module _ (theirs : MachinesMatchShapes r.system olds) (log : List Sent) (mids : List Instance) (told_mids : Told log starts mids) (good : All (IsGoodOf (shapes_of r.system)) log) (states : List (List ℕ)) (packs : ArePacked mids states) where
       abbrev ss : List MachineState
       ss = states_by r (I.instantiated r) log
 
@@ -155,7 +155,7 @@ module _ (r : Run) (olds : List View) (peers : ArePeersOf r.system olds) (tell :
           ∙ length-map ss kept ∙ all_there.states
 
       len_mids : length mids ≡ length r.system.components
-      len_mids = told_mids.len ∙ told.len ∙ length_seated r.system.components olds (sym peers.len) ∙ peers.len
+      len_mids = told_mids.len ∙ told.len ∙ length_fresh r.system.components olds (sym peers.len) ∙ peers.len
 
       pub packed_states : states ≡ packed (packings_of r) (map kept ss)
       packed_states = same_lists states (packed (packings_of r) (map kept ss)) (packs.len ∙ len_mids ∙ sym len_packed) (λ i bytes is.
@@ -164,7 +164,7 @@ module _ (r : Run) (olds : List View) (peers : ArePeersOf r.system olds) (tell :
           let fmu = fmu_of r ss all_there i c.0 c.1 in
           let m = fmu.0 in
           let s = fmu.1 in
-          let here = at_behind r (I.instantiated r) starts mids starts_at log told_mids good i c.0 m s fmu.2 in
+          let here = at_after r (I.instantiated r) starts mids starts_at log told_mids good i c.0 m s fmu.2 in
           let mine : bytes ≡ m.packing.pack (kept s) = same_Some bytes (m.packing.pack (kept s))
           (sym is ∙ packed_at (packings_of r) (map kept ss) i m.packing (kept s)
           (slice_get-map (λ (n : Machine). n.packing) r.machines i ∙ ap (option_map (λ (n : Machine). n.packing)) fmu.2.machine) (slice_get-map kept ss i ∙ ap (option_map kept) fmu.2.state)) in
@@ -177,26 +177,26 @@ module _ (r : Run) (olds : List View) (peers : ArePeersOf r.system olds) (tell :
           own.1 ∙ ap (λ (b : List ℕ). Some b) (told_bytes ∙ sym mine))
 
     -- by the log that was told
-    module _ (sound : IsSound r.system) (plan : IsPlan r.plan) (theirs : TellTheirs r.system olds) where
-      course_good : (at : ℕ) (s : Spot) (front entered : List Sent) (is : List Instant) (mids : List Instance) → ComesToHold (M.experiment_of r) at s front is → Told (front ++ entered) starts mids → All (IsGoodOf (shapes_of r.system)) front
-      course_good at s front entered is mids comes told_mids =
+    module _ (sound : IsSound r.system) (plan : IsPlan r.plan) (theirs : MachinesMatchShapes r.system olds) where
+      course_good : (at : ℕ) (s : Spot) (prefix entered : List Sent) (is : List Instant) (mids : List Instance) → ComesToHold (M.experiment_of r) at s prefix is → Told (prefix ++ entered) starts mids → All (IsGoodOf (shapes_of r.system)) prefix
+      course_good at s prefix entered is mids comes told_mids =
           let base = I.instantiated r in
-          (stands_in r sound plan (machines_of theirs) (ignores theirs) (UpToHeld at) [] base (made_all r (machines_of theirs)) (refl, refl) (Seen s false false) front is comes.course
-          (replies_first r base front entered (are_replies r base starts mids starts_at (front ++ entered) told_mids))).good
+          (stands_in r sound plan (machines_of theirs) (ignores theirs) (UpToHeld at) [] base (made_all r (machines_of theirs)) (refl, refl) (InstantDone s false false) prefix is comes.course
+          (replies_first r base prefix entered (are_replies r base starts mids starts_at (prefix ++ entered) told_mids))).good
 
       pub holds_by : (at : ℕ) (end : RunEnd) (log : List Sent) (piece : List ℕ) → HoldsWith (M.experiment_of r) at starts end log piece → HoldsBy r at end log piece
       holds_by at _ _ _ (Q.Early end point log is f) = M.Early end point log is f
-      holds_by at _ _ _ (Q.BadlyHeld s bad front more is comes stops) = M.BadlyHeld s bad front more is comes stops
-      holds_by at _ _ _ (Q.WellHeld s front entered keeping is mids states comes into told_mids packs keeps can) =
-          let good = All-append (IsGoodOf (shapes_of r.system)) front entered (course_good at s front entered is mids comes told_mids) into.good in
-          let same = packed_states theirs (front ++ entered) mids told_mids good states packs in
-          subst (λ (bytes : List (List ℕ)). HoldsBy r at (E.Held s.t) ((front ++ entered) ++ keeping) (spelling (header_of r.system r.plan) (kept_at (M.experiment_of r) s bytes)))
-          (sym same) (M.WellHeld s front entered keeping is comes into keeps (subst (λ (bytes : List (List ℕ)). CanBeHeld r.system (kept_at (M.experiment_of r) s bytes)) same can))
+      holds_by at _ _ _ (Q.BadlyHeld s bad prefix more is comes stops) = M.BadlyHeld s bad prefix more is comes stops
+      holds_by at _ _ _ (Q.WellHeld s prefix entered keeping is mids states comes into told_mids packs keeps can) =
+          let good = All-append (IsGoodOf (shapes_of r.system)) prefix entered (course_good at s prefix entered is mids comes told_mids) into.good in
+          let same = packed_states theirs (prefix ++ entered) mids told_mids good states packs in
+          subst (λ (bytes : List (List ℕ)). HoldsBy r at (E.Held s.t) ((prefix ++ entered) ++ keeping) (spelling (header_of r.system r.plan) (kept_at (M.experiment_of r) s bytes)))
+          (sym same) (M.WellHeld s prefix entered keeping is comes into keeps (subst (λ (bytes : List (List ℕ)). CanBeHeld r.system (kept_at (M.experiment_of r) s bytes)) same can))
 
 -- ---- a run that is resumed, whatever its workers and its link
 
-module _ (r : Run) (own : Plan) (olds : List View) (peers : ArePeersOf r.system olds) (tell : TellMachines olds r.machines) (made : List Sent) (starts : List Instance) (told : Told made (seated r.system.components olds) starts)
-    (making_is : IsAnswered (shapes_of r.system) (making own.link r.system) made) (theirs : TellTheirs r.system olds) (packings : ReadsBack r (packings_of r)) (front : List Instant) (z : Situation) (held : Held r front z) (point stop : ℕ)
+module _ (r : Run) (own : Plan) (olds : List View) (peers : ArePeersOf r.system olds) (tell : AreMachinesOf olds r.machines) (made : List Sent) (starts : List Instance) (told : Told made (fresh_instances r.system.components olds) starts)
+    (making_is : IsAnswered (shapes_of r.system) (making own.link r.system) made) (theirs : MachinesMatchShapes r.system olds) (packings : ReadsBack r (packings_of r)) (prefix : List Instant) (z : Situation) (held : Held r prefix z) (point stop : ℕ)
     (mids : List Instance) (restored : AreRestored point stop (packed (packings_of r) (map kept (entering_step r z))) starts mids) where
   abbrev ours : Run
   ours = record r { plan = own }
@@ -234,31 +234,31 @@ module _ (r : Run) (own : Plan) (olds : List View) (peers : ArePeersOf r.system 
 same_run : (s t : System) (x y : Bound) (p q : Plan) → s ≡ t → x ≡ y → p ≡ q → make_experiment s x p ≡ make_experiment t y q
 same_run s t x y p q system bound plan = ap (λ (u : System). make_experiment u x p) system ∙ ap (λ (u : Bound). make_experiment t u p) bound ∙ ap (make_experiment t y) plan
 
-front_held : (r : Run) (front : List Instant) (z : Situation) → Held r front z → IsFront r front
-front_held r front z held =
-    Behind held.s held.values held.before (came_of r held.s held.before held.comes) held.solves
+prefix_held : (r : Run) (prefix : List Instant) (z : Situation) → Held r prefix z → IsPrefix r prefix
+prefix_held r prefix z held =
+    After held.s held.values held.before (came_of r held.s held.before held.comes) held.solves
     (none_lost_done r held.s held.values held.done) held.instants
 
 -- a run that was held is one of these machines
-pub own_held : (a : Account) (at : ℕ) (r : Run) → IsSound a.system → IsPlan a.plan → IsRunOf a.system a.bound a.olds r → r.plan ≡ a.plan → (h : HeldLived a at) → IsHeldRunOf r at h.made h.log h.outcome h.piece
+pub own_held : (a : Account) (at : ℕ) (r : Run) → IsSound a.system → IsPlan a.plan → IsRunOf a.system a.bound a.olds r → r.plan ≡ a.plan → (h : HeldSession a at) → IsHeldRunOf r at h.made h.log h.outcome h.piece
 own_held a at r sound plan run plan_is h =
     let system = sym run.system_is in
     let e : experiment_in a ≡ M.experiment_of r = sym (same_run r.system a.system r.bound a.bound r.plan a.plan run.system_is run.bound_is plan_is) in
     let peers : ArePeersOf r.system a.olds = subst (λ (s : System). ArePeersOf s a.olds) system h.peers in
-    let theirs : TellTheirs r.system a.olds = subst (λ (s : System). TellTheirs s a.olds) system h.machines in
-    let told : Told h.made (seated r.system.components a.olds) h.starts = subst (λ (s : System). Told h.made (seated s.components a.olds) h.starts) system h.told in
+    let theirs : MachinesMatchShapes r.system a.olds = subst (λ (s : System). MachinesMatchShapes s a.olds) system h.machines in
+    let told : Told h.made (fresh_instances r.system.components a.olds) h.starts = subst (λ (s : System). Told h.made (fresh_instances s.components a.olds) h.starts) system h.told in
     let making_is : IsAnswered (shapes_of r.system) (making r.plan.link r.system) h.made =
     subst (λ (s : System). IsAnswered (shapes_of s) (making r.plan.link s) h.made) system (subst (λ (p : Plan). IsAnswered (shapes_of a.system) (making p.link a.system) h.made) (sym plan_is) h.making) in
     let own_sound : IsSound r.system = subst IsSound system sound in
     let own_plan : IsPlan r.plan = subst IsPlan (sym plan_is) plan in
-    let lives : AreLives r.system a.olds a.news (h.made ++ h.log) h.lives = subst (λ (s : System). AreLives s a.olds a.news (h.made ++ h.log) h.lives) system h.are in
+    let histories : ArePeerHistories r.system a.olds a.news (h.made ++ h.log) h.histories = subst (λ (s : System). ArePeerHistories s a.olds a.news (h.made ++ h.log) h.histories) system h.are in
     record {
       sound = own_sound;
       plan = own_plan;
       machines = machines_of r a.olds peers run.tell theirs;
       ignore = ignores r a.olds peers run.tell theirs;
       making = making_is;
-      replies = log_replies r a.olds a.news (h.made ++ h.log) h.lives lives run.tell;
+      replies = log_replies r a.olds a.news (h.made ++ h.log) h.histories histories run.tell;
       holds = holds_by r a.olds peers run.tell h.made h.starts told making_is own_sound own_plan theirs at h.outcome h.log h.piece
           (subst (λ (x : Experiment). HoldsWith x at h.starts h.outcome h.log h.piece) e h.holds);
     }
@@ -294,8 +294,8 @@ is_plan_of own plan same is = subst IsPlan same (record {
   limit_within = is.limit_within;
 })
 
-module _ (stand : SnapshotsStand) (r : Run) (a : Account) (front : List Instant) (z : Situation) (sound : IsSound r.system) (plan : IsPlan r.plan) (same : GoesAs a.plan r.plan) (tell : TellMachines a.olds r.machines) (packings : ReadsBack r (packings_of r))
-    (held : Held r front z) (begun : r.plan.start ≤ z.t) (peers : ArePeersOf r.system a.olds) (theirs : TellTheirs r.system a.olds) (made : List Sent) (starts lasts : List Instance) (told : Told made (seated r.system.components a.olds) starts)
+module _ (stand : SnapshotsStand) (r : Run) (a : Account) (prefix : List Instant) (z : Situation) (sound : IsSound r.system) (plan : IsPlan r.plan) (same : GoesAs a.plan r.plan) (tell : AreMachinesOf a.olds r.machines) (packings : ReadsBack r (packings_of r))
+    (held : Held r prefix z) (begun : r.plan.start ≤ z.t) (peers : ArePeersOf r.system a.olds) (theirs : MachinesMatchShapes r.system a.olds) (made : List Sent) (starts lasts : List Instance) (told : Told made (fresh_instances r.system.components a.olds) starts)
     (making_is : IsAnswered (shapes_of r.system) (making a.plan.link r.system) made) where
   abbrev h : Snapshot
   h = checkpoint_of r z
@@ -303,11 +303,11 @@ module _ (stand : SnapshotsStand) (r : Run) (a : Account) (front : List Instant)
   abbrev s : Spot
   s = spot_in r.system h
 
-  -- so it goes on behind the way back
+  -- so it goes on after the way back
   pub is_rest : (e : Experiment) → e.system ≡ r.system → e.plan ≡ a.plan → (mids : List Instance) → AreRestored s.t e.plan.stop h.states starts mids → (runs : RunsIn e.system e.bound e.plan (FromHeld s) mids lasts a.before a.after a.instants a.end) →
-      IsRestOf r front z s e.bound a.plan runs.log runs.is a.end (output_of a)
+      IsRestOf r prefix z s e.bound a.plan runs.log runs.is a.end (output_of a)
   is_rest e system_is plan_is mids restored runs =
-      let at = back_at r a.plan a.olds peers tell made starts told making_is theirs packings front z held s.t e.plan.stop mids restored in
+      let at = back_at r a.plan a.olds peers tell made starts told making_is theirs packings prefix z held s.t e.plan.stop mids restored in
       record {
         sound = sound;
         plan = plan;
@@ -316,31 +316,31 @@ module _ (stand : SnapshotsStand) (r : Run) (a : Account) (front : List Instant)
         ignore = ignores r a.olds peers tell theirs;
         held = held;
         begun = begun;
-        stands = stand r sound plan (machines_of r a.olds peers tell theirs) front z held;
+        stands = stand r sound plan (machines_of r a.olds peers tell theirs) prefix z held;
         replies = are_replies r (entering_step r z) mids lasts at runs.log runs.told;
         ends = subst (λ (x : System). EndsIn x e.bound a.plan (FromHeld s) runs.log runs.is a.end a.before a.after) system_is
             (subst (λ (p : Plan). EndsIn e.system e.bound p (FromHeld s) runs.log runs.is a.end a.before a.after) plan_is runs.ends);
         counted = runs.counted_is;
       }
 
-  rest_of : RestByLog → (e : Experiment) → e.system ≡ r.system → e.plan ≡ a.plan → ResumesSlots e s h.states starts lasts a.before a.after a.instants a.end → PutsRunIn r (rest_behind front) (output_of a) a.end
-  rest_of rest e system_is plan_is (Q.Back mids log told_back_log answered restored runs) = rest r front z s e.bound a.plan runs.log runs.is a.end (output_of a) (is_rest e system_is plan_is mids restored runs)
+  rest_of : RestByLog → (e : Experiment) → e.system ≡ r.system → e.plan ≡ a.plan → ResumesSlots e s h.states starts lasts a.before a.after a.instants a.end → PutsRunIn r (rest_after prefix) (output_of a) a.end
+  rest_of rest e system_is plan_is (Q.Back mids log told_back_log answered restored runs) = rest r prefix z s e.bound a.plan runs.log runs.is a.end (output_of a) (is_rest e system_is plan_is mids restored runs)
   rest_of rest e system_is plan_is (Q.NotBack bad log told_back_log stops restored none puts) = unput a.end puts where
-    is_all : IsFront r (front ++ [])
-    is_all = subst (IsFront r) (sym (append-nil front)) (front_held r front z held)
+    is_all : IsPrefix r (prefix ++ [])
+    is_all = subst (IsPrefix r) (sym (append-nil prefix)) (prefix_held r prefix z held)
 
-    unput : (end : RunEnd) → PutsPiece (E.Bad bad) (end_text K.Fault s.t) a.before a.after end → PutsRunIn r (rest_behind front) (output_of a) end
-    unput end (inl (is, put)) = subst (PutsRunIn r (rest_behind front) (output_of a)) (sym is) (record { is = []; point = s.t; front = is_all; text = record { counted = none; put = put } })
-    unput end (inr (is, cut)) = subst (PutsRunIn r (rest_behind front) (output_of a)) (sym is)
-        (record { is = []; front = is_all; counted = none; cut = inr (end_text K.Fault s.t, inr (K.Fault, s.t, refl), cut) })
+    unput : (end : RunEnd) → PutsPiece (E.Bad bad) (end_text K.Fault s.t) a.before a.after end → PutsRunIn r (rest_after prefix) (output_of a) end
+    unput end (inl (is, put)) = subst (PutsRunIn r (rest_after prefix) (output_of a)) (sym is) (record { is = []; point = s.t; prefix = is_all; text = record { counted = none; put = put } })
+    unput end (inr (is, cut)) = subst (PutsRunIn r (rest_after prefix) (output_of a)) (sym is)
+        (record { is = []; prefix = is_all; counted = none; cut = inr (end_text K.Fault s.t, inr (K.Fault, s.t, refl), cut) })
 
 pub told_rest : RestByLog → SnapshotsStand → ToldRest
-told_rest rest stand a r front z held sound plan system_is plan_of tell packings at begun held_is l =
+told_rest rest stand a r prefix z held sound plan system_is plan_of tell packings at begun held_is l =
     let system = sym system_is in
     let same = plan_back r a.plan z held held_is plan_of in
-    rest_of stand r a front z (subst IsSound system sound) (is_plan_of a.plan r.plan same plan) same tell packings at begun
-    (subst (λ (s : System). ArePeersOf s a.olds) system l.peers) (subst (λ (s : System). TellTheirs s a.olds) system l.machines) l.made l.starts l.lasts
-    (subst (λ (s : System). Told l.made (seated s.components a.olds) l.starts) system l.told)
+    rest_of stand r a prefix z (subst IsSound system sound) (is_plan_of a.plan r.plan same plan) same tell packings at begun
+    (subst (λ (s : System). ArePeersOf s a.olds) system l.peers) (subst (λ (s : System). MachinesMatchShapes s a.olds) system l.machines) l.made l.starts l.lasts
+    (subst (λ (s : System). Told l.made (fresh_instances s.components a.olds) l.starts) system l.told)
     (subst (λ (s : System). IsAnswered (shapes_of s) (making a.plan.link s) l.made) system l.making)
     rest (experiment_in a) system refl
     (subst (λ (c : Snapshot). ResumesSlots (experiment_in a) (spot_in r.system c) c.states l.starts l.lasts a.before a.after a.instants a.end) held_is

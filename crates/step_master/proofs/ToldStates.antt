@@ -34,10 +34,10 @@ module _ (m : Machine) where
   told_good v w e s (Err fault) asked good t = absurd good
 
   -- after good exchanges
-  pub told_behind : (v : View) (es : List Exchange) (w : View) (s : MachineState) → Talks v es w → T.AllGood v.fixed.shape es → Tells v s → Tells w (state_by m s es)
-  told_behind v [] w s same good t = subst (λ (x : View). Tells x s) (sym same) t
-  told_behind v (e ∷ es) w s (mid, may, asked, rest) good t =
-      told_behind mid es w (after m s e.call) rest
+  pub told_after_all : (v : View) (es : List Exchange) (w : View) (s : MachineState) → Talks v es w → T.AllGood v.fixed.shape es → Tells v s → Tells w (state_by m s es)
+  told_after_all v [] w s same good t = subst (λ (x : View). Tells x s) (sym same) t
+  told_after_all v (e ∷ es) w s (mid, may, asked, rest) good t =
+      told_after_all mid es w (after m s e.call) rest
       (subst (λ (f : Fixed). T.AllGood f.shape es) (sym asked.fixed) (All-tail (T.IsGood v.fixed.shape) e es good))
       (told_good v mid e s e.result asked (All-head (T.IsGood v.fixed.shape) e es good) t)
 

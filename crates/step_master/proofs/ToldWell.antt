@@ -52,25 +52,25 @@ use Rattle.machine_courses.specs.Held as M
 use Rattle.machine_courses.specs.Held.{GoesAs, checkpoint_of, packings_of}
 use Rattle.machine_courses.specs.Kept.{TakesIn as TakesInWell, TakesState, taking_in}
 use Rattle.machine_courses.specs.Laws.{HeldWellByLog, RestWellByLog, SnapshotsStand}
-use Rattle.machine_courses.specs.Outcomes.{IsLost, rest_behind}
+use Rattle.machine_courses.specs.Outcomes.{IsLost, rest_after}
 use Rattle.machine_courses.specs.Outcomes as O
 use Rattle.machine_courses.proofs.KeptCalls.{enter, keeps_well}
-use Rattle.machine_courses.proofs.Lost.{link_lost, lost_behind}
+use Rattle.machine_courses.proofs.Lost.{link_lost, lost_after}
 use Rattle.machine_courses.proofs.RestLaw.{entering_all_held}
-use Rattle.step_master.specs.Lived.{Account, experiment_in, resumed_log}
-use Rattle.step_master.specs.Lives.{AreLives, Life}
-use Rattle.step_master.specs.Seats.{seated}
-use Rattle.step_master.specs.System.{ArePeersOf, TellTheirs}
-use Rattle.step_master.specs.Traced.{HoldsWell, SomeRose, TellMachines, ToldHeldWell, ToldRestWell, TracesWellIn, output_of}
+use Rattle.step_master.specs.Sessions.{Account, experiment_in, resumed_log}
+use Rattle.step_master.specs.Histories.{ArePeerHistories, PeerHistory}
+use Rattle.step_master.specs.FreshInstances.{fresh_instances}
+use Rattle.step_master.specs.System.{ArePeersOf, MachinesMatchShapes}
+use Rattle.step_master.specs.Traced.{AreMachinesOf, HoldsWell, SomeFaultCounted, ToldHeldWell, ToldRestWell, TracesWellIn, output_of}
 use Rattle.step_master.proofs.Resuming.{can_keep}
-use Rattle.step_master.proofs.SeatLemmas.{got, length_seated, seated_shapes, unmapped}
+use Rattle.step_master.proofs.FreshLemmas.{fresh_shapes, got, length_fresh, unmapped}
 use Rattle.step_master.proofs.Told.{rose_of}
 use Rattle.step_master.proofs.ToldRests.{is_plan_of, is_rest, machines_of, own_held, packed_at, plan_back, starts_at}
 use Rattle.step_master.proofs.ToldStates.{Tells, told_after}
 
 -- ---- a run that is held
 
-held_so : (a : Account) (r : Run) (at : ℕ) (log : List Sent) → ((why : Why) → IsLost (length r.system.components) log why → SomeRose a.olds a.news) → (end : RunEnd) (piece : List ℕ) → M.HoldsWell r at log end piece → HoldsWell a r at end piece
+held_so : (a : Account) (r : Run) (at : ℕ) (log : List Sent) → ((why : Why) → IsLost (length r.system.components) log why → SomeFaultCounted a.olds a.news) → (end : RunEnd) (piece : List ℕ) → M.HoldsWell r at log end piece → HoldsWell a r at end piece
 held_so a r at log rose (E.Bad bad) piece lost = (lost.link, rose bad.why lost)
 held_so a r at log rose end piece holds = holds
 
@@ -78,9 +78,9 @@ pub told_held_well : HeldWellByLog → ToldHeldWell
 told_held_well law a at r sound binds plan can run plan_is well puts h =
     let system = sym run.system_is in
     let own = own_held a at r sound plan run plan_is h in
-    let lives : AreLives r.system a.olds a.news (h.made ++ h.log) h.lives = subst (λ (s : System). AreLives s a.olds a.news (h.made ++ h.log) h.lives) system h.are in
+    let histories : ArePeerHistories r.system a.olds a.news (h.made ++ h.log) h.histories = subst (λ (s : System). ArePeerHistories s a.olds a.news (h.made ++ h.log) h.histories) system h.are in
     let keep : CanKeep r.system r.plan = subst (λ (s : System). CanKeep s r.plan) system (subst (CanKeep a.system) (sym plan_is) (can_keep a.system a.plan sound can)) in
-    held_so a r at h.log (λ why lost. rose_of r.system a.olds a.news (h.made ++ h.log) h.lives lives why (lost_behind (length r.system.components) h.made h.log why lost)) h.outcome h.piece
+    held_so a r at h.log (λ why lost. rose_of r.system a.olds a.news (h.made ++ h.log) h.histories histories why (lost_after (length r.system.components) h.made h.log why lost)) h.outcome h.piece
     (law r at h.made h.log h.outcome h.piece (subst (λ (s : System). BindsParameters s r.bound) system (subst (BindsParameters a.system) (sym run.bound_is) binds)) well keep puts own)
 
 -- ---- an answer that a machine gives well isn't bad
@@ -140,7 +140,7 @@ module _ (m : Machine) where
 -- ---- a run that is resumed
 
 -- a count rises whether or not the machine is told
-rose_bare : (olds news : List View) → SomeRose (map without_machine olds) (map without_machine news) → SomeRose olds news
+rose_bare : (olds news : List View) → SomeFaultCounted (map without_machine olds) (map without_machine news) → SomeFaultCounted olds news
 rose_bare olds news x =
     let old = unmapped without_machine olds x.place x.old x.before in
     let new = unmapped without_machine news x.place x.new x.after in
@@ -153,14 +153,14 @@ rose_bare olds news x =
       rose = subst (λ (n : ℕ). Rose n new.0.faults) (ap (λ (v : View). v.faults) old.2) (subst (Rose x.old.faults) (ap (λ (v : View). v.faults) new.2) x.rose);
     }
 
-rest_so : (a : Account) (r : Run) (front : List Instant) (log : List Sent) → ((why : Why) → IsLost (length r.system.components) log why → SomeRose a.olds a.news) → (end : RunEnd) → O.TracesWellIn r (rest_behind front) log (output_of a) end → TracesWellIn a r (rest_behind front) end
-rest_so a r front log rose (E.Bad bad) lost = (lost.link, rose bad.why lost)
-rest_so a r front log rose E.WriteFault (inl (why, lost)) = inl (rose why lost)
-rest_so a r front log rose E.WriteFault (inr cuts) = inr cuts
-rest_so a r front log rose end puts = puts
+rest_so : (a : Account) (r : Run) (prefix : List Instant) (log : List Sent) → ((why : Why) → IsLost (length r.system.components) log why → SomeFaultCounted a.olds a.news) → (end : RunEnd) → O.TracesWellIn r (rest_after prefix) log (output_of a) end → TracesWellIn a r (rest_after prefix) end
+rest_so a r prefix log rose (E.Bad bad) lost = (lost.link, rose bad.why lost)
+rest_so a r prefix log rose E.WriteFault (inl (why, lost)) = inl (rose why lost)
+rest_so a r prefix log rose E.WriteFault (inr cuts) = inr cuts
+rest_so a r prefix log rose end puts = puts
 
-module _ (stand : SnapshotsStand) (r : Run) (a : Account) (front : List Instant) (z : Situation) (sound : IsSound r.system) (plan : IsPlan r.plan) (same : GoesAs a.plan r.plan) (tell : TellMachines a.olds r.machines) (packings : ReadsBack r (packings_of r))
-    (held : Held r front z) (begun : r.plan.start ≤ z.t) (peers : ArePeersOf r.system a.olds) (theirs : TellTheirs r.system a.olds) (made : List Sent) (starts lasts : List Instance) (told : Told made (seated r.system.components a.olds) starts)
+module _ (stand : SnapshotsStand) (r : Run) (a : Account) (prefix : List Instant) (z : Situation) (sound : IsSound r.system) (plan : IsPlan r.plan) (same : GoesAs a.plan r.plan) (tell : AreMachinesOf a.olds r.machines) (packings : ReadsBack r (packings_of r))
+    (held : Held r prefix z) (begun : r.plan.start ≤ z.t) (peers : ArePeersOf r.system a.olds) (theirs : MachinesMatchShapes r.system a.olds) (made : List Sent) (starts lasts : List Instance) (told : Told made (fresh_instances r.system.components a.olds) starts)
     (making_is : IsAnswered (shapes_of r.system) (making a.plan.link r.system) made) (well : WellBehaved r) (saves : All (λ (c : Component). c.shape.can_save_state ≡ true) r.system.components) (takes : (i : ℕ) → TakesState r a.plan i) where
   abbrev h : Snapshot
   h = checkpoint_of r z
@@ -184,14 +184,14 @@ module _ (stand : SnapshotsStand) (r : Run) (a : Account) (front : List Instant)
   not_back : (stop : ℕ) → stop ≡ a.plan.stop → (bad : BadAnswer) → AreRestoredUntil s.t stop h.states bad starts lasts → IsLink bad.why
   not_back stop stop_is bad until =
       let k = bad.component.0 in
-      let within : k < count = (let w = until.within in let e = told.len in let f = length_seated r.system.components a.olds (sym peers.len) in let g = peers.len in omega (arith, w, e, f, g)) in
+      let within : k < count = (let w = until.within in let e = told.len in let f = length_fresh r.system.components a.olds (sym peers.len) in let g = peers.len in omega (arith, w, e, f, g)) in
       let c = got r.system.components k within in
       let start = fmu_of ours (I.instantiated ours) (made_all ours (machines_of ours a.olds peers tell theirs)) k c.0 c.1 in
       let m = start.0 in
       let state = start.1 in
       let at = starts_at ours a.olds peers tell made starts told making_is k c.0 m state start.2 in
       let x = at.0 in
-      let mine = fmu_of r there (entering_all_held r sound plan (machines_of r a.olds peers tell theirs) front z held) k c.0 c.1 in
+      let mine = fmu_of r there (entering_all_held r sound plan (machines_of r a.olds peers tell theirs) prefix z held) k c.0 c.1 in
       let same_m : mine.0 ≡ m = same_Some mine.0 m (sym mine.2.machine ∙ start.2.machine) in
       let u = mine.1 in
       let fmu : IsFmu r there k c.0 m u = record { component = c.1; machine = start.2.machine; state = mine.2.state } in
@@ -207,7 +207,7 @@ module _ (stand : SnapshotsStand) (r : Run) (a : Account) (front : List Instant)
       let shape_is : x.view.fixed.shape ≡ c.0.shape =
       same_Some x.view.fixed.shape c.0.shape
       (sym (slice_get-map (λ (i : Instance). i.view.fixed.shape) starts k ∙ ap (option_map (λ (i : Instance). i.view.fixed.shape)) at.1)
-      ∙ ap (λ (l : List Shape). slice_get l k) (shapes_same made (seated r.system.components a.olds) starts told ∙ seated_shapes r.system a.olds peers)
+      ∙ ap (λ (l : List Shape). slice_get l k) (shapes_same made (fresh_instances r.system.components a.olds) starts told ∙ fresh_shapes r.system a.olds peers)
       ∙ slice_get-map (λ (d : Component). d.shape) r.system.components k ∙ ap (option_map (λ (d : Component). d.shape)) c.1) in
       let before = fmu_before r z.states enter k c.0 m u fmu in
       link_back m c.0.shape s.t stop bytes state u
@@ -224,11 +224,11 @@ module _ (stand : SnapshotsStand) (r : Run) (a : Account) (front : List Instant)
   lost_back e system_is plan_is bad log stops until =
       let link = not_back e.plan.stop (ap (λ (p : Plan). p.stop) plan_is) bad until in
       let k = bad.component.0 in
-      let within : k < count = (let w = until.within in let l = told.len in let f = length_seated r.system.components a.olds (sym peers.len) in let g = peers.len in omega (arith, w, l, f, g)) in
+      let within : k < count = (let w = until.within in let l = told.len in let f = length_fresh r.system.components a.olds (sym peers.len) in let g = peers.len in omega (arith, w, l, f, g)) in
       let c = got r.system.components k within in
       record {
         link = link;
-        front = stops.front;
+        prefix = stops.prefix;
         last = stops.last;
         back = [];
         is = stops.log_is;
@@ -236,23 +236,23 @@ module _ (stand : SnapshotsStand) (r : Run) (a : Account) (front : List Instant)
         unanswered = link_lost (get_or (shapes_of e.system) stops.last.component c.0.shape) bad.why stops.last.exchange link (stops.first.why c.0.shape);
       }
 
-  module _ (rest_well : RestWellByLog) (binds : BindsParameters r.system r.bound) (log : List Sent) (lives : List Life) (are : AreLives r.system (map without_machine a.olds) (map without_machine a.news) (made ++ log) lives) where
+  module _ (rest_well : RestWellByLog) (binds : BindsParameters r.system r.bound) (log : List Sent) (histories : List PeerHistory) (are : ArePeerHistories r.system (map without_machine a.olds) (map without_machine a.news) (made ++ log) histories) where
     -- a call of the run that got no reply raised its peer's count
-    rose : (why : Why) → IsLost count log why → SomeRose a.olds a.news
-    rose why lost = rose_bare a.olds a.news (rose_of r.system (map without_machine a.olds) (map without_machine a.news) (made ++ log) lives are why (lost_behind count made log why lost))
+    rose : (why : Why) → IsLost count log why → SomeFaultCounted a.olds a.news
+    rose why lost = rose_bare a.olds a.news (rose_of r.system (map without_machine a.olds) (map without_machine a.news) (made ++ log) histories are why (lost_after count made log why lost))
 
-    well_of : (e : Experiment) → e.system ≡ r.system → e.plan ≡ a.plan → (resumes : ResumesSlots e s h.states starts lasts a.before a.after a.instants a.end) → log ≡ resumed_log resumes → TracesWellIn a r (rest_behind front) a.end
+    well_of : (e : Experiment) → e.system ≡ r.system → e.plan ≡ a.plan → (resumes : ResumesSlots e s h.states starts lasts a.before a.after a.instants a.end) → log ≡ resumed_log resumes → TracesWellIn a r (rest_after prefix) a.end
     well_of e system_is plan_is (Back mids back told_back answered restored runs) log_is =
-        rest_so a r front runs.log (λ why lost. rose why (subst (λ (l : List Sent). IsLost count l why) (sym log_is) (lost_behind count back runs.log why lost))) a.end
-        (rest_well r front z s e.bound a.plan runs.log runs.is a.end (output_of a) binds well
-        (is_rest stand r a front z sound plan same tell packings held begun peers theirs made starts lasts told making_is e system_is plan_is mids restored runs))
+        rest_so a r prefix runs.log (λ why lost. rose why (subst (λ (l : List Sent). IsLost count l why) (sym log_is) (lost_after count back runs.log why lost))) a.end
+        (rest_well r prefix z s e.bound a.plan runs.log runs.is a.end (output_of a) binds well
+        (is_rest stand r a prefix z sound plan same tell packings held begun peers theirs made starts lasts told making_is e system_is plan_is mids restored runs))
     well_of e system_is plan_is (NotBack bad back told_back stops until none puts) log_is = unput a.end puts where
       lost : IsLost count log bad.why
       lost = subst (λ (l : List Sent). IsLost count l bad.why) (sym log_is) (lost_back e system_is plan_is bad back stops until)
 
-      unput : (end : RunEnd) → PutsPiece (E.Bad bad) (end_text K.Fault s.t) a.before a.after end → TracesWellIn a r (rest_behind front) end
-      unput end (inl (is, put)) = subst (TracesWellIn a r (rest_behind front)) (sym is) (lost.link, rose bad.why lost)
-      unput end (inr (is, cut)) = subst (TracesWellIn a r (rest_behind front)) (sym is) (inl (rose bad.why lost))
+      unput : (end : RunEnd) → PutsPiece (E.Bad bad) (end_text K.Fault s.t) a.before a.after end → TracesWellIn a r (rest_after prefix) end
+      unput end (inl (is, put)) = subst (TracesWellIn a r (rest_after prefix)) (sym is) (lost.link, rose bad.why lost)
+      unput end (inr (is, cut)) = subst (TracesWellIn a r (rest_after prefix)) (sym is) (inl (rose bad.why lost))
 
 -- the run goes on from what was held, as its account has it
 record GoesOn (a : Account) (system : System) (held : Snapshot) (made log : List Sent) (starts lasts : List Instance) : Type 0 where
@@ -260,17 +260,17 @@ record GoesOn (a : Account) (system : System) (held : Snapshot) (made log : List
   log_is : log ≡ resumed_log resumes
 
 pub told_rest_well : RestWellByLog → SnapshotsStand → ToldRestWell
-told_rest_well rest_well stand a r front z held sound binds plan can system_is plan_of tell well packings takes at begun held_is l =
+told_rest_well rest_well stand a r prefix z held sound binds plan can system_is plan_of tell well packings takes at begun held_is l =
     let system = sym system_is in
     let same = plan_back r a.plan z held held_is plan_of in
     let there : GoesOn a r.system (checkpoint_of r z) l.made l.log l.starts l.lasts =
     subst (λ (c : Snapshot). GoesOn a r.system c l.made l.log l.starts l.lasts) held_is
     (subst (λ (s : System). GoesOn a s held l.made l.log l.starts l.lasts) system (record { resumes = l.resumes; log_is = l.log_is })) in
-    well_of stand r a front z (subst IsSound system sound) (is_plan_of a.plan r.plan same plan) same tell packings at begun
-    (subst (λ (s : System). ArePeersOf s a.olds) system l.peers) (subst (λ (s : System). TellTheirs s a.olds) system l.machines) l.made l.starts l.lasts
-    (subst (λ (s : System). Told l.made (seated s.components a.olds) l.starts) system l.told)
+    well_of stand r a prefix z (subst IsSound system sound) (is_plan_of a.plan r.plan same plan) same tell packings at begun
+    (subst (λ (s : System). ArePeersOf s a.olds) system l.peers) (subst (λ (s : System). MachinesMatchShapes s a.olds) system l.machines) l.made l.starts l.lasts
+    (subst (λ (s : System). Told l.made (fresh_instances s.components a.olds) l.starts) system l.told)
     (subst (λ (s : System). IsAnswered (shapes_of s) (making a.plan.link s) l.made) system l.making) well
     (subst (λ (s : System). All (λ (c : Component). c.shape.can_save_state ≡ true) s.components) system (can_keep a.system a.plan sound can).saves) takes
-    rest_well (subst (λ (s : System). BindsParameters s r.bound) system binds) l.log l.lives
-    (subst (λ (s : System). AreLives s (map without_machine a.olds) (map without_machine a.news) (l.made ++ l.log) l.lives) system l.are)
+    rest_well (subst (λ (s : System). BindsParameters s r.bound) system binds) l.log l.histories
+    (subst (λ (s : System). ArePeerHistories s (map without_machine a.olds) (map without_machine a.news) (l.made ++ l.log) l.histories) system l.are)
     (experiment_in a) system refl there.resumes there.log_is

@@ -16,16 +16,16 @@ use Rattle.system_model.specs.declared.system.Component.{Component}
 use Rattle.system_model.specs.declared.system.System.{System}
 use Rattle.slot_calls.specs.Keeping.{without_machine_in, without_machines}
 use Rattle.step_master.specs.Master.{Closes}
-use Rattle.step_master.specs.Seats.{seated, views_of}
+use Rattle.step_master.specs.FreshInstances.{fresh_instances, views_of}
 use Rattle.step_master.specs.System.{ArePeersOf, IsNew}
-use Rattle.step_master.proofs.SeatLemmas.{unmapped}
+use Rattle.step_master.proofs.FreshLemmas.{unmapped}
 
 -- ---- slots
 
-pub seated_without : (cs : List Component) (vs : List View) → seated cs (map without_machine vs) ≡ without_machines (seated cs vs)
-seated_without [] vs = refl
-seated_without (c ∷ cs) [] = refl
-seated_without (c ∷ cs) (v ∷ vs) = ap (λ (l : List Instance). without_machine_in (record { source = c.source.0; view = v; has_saved = false; is_fatal = false; is_closed = false }) ∷ l) (seated_without cs vs)
+pub fresh_without : (cs : List Component) (vs : List View) → fresh_instances cs (map without_machine vs) ≡ without_machines (fresh_instances cs vs)
+fresh_without [] vs = refl
+fresh_without (c ∷ cs) [] = refl
+fresh_without (c ∷ cs) (v ∷ vs) = ap (λ (l : List Instance). without_machine_in (record { source = c.source.0; view = v; has_saved = false; is_fatal = false; is_closed = false }) ∷ l) (fresh_without cs vs)
 
 pub views_without : (xs : List Instance) → views_of (without_machines xs) ≡ map without_machine (views_of xs)
 views_without [] = refl

@@ -12,8 +12,8 @@ use Rattle.calling_sequence.specs.declared.run_end.RunEnd.{RunEnd}
 use Rattle.calling_sequence.specs.Calls.{making}
 use Rattle.calling_sequence.specs.Holding.{HoldsSlots, ResumesSlots, spot_in}
 use Rattle.step_master.specs.Master.{Runs, Standing}
-use Rattle.step_master.specs.Seats.{seated}
-use Rattle.step_master.specs.System.{TellTheirs}
+use Rattle.step_master.specs.FreshInstances.{fresh_instances}
+use Rattle.step_master.specs.System.{MachinesMatchShapes}
 
 abbrev pub experiment_of : Standing → Experiment
 experiment_of s = record { system = s.system; bound = s.bound; plan = s.plan }
@@ -35,14 +35,14 @@ pub record Holds (at : ℕ) (old new : Standing) (before after : SinkView)
 pub record PreparesRest (system : System) (plan : Plan) (held : Snapshot) (views : List View)
     (new : Standing) : Type 0 where
   pub log : List Sent
-  pub told : Told log (seated system.components views) new.instances
+  pub told : Told log (fresh_instances system.components views) new.instances
   pub answered : IsAnswered (shapes_of system) (making plan.link system) log
   pub system_is : new.system ≡ system
   pub plan_is : new.plan ≡ plan
   pub held_is : new.held ≡ Some held
   pub unrun : new.was_run ≡ false
   pub none : new.instants ≡ 0
-  pub machines : TellTheirs system views
+  pub machines : MachinesMatchShapes system views
 
 -- a run that is resumed from what was held
 pub record Rests (held : Snapshot) (old new : Standing) (before after : SinkView)

@@ -1,8 +1,8 @@
 pub mod System
-pub mod Seats
+pub mod FreshInstances
 pub mod Master
 pub mod Holding
 pub mod Standing
-pub mod Lives
-pub mod Lived
+pub mod Histories
+pub mod Sessions
 pub mod Traced

@@ -15,9 +15,9 @@ use Rattle.calling_sequence.specs.declared.run_end.RunEnd.{RunEnd}
 use Rattle.calling_sequence.specs.Calls.{making}
 use Rattle.calling_sequence.specs.Ends.{EndsBy}
 use Rattle.slot_calls.specs.Log.{Sent, Told}
-use Rattle.step_master.specs.Seats.{seated, views_of}
+use Rattle.step_master.specs.FreshInstances.{fresh_instances, views_of}
 use Rattle.slot_calls.specs.Stage.{IsAnswered, StopsAt, shapes_of}
-use Rattle.step_master.specs.System.{TellTheirs}
+use Rattle.step_master.specs.System.{MachinesMatchShapes}
 
 -- what it runs, with which values of the parameters, what the run goes on from where it is resumed, its instances in the order of the components, whether it was run, and how many instants it put
 pub record Standing : Type 0 where
@@ -43,15 +43,15 @@ pub record Closes (olds : List Instance) (news : List View) : Type 0 where
 pub record Makes (system : System) (link : ℕ) (views : List View)
     (made : List Instance) : Type 0 where
   pub log : List Sent
-  pub told : Told log (seated system.components views) made
+  pub told : Told log (fresh_instances system.components views) made
   pub answered : IsAnswered (shapes_of system) (making link system) log
-  pub machines : TellTheirs system views
+  pub machines : MachinesMatchShapes system views
 
 -- a master with instances that were made, for a whole run
 pub record Prepares (system : System) (bound : Bound) (plan : Plan) (views : List View)
     (new : Standing) : Type 0 where
   pub log : List Sent
-  pub told : Told log (seated system.components views) new.instances
+  pub told : Told log (fresh_instances system.components views) new.instances
   pub answered : IsAnswered (shapes_of system) (making plan.link system) log
   pub system_is : new.system ≡ system
   pub bound_is : new.bound ≡ bound
@@ -59,14 +59,14 @@ pub record Prepares (system : System) (bound : Bound) (plan : Plan) (views : Lis
   pub whole : new.held ≡ None
   pub unrun : new.was_run ≡ false
   pub none : new.instants ≡ 0
-  pub machines : TellTheirs system views
+  pub machines : MachinesMatchShapes system views
 
 -- the answer to an Instantiate isn't good: no further was sent, and all were closed
 pub record IsUnmade (system : System) (link : ℕ) (views : List View) (bad : BadAnswer)
     (news : List View) : Type 0 where
   pub log : List Sent
   pub mids : List Instance
-  pub told : Told log (seated system.components views) mids
+  pub told : Told log (fresh_instances system.components views) mids
   pub stops : StopsAt (shapes_of system) (making link system) bad log
   pub closes : Closes mids news
 

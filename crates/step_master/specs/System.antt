@@ -21,8 +21,8 @@ pub record ArePeersOf (system : System) (views : List View) : Type 0 where
       slice_get views i ≡ Some v → IsNew c.shape v
 
 -- a machine that a peer tells is one of its component's shape, its outputs keep to the dependencies that they declare, and it answers the same whatever state is saved
-abbrev pub TellTheirs : System → List View → Type 0
-TellTheirs system views =
+abbrev pub MachinesMatchShapes : System → List View → Type 0
+MachinesMatchShapes system views =
     (i : ℕ) (c : Component) (v : View) (m : Machine) → slice_get system.components i ≡ Some c →
     slice_get views i ≡ Some v → v.fixed.machine ≡ Some m →
     IsMachineOf c.shape m × IsLawful c.shape m × IgnoresSlot m

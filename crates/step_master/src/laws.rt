@@ -1,5 +1,5 @@
-ghost use Rattle.step_master.specs.Lived.{HoldIsLived, LivesAreOver, RestIsLived, RunIsLived, UnmadeIsClosed};
-ghost use Rattle.step_master.specs.Traced.{ToldHeld, ToldHeldWell, ToldNone, ToldRest, ToldRestWell, ToldRun, ToldTrace, ToldUnmade};
+ghost use Rattle.step_master.specs.Sessions.{FailedStartIsClosed, HistoriesAreOver, HoldIsSession, ResumedIsSession, RunIsSession};
+ghost use Rattle.step_master.specs.Traced.{ToldFailedStart, ToldHeld, ToldHeldWell, ToldNone, ToldRest, ToldRestWell, ToldRun, ToldTrace};
 
 use course_laws::calls_of_runs;
 use machine_courses::{logs_of_machines, logs_of_rests};
@@ -9,12 +9,12 @@ use machine_courses::{logs_of_machines, logs_of_rests};
 /// armed for the point, the end is told by the first bad answer of the least component, and each peer is over, but for those
 /// that are sent nothing more after a Fatal of their source: it was never asked, its instance is gone or lost, or it keeps a
 /// state that Free was answered Discard for.
-pub fn lives_of_peers()
-    ensures run { RunIsLived }
-    ensures hold { HoldIsLived }
-    ensures rest { RestIsLived }
-    ensures unmade { UnmadeIsClosed }
-    ensures over { LivesAreOver }
+pub fn histories_of_peers()
+    ensures run { RunIsSession }
+    ensures hold { HoldIsSession }
+    ensures rest { ResumedIsSession }
+    ensures unmade { FailedStartIsClosed }
+    ensures over { HistoriesAreOver }
 {
     calls_of_runs();
 }
@@ -27,7 +27,7 @@ pub fn lives_of_peers()
 pub fn runs_of_machines()
     ensures run { ToldRun }
     ensures trace { ToldTrace }
-    ensures unmade { ToldUnmade }
+    ensures unmade { ToldFailedStart }
     ensures held { ToldHeld }
     ensures held_well { ToldHeldWell }
     ensures none { ToldNone }

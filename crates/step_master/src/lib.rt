@@ -4,11 +4,11 @@
 mod laws;
 mod master;
 mod prepare_end;
-mod seats;
+mod slot_table;
 mod taking;
 
 pub use calling_sequence::RunEnd;
-pub use laws::{lives_of_peers, runs_of_machines};
+pub use laws::{histories_of_peers, runs_of_machines};
 pub use master::Master;
 pub use prepare_end::{PrepareEnd, PrepareFault};
 pub use slot_calls::BadAnswer;

@@ -12,7 +12,7 @@ ghost use Rattle.step_master.specs.Master.{FailsToPrepare, Makes};
 ghost use Rattle.system_checkpoint.specs.Spelling.{CanBeHeld};
 ghost use Rattle.trace_text.specs.Holding.{IsHoldable};
 
-use crate::seats::Seats;
+use crate::slot_table::SlotTable;
 use crate::taking::no_bound;
 use crate::{PrepareEnd, PrepareFault, RunEnd};
 use calling_sequence::{
@@ -31,7 +31,7 @@ pub struct Master<L: Peer> {
     experiment: Experiment,
     // what the run goes on from where it is resumed
     held: Option<Snapshot>,
-    seats: Seats<L>,
+    slot_table: SlotTable<L>,
     buffers: Buffers,
     keeping: Keeping,
     was_run: bool,
@@ -79,11 +79,11 @@ impl<L: Peer> Master<L> {
                 fault: PrepareFault::Memory,
             });
         };
-        let seats = seat(alloc, &experiment, peers)?;
+        let slot_table = make_slots(alloc, &experiment, peers)?;
         Ok(Master {
             experiment,
             held: None,
-            seats,
+            slot_table,
             buffers,
             keeping,
             was_run: false,
@@ -129,11 +129,11 @@ impl<L: Peer> Master<L> {
                 fault: PrepareFault::Memory,
             });
         };
-        let seats = seat(alloc, &experiment, peers)?;
+        let slot_table = make_slots(alloc, &experiment, peers)?;
         Ok(Master {
             experiment,
             held: Some(held),
-            seats,
+            slot_table,
             buffers,
             keeping: Keeping::none(alloc),
             was_run: false,
@@ -154,7 +154,7 @@ impl<L: Peer> Master<L> {
             (O.view out.old) (O.view out.new) result }
     {
         self.was_run = true;
-        let slots = &mut self.seats.slots;
+        let slots = &mut self.slot_table.slots;
         match &self.held {
             None => run_slots(rt, slots, &self.experiment, &mut self.buffers, out),
             Some(held) => resume_slots(
@@ -189,7 +189,7 @@ impl<L: Peer> Master<L> {
         self.was_run = true;
         hold_slots(
             rt,
-            &mut self.seats.slots,
+            &mut self.slot_table.slots,
             &self.experiment,
             &mut self.buffers,
             &mut self.keeping,
@@ -206,12 +206,12 @@ impl<L: Peer> Master<L> {
         let Master {
             experiment: _,
             held: _,
-            seats,
+            slot_table,
             buffers: _,
             keeping: _,
             was_run: _,
         } = self;
-        seats.close()
+        slot_table.close()
     }
 
     /// The number of instants that were put.
@@ -256,25 +256,25 @@ fn can_serialize(components: &[Component]) -> bool
 
 // The peers in the slots of their components, with each instance made. Where an answer isn't good, or memory runs out, it
 // closes the peers and gives them back.
-fn seat<L: Peer>(
+fn make_slots<L: Peer>(
     alloc: Global,
     experiment: &Experiment,
     peers: Vec<L>,
-) -> Result<Seats<L>, PrepareEnd<L>>
+) -> Result<SlotTable<L>, PrepareEnd<L>>
     requires may { MayBeRun experiment.now }
     requires peers { ArePeersOf experiment.now.system (map L.view peers.items) }
-    ensures ready { IfOk result (λ seats. Ready L.view experiment.now (λ stop step. IsMade)
-        seats.slots.items) }
-    ensures makes { IfOk result (λ seats. Makes experiment.now.system experiment.now.plan.link
-        (map L.view peers.items) (instances L.view seats.slots.items)) }
+    ensures ready { IfOk result (λ slot_table. Ready L.view experiment.now (λ stop step. IsMade)
+        slot_table.slots.items) }
+    ensures makes { IfOk result (λ slot_table. Makes experiment.now.system experiment.now.plan.link
+        (map L.view peers.items) (instances L.view slot_table.slots.items)) }
     ensures err { IfErr result (λ end. FailsToPrepare experiment.now.system experiment.now.plan.link
         (map L.view peers.items) end.fault (map L.view end.peers.items)) }
 {
-    match Seats::new(alloc, experiment.system.components.as_slice(), peers) {
-        Ok(mut seats) => match seats.make(experiment.plan.link) {
-            Ok(()) => Ok(seats),
+    match SlotTable::new(alloc, experiment.system.components.as_slice(), peers) {
+        Ok(mut slot_table) => match slot_table.make(experiment.plan.link) {
+            Ok(()) => Ok(slot_table),
             Err(bad) => Err(PrepareEnd {
-                peers: seats.close(),
+                peers: slot_table.close(),
                 fault: PrepareFault::Bad(bad),
             }),
         },

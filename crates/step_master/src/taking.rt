@@ -1,7 +1,7 @@
 ghost use Rattle.std.specs.Prelude.{◌≡◌, ◌≤◌, ◌^◌, [], false, is_some, All, IfOk, OnOk, length, map, vec_len, vec_capacity};
 ghost use Rattle.fmi_calls.specs.Next.{fresh};
 ghost use Rattle.fmu_peer.specs.CloseAll.{instance_in, peer_in};
-ghost use Rattle.step_master.specs.Seats.{IsFresh, seat, seated};
+ghost use Rattle.step_master.specs.FreshInstances.{IsFresh, fresh_instance, fresh_instances};
 ghost use Rattle.fmu_peer.specs.Mode.{instantiate_of};
 ghost use Rattle.calling_sequence.specs.Place.{IsMade};
 ghost use Rattle.slot_calls.specs.Slots.{LiveSlot, Stands, instances};
@@ -14,7 +14,7 @@ use std::alloc::{AllocError, Global};
 use system_model::{Bound, Component};
 
 /// Puts each peer into the slot of its component.
-pub(crate) fn take_seats<L: Peer>(
+pub(crate) fn fill_slots<L: Peer>(
     empty: Vec<Slot<L>>,
     components: &[Component],
     peers: Vec<L>,
@@ -23,22 +23,23 @@ pub(crate) fn take_seats<L: Peer>(
     requires room { vec_len peers ≤ vec_capacity empty }
     requires each { length components.now ≡ vec_len peers }
     requires fresh { All (λ p. (L.view p).phase ≡ fresh (L.view p).fixed.shape) peers.items }
-    ensures slots { instances L.view result.items ≡ seated components.now (map L.view peers.items) }
+    ensures slots { instances L.view result.items ≡
+        fresh_instances components.now (map L.view peers.items) }
     ensures live { All (LiveSlot L.view) result.items }
 {
     let mut slots = empty;
     let mut left = peers.into_iter();
     while let Some(peer) = left.next() {
         let component = &components[slots.len()];
-        slots.push_reserved(take_seat(component, peer));
+        slots.push_reserved(fill_slot(component, peer));
     }
     left.destroy_empty();
     slots
 }
 
-fn take_seat<L: Peer>(component: &Component, peer: L) -> Slot<L>
+fn fill_slot<L: Peer>(component: &Component, peer: L) -> Slot<L>
     requires { (L.view peer).phase ≡ fresh (L.view peer).fixed.shape }
-    ensures slot { instance_in L.view result ≡ seat component.now (L.view peer) }
+    ensures slot { instance_in L.view result ≡ fresh_instance component.now (L.view peer) }
     ensures live { LiveSlot L.view result }
 {
     Slot {

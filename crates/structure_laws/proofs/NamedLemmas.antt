@@ -18,7 +18,7 @@ use Rattle.ssd_tree.specs.Elements.{holder, IsComponent, IsSystem}
 use Rattle.ssd_tree.specs.Parts.{Describes, InInner, InOutermost, IsBindingPart, IsComponentPart, IsFullName, IsPlaceOf, IsSystemPart, owner_node}
 use Rattle.ssd_tree.specs.Rules.{IsSoundStructure}
 use Rattle.ssd_tree.proofs.CallerLemmas.{holder_cases, alone_in_root, component_within as inside_document, contains_at, outermost_system, system_within}
-use Rattle.structure_laws.specs.Orderly.{AreRising, IsOrderly, StandsBehind}
+use Rattle.structure_laws.specs.Orderly.{AreRising, IsOrderly, StandsAfter}
 use Rattle.structure_laws.specs.OwnNames.{HasOwnName}
 use Rattle.ssd_tree.specs.Named.{Inner, IsInScope, IsNamedTree, IsOwner, IsScope, Outermost}
 
@@ -67,13 +67,13 @@ has_place nodes None k (Some j) h e = absurd h
 has_place nodes (Some place) k (Some j) h e = (place, refl, h ∙ e)
 
 module _ (t : List Node) (in_order : IsInOrder t) where
-  behind : (k p : ℕ) → parent t k ≡ Some p → p < k
-  behind k p e = subst (IsBelow k) e (in_order k)
+  after : (k p : ℕ) → parent t k ≡ Some p → p < k
+  after k p e = subst (IsBelow k) e (in_order k)
 
-  holder_behind : (k system : ℕ) (list : List ℕ) → holder t k list ≡ Some system → system < k
-  holder_behind k system list e =
+  holder_after : (k system : ℕ) (list : List ℕ) → holder t k list ≡ Some system → system < k
+  holder_after k system list e =
       let parts = holder_cases t k system list e in
-      omega (arith, behind k parts.0 parts.1, behind parts.0 system parts.3)
+      omega (arith, after k parts.0 parts.1, after parts.0 system parts.3)
 
   module _ (tree : SystemTree) (sound : IsSoundStructure t) (describes : Describes t tree) where
     -- the element of a System, by its place
@@ -98,7 +98,7 @@ module _ (t : List Node) (in_order : IsInOrder t) where
     outer s above part e up =
         let here = element s part e in
         let around = placed describes.nodes.systems above (holder t here.0 (codes "Elements")) (subst (λ (p : Option ℕ). IsPlaceOf describes.nodes.systems p (holder t here.0 (codes "Elements"))) up here.2.outer) in
-        lower above s around.0 here.0 around.2 here.1 (holder_behind here.0 around.0 (codes "Elements") around.1)
+        lower above s around.0 here.0 around.2 here.1 (holder_after here.0 around.0 (codes "Elements") around.1)
 
     long : length tree.systems ≡ length describes.nodes.systems
     long = AllZip-long (IsSystemPart t describes.nodes) describes.nodes.systems tree.systems describes.systems
@@ -206,12 +206,12 @@ module _ (t : List Node) (in_order : IsInOrder t) where
         no_parent None none = refl
         no_parent (Some above) none = absurd (none above refl)
 
-    stands : (i : ℕ) (c : ComponentPart) → slice_get tree.components i ≡ Some c → StandsBehind tree c
+    stands : (i : ℕ) (c : ComponentPart) → slice_get tree.components i ≡ Some c → StandsAfter tree c
     stands i c at =
         let here = component_element i c at in
         let around = placed describes.nodes.systems c.system (holder t here.0 (codes "Elements")) here.2.system in
         let part = across (IsSystemPart t describes.nodes) describes.nodes.systems tree.systems describes.systems c.system around.0 around.2 in
-        let less = holder_behind here.0 around.0 (codes "Elements") around.1 in
+        let less = holder_after here.0 around.0 (codes "Elements") around.1 in
         let a = here.2.node in
         let b = part.2.node in
         (part.0, part.1, omega (arith, less, a, b))

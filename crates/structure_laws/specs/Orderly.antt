@@ -11,8 +11,8 @@ AreRising xs =
     x.node < y.node
 
 -- the Component comes after its System
-abbrev pub StandsBehind : SystemTree → ComponentPart → Type 0
-StandsBehind t c =
+abbrev pub StandsAfter : SystemTree → ComponentPart → Type 0
+StandsAfter t c =
     (x : SystemPart) × (slice_get t.systems c.system ≡ Some x) × (x.node < c.node)
 
 -- Systems stand in document order among so many elements, each after the one that it stands in; the first has none around it
@@ -22,5 +22,5 @@ pub record IsOrderly (elements : ℕ) (t : SystemTree) : Type 0 where
   pub root : (x : SystemPart) × (slice_get t.systems 0 ≡ Some x) × (x.parent ≡ None)
   pub outer : (i above : ℕ) (x : SystemPart) → slice_get t.systems i ≡ Some x →
       x.parent ≡ Some above → above < i
-  pub within : (k : ℕ) (c : ComponentPart) → slice_get t.components k ≡ Some c → StandsBehind t c
+  pub within : (k : ℕ) (c : ComponentPart) → slice_get t.components k ≡ Some c → StandsAfter t c
   pub ends : (k : ℕ) (c : ComponentPart) → slice_get t.components k ≡ Some c → c.node < elements

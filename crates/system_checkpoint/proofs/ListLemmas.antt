@@ -7,7 +7,7 @@ use Rattle.system_model.specs.declared.system.Component.{Component}
 use Rattle.system_model.specs.declared.system.Port.{Port}
 use Rattle.exact_parts.specs.declared.taken.Taken.{Taken}
 use Rattle.exact_parts.specs.declared.taken.Taken.TheVariants.{Got, NeedMore, Bad}
-use Rattle.exact_parts.specs.Taking.{AreSingle, Behind, Breaks, Gets, IsFront, Takes, moved}
+use Rattle.exact_parts.specs.Taking.{After, AreSingle, Breaks, Gets, IsPrefix, Takes, moved}
 use Rattle.exact_parts.specs.Field.{IsSane}
 use Rattle.exact_parts.specs.Each.{Each}
 use Rattle.exact_parts.proofs.CallerLemmas.{Goes, HasSome, LeadsTo, each_single, goes_at_first, goes_bad, goes_end, goes_more, goes_on, kept_single, led_bad, led_more}
@@ -36,8 +36,8 @@ module _ {A V : Type 0} (part : A → V → List ℕ → Type 0) (single : (a : 
       subst (λ x. Goes part things [] (x ∷ drop (suc place) things) bytes values n (drop n bytes)) (sym is)
       (subst (λ left. Goes part things [] left bytes values n (drop n bytes)) (drop-cons things place thing lt) walks.goes)
 
-  pub each_more : IsFront (part thing) (take (length bytes - n) (drop n bytes)) → Takes (Each part things) bytes NeedMore
-  each_more front = goes_more part some things [] thing (drop (suc place) things) bytes values n (drop n bytes) here (subst (IsFront (part thing)) (tail_of bytes n) front)
+  pub each_more : IsPrefix (part thing) (take (length bytes - n) (drop n bytes)) → Takes (Each part things) bytes NeedMore
+  each_more prefix = goes_more part some things [] thing (drop (suc place) things) bytes values n (drop n bytes) here (subst (IsPrefix (part thing)) (tail_of bytes n) prefix)
 
   pub each_bad : (at : ℕ) → Breaks (part thing) (take (length bytes - n) (drop n bytes)) at → Takes (Each part things) bytes (Bad (n + at))
   each_bad at breaks = goes_bad part single some things [] thing (drop (suc place) things) bytes values n (drop n bytes) at here (subst (λ xs. Breaks (part thing) xs at) (tail_of bytes n) breaks)
@@ -63,14 +63,14 @@ each_done part things bytes values place n le walks =
 -- ---- all of them, and what comes after
 
 module _ {A V W : Type 0} (part : A → V → List ℕ → Type 0) (single : (a : A) → AreSingle (part a)) (things given : List A) (same : given ≡ things) (next : List V → W → List ℕ → Type 0) (bytes : List ℕ) where
-  pub all_then : (values : List V) (n : ℕ) (rest answer : Taken W) → Gets (Each part given) bytes values n → Takes (next values) (take (length bytes - n) (drop n bytes)) rest → answer ≡ moved n rest → Takes (Behind (Each part things) next) bytes answer
+  pub all_then : (values : List V) (n : ℕ) (rest answer : Taken W) → Gets (Each part given) bytes values n → Takes (next values) (take (length bytes - n) (drop n bytes)) rest → answer ≡ moved n rest → Takes (After (Each part things) next) bytes answer
   all_then values n rest answer got h is =
       then_takes (Each part things) next (each_single part single things []) bytes values n rest answer (subst (λ xs. Gets (Each part xs) bytes values n) same got) h is
 
-  pub all_more : LeadsTo (Each part things) next → IsFront (Each part given) bytes → IsFront (Behind (Each part things) next) bytes
-  all_more leads front = led_more (Each part things) next leads bytes (subst (λ xs. IsFront (Each part xs) bytes) same front)
+  pub all_more : LeadsTo (Each part things) next → IsPrefix (Each part given) bytes → IsPrefix (After (Each part things) next) bytes
+  all_more leads prefix = led_more (Each part things) next leads bytes (subst (λ xs. IsPrefix (Each part xs) bytes) same prefix)
 
-  pub all_bad : LeadsTo (Each part things) next → (at : ℕ) → Breaks (Each part given) bytes at → Breaks (Behind (Each part things) next) bytes at
+  pub all_bad : LeadsTo (Each part things) next → (at : ℕ) → Breaks (Each part given) bytes at → Breaks (After (Each part things) next) bytes at
   all_bad leads at breaks = led_bad (Each part things) next (each_single part single things []) leads bytes at (subst (λ xs. Breaks (Each part xs) bytes at) same breaks)
 
 -- ---- the parts

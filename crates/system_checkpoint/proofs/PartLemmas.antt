@@ -7,23 +7,33 @@ use Rattle.value_types.specs.declared.values.PortType.{PortType}
 use Rattle.value_types.specs.declared.values.PortType.TheVariants.{Int8, UInt8, Int16, UInt16, Int32, UInt32, Int64, UInt64, Boolean, Enumeration, Clock}
 use Rattle.exact_parts.specs.declared.field.Spans.{Spans}
 use Rattle.exact_parts.specs.declared.taken.Taken.{Taken}
-use Rattle.exact_parts.specs.declared.taken.Taken.TheVariants.{Got}
-use Rattle.exact_parts.specs.Taking.{AreSingle, Behind, Breaks, Gets, IsFront, Takes, moved}
+use Rattle.exact_parts.specs.declared.taken.Taken.TheVariants.{Got, NeedMore, Bad}
+use Rattle.exact_parts.specs.Taking.{After, AreSingle, Breaks, Gets, IsPrefix, Takes, end_of, moved}
 use Rattle.exact_parts.specs.Field.{AreBytes, Field, InSpans, IsSane}
 use Rattle.exact_parts.specs.Each.{Block, IsText, Made}
-use Rattle.exact_parts.proofs.CallerLemmas.{HasSome, LeadsTo, are_bytes, behind_single, field_filled, field_single, kept_single, led_some, next_takes, taken_bytes}
-use Rattle.system_checkpoint.specs.Parts.{Known, Low, Nothing, Optional, Shift, State, Times, Wide, Word, between, clock_times, joined, low_span, option_of, spans_behind, words}
+use Rattle.exact_parts.proofs.CallerLemmas.{HasSome, LeadsTo, after_single, are_bytes, field_filled, field_single, kept_single, led_some, next_takes, taken_bytes}
+use Rattle.system_checkpoint.specs.Parts.{Known, Low, Nothing, Optional, Shift, State, Times, Wide, Word, between, clock_times, joined, low_span, option_of, spans_after, words}
 
 -- ---- in general
 
 tail_of : (bytes : List ℕ) (n : ℕ) → take (length bytes - n) (drop n bytes) ≡ drop n bytes
 tail_of bytes n = take_all _ _ (omega (arith, length-drop n bytes))
 
+-- what is told of lies within the bytes
+pub ends_within : {V : Type 0} (frame : V → List ℕ → Type 0) (bytes : List ℕ) (taken : Taken V) → Takes frame bytes taken → end_of taken ≤ length bytes
+ends_within frame bytes (Got v n) h = h.within
+ends_within frame bytes NeedMore h = omega arith
+ends_within frame bytes (Bad at) h = (let w = h.within in omega (arith, w))
+
+-- what was taken of the bytes after some
+pub taken_after : {V : Type 0} (frame : V → List ℕ → Type 0) (bytes after : List ℕ) (n : ℕ) (taken : Taken V) → after ≡ drop n bytes → Takes frame after taken → Takes frame (take (length bytes - n) (drop n bytes)) taken
+taken_after frame bytes after n taken is h = subst (λ xs. Takes frame xs taken) (is ∙ sym (tail_of bytes n)) h
+
 -- the first is there, and what was taken after it is what is answered
 pub then_takes : {N V : Type 0} (first : N → List ℕ → Type 0) (next : N → V → List ℕ → Type 0) → AreSingle first → (bytes : List ℕ) (n : N) (m : ℕ) (rest answer : Taken V) →
-    Gets first bytes n m → Takes (next n) (take (length bytes - m) (drop m bytes)) rest → answer ≡ moved m rest → Takes (Behind first next) bytes answer
+    Gets first bytes n m → Takes (next n) (take (length bytes - m) (drop m bytes)) rest → answer ≡ moved m rest → Takes (After first next) bytes answer
 then_takes first next single bytes n m rest answer got h is =
-    subst (λ t. Takes (Behind first next) bytes t) (sym is)
+    subst (λ t. Takes (After first next) bytes t) (sym is)
     (next_takes first next single bytes n m rest got (subst (λ xs. Takes (next n) xs rest) (tail_of bytes m) h))
 
 pub field_some : (size : ℕ) (spans : Spans) → IsSane size spans → HasSome (Field size spans)
@@ -38,14 +48,14 @@ made_some part make some = record { value = make some.value; bytes = some.bytes;
 
 pub record IsWithin (low high n : ℕ) : Type 0 where
   pub from : low ≤ n
-  pub upto : n ≤ high
+  pub up_to : n ≤ high
 
 pub within : (low high n : ℕ) → InSpans (between low high) n → IsWithin low high n
-within low high n (inl s) = record { from = s.from; upto = s.upto }
-within low high n (inr s) = record { from = s.from; upto = s.upto }
+within low high n (inl s) = record { from = s.from; up_to = s.up_to }
+within low high n (inr s) = record { from = s.from; up_to = s.up_to }
 
 pub in_between : (low high n : ℕ) → low ≤ n → n ≤ high → InSpans (between low high) n
-in_between low high n le ge = inl (record { from = le; upto = ge })
+in_between low high n le ge = inl (record { from = le; up_to = ge })
 
 pub sane_8 : (low high : ℕ) → low ≤ high → low < 2 ^ 64 → IsSane 8 (between low high)
 sane_8 low high le lt = record { one = le; other = le; fits = omega (arith, lt) }
@@ -66,8 +76,8 @@ if_sane : (b : Bool) (spans : Spans) → IsSane 8 spans → IsSane 8 (if b then 
 if_sane true spans h = h
 if_sane false spans h = none_sane
 
-pub behind_sane : (spans : Spans) (flag : ℕ) → IsSane 8 spans → IsSane 8 (spans_behind spans flag)
-behind_sane spans flag h = if_sane (flag == 1) spans h
+pub after_sane : (spans : Spans) (flag : ℕ) → IsSane 8 spans → IsSane 8 (spans_after spans flag)
+after_sane spans flag h = if_sane (flag == 1) spans h
 
 pub words_sane : (kind : PortType) → IsSane 8 (words kind)
 words_sane Int8 = record { one = omega arith; other = omega arith; fits = omega arith }
@@ -95,13 +105,13 @@ low_sane least high le = (elim (high == 2 ^ 62) as (λ b. IsSane 8 (if b then be
 -- ---- a number or none
 
 word_single : (spans : Spans) (flag : ℕ) → AreSingle (Word spans flag)
-word_single spans flag = kept_single (Field 8 (spans_behind spans flag)) (option_of flag) (field_single 8 (spans_behind spans flag))
+word_single spans flag = kept_single (Field 8 (spans_after spans flag)) (option_of flag) (field_single 8 (spans_after spans flag))
 
 pub optional_single : (most : ℕ) (spans : Spans) → AreSingle (Optional most spans)
-optional_single most spans = behind_single (Field 1 (between 0 most)) (Word spans) (field_single 1 (between 0 most)) (word_single spans)
+optional_single most spans = after_single (Field 1 (between 0 most)) (Word spans) (field_single 1 (between 0 most)) (word_single spans)
 
 pub flag_leads : (most : ℕ) (spans : Spans) → IsSane 8 spans → LeadsTo (Field 1 (between 0 most)) (Word spans)
-flag_leads most spans sane = λ flag bytes h. made_some (Field 8 (spans_behind spans flag)) (option_of flag) (field_some 8 (spans_behind spans flag) (behind_sane spans flag sane))
+flag_leads most spans sane = λ flag bytes h. made_some (Field 8 (spans_after spans flag)) (option_of flag) (field_some 8 (spans_after spans flag) (after_sane spans flag sane))
 
 pub optional_some : (most : ℕ) (spans : Spans) → IsSane 8 spans → HasSome (Optional most spans)
 optional_some most spans sane = led_some (Field 1 (between 0 most)) (Word spans) (field_some 1 (between 0 most) (flags_sane most)) (flag_leads most spans sane)
@@ -133,8 +143,8 @@ pub text_more : (text bytes : List ℕ) (place : ℕ) → place < length text �
 text_more text bytes place lt lt2 same here =
     take_more bytes place 0 lt2 ∙ ap (λ xs. xs ++ get_or bytes place 0 ∷ []) same ∙ ap (λ x. take place text ++ x ∷ []) here ∙ sym (take_more text place 0 lt)
 
-pub text_front : (text bytes : List ℕ) (place : ℕ) → place < length text → place ≡ length bytes → take place bytes ≡ take place text → IsFront (IsText text) bytes
-text_front text bytes place lt e same =
+pub text_prefix : (text bytes : List ℕ) (place : ℕ) → place < length text → place ≡ length bytes → take place bytes ≡ take place text → IsPrefix (IsText text) bytes
+text_prefix text bytes place lt e same =
     let whole : take place bytes ≡ bytes = take_all place bytes (omega (arith, e)) in
     record { value = tt; more = drop place text; spelled = ap (λ xs. xs ++ drop place text) (sym whole ∙ same) ∙ take-append-drop place text; goes_on = omega (arith, length-drop place text) }
 
@@ -148,7 +158,7 @@ get_left (x ∷ xs) ys (suc n) lt =
 text_breaks : (text bytes : List ℕ) (place : ℕ) → place < length text → place < length bytes → take place bytes ≡ take place text → (get_or bytes place 0 ≡ get_or text place 0 → ⊥) → Breaks (IsText text) bytes place
 text_breaks text bytes place lt lt2 same other = record {
   within = lt2;
-  front = text_front text (take place bytes) place lt (omega (arith, length-take place bytes)) (take_all place (take place bytes) (omega (arith, length-take place bytes)) ∙ same);
+  prefix = text_prefix text (take place bytes) place lt (omega (arith, length-take place bytes)) (take_all place (take place bytes) (omega (arith, length-take place bytes)) ∙ same);
   none = λ b.
       let there : get_or (take (place + 1) bytes ++ b.more) place 0 ≡ get_or text place 0 = ap (λ xs. get_or xs place 0) b.spelled in
       let left : get_or (take (place + 1) bytes ++ b.more) place 0 ≡ get_or bytes place 0 = get_left bytes b.more place lt2 in
@@ -166,7 +176,7 @@ pub text_bad : (text bytes : List ℕ) (place : ℕ) → place < length text →
 text_bad text bytes place lt le other same here = text_breaks text bytes place lt (less place (length bytes) le other) same here
 
 pub known_single : (text : List ℕ) → AreSingle (Known text)
-known_single text = behind_single (Field 4 (between (length text) (length text))) (λ (n : ℕ). IsText text) (field_single 4 (between (length text) (length text))) (λ n. text_single text)
+known_single text = after_single (Field 4 (between (length text) (length text))) (λ (n : ℕ). IsText text) (field_single 4 (between (length text) (length text))) (λ n. text_single text)
 
 pub size_leads : (text : List ℕ) → LeadsTo (Field 4 (between (length text) (length text))) (λ (n : ℕ). IsText text)
 size_leads text = λ n bytes h. text_some text
@@ -201,21 +211,21 @@ block_single size v w xs more p q =
 block_some : (size : ℕ) → HasSome (Block size)
 block_some size = record { value = zeros size; bytes = zeros size; spelled = record { is = refl; size_is = length_zeros size; are_bytes = bytes_zeros size } }
 
-pub block_got : (size : ℕ) (bytes : List ℕ) → size ≤ length bytes → ((i : ℕ) → get_or bytes i 0 < 256) → Gets (Block size) bytes (take size bytes) size
-block_got size bytes le small = record { within = le; spelled = record { is = refl; size_is = omega (arith, length-take size bytes, le); are_bytes = taken_bytes size bytes (are_bytes bytes small) } }
+pub block_got : (size : ℕ) (bytes : List ℕ) → size ≤ length bytes → AreBytes bytes → Gets (Block size) bytes (take size bytes) size
+block_got size bytes le are = record { within = le; spelled = record { is = refl; size_is = omega (arith, length-take size bytes, le); are_bytes = taken_bytes size bytes are } }
 
-pub block_front : (size : ℕ) (bytes : List ℕ) → length bytes < size → ((i : ℕ) → get_or bytes i 0 < 256) → IsFront (Block size) bytes
-block_front size bytes lt small =
+pub block_prefix : (size : ℕ) (bytes : List ℕ) → length bytes < size → AreBytes bytes → IsPrefix (Block size) bytes
+block_prefix size bytes lt are =
     let left = size - length bytes in
     record {
       value = bytes ++ zeros left;
       more = zeros left;
-      spelled = record { is = refl; size_is = omega (arith, length-append bytes (zeros left), length_zeros left, lt); are_bytes = bytes_append bytes (zeros left) (are_bytes bytes small) (bytes_zeros left) };
+      spelled = record { is = refl; size_is = omega (arith, length-append bytes (zeros left), length_zeros left, lt); are_bytes = bytes_append bytes (zeros left) are (bytes_zeros left) };
       goes_on = omega (arith, length_zeros left, lt);
     }
 
 pub state_single : AreSingle State
-state_single = behind_single (Field 4 (between 0 (2 ^ 20))) Block (field_single 4 (between 0 (2 ^ 20))) block_single
+state_single = after_single (Field 4 (between 0 (2 ^ 20))) Block (field_single 4 (between 0 (2 ^ 20))) block_single
 
 pub state_leads : LeadsTo (Field 4 (between 0 (2 ^ 20))) Block
 state_leads = λ n bytes h. block_some n
@@ -232,7 +242,7 @@ pub high_leads : (least : ℕ) → least ≤ 1 → LeadsTo (Field 8 (between 0 (
 high_leads least le = λ high bytes h. made_some (Field 8 (low_span least high)) (joined high) (field_some 8 (low_span least high) (low_sane least high le))
 
 pub wide_single : (least : ℕ) → AreSingle (Wide least)
-wide_single least = behind_single (Field 8 (between 0 (2 ^ 62))) (Low least) (field_single 8 (between 0 (2 ^ 62))) (low_single least)
+wide_single least = after_single (Field 8 (between 0 (2 ^ 62))) (Low least) (field_single 8 (between 0 (2 ^ 62))) (low_single least)
 
 wide_some : (least : ℕ) → least ≤ 1 → HasSome (Wide least)
 wide_some least le = led_some (Field 8 (between 0 (2 ^ 62))) (Low least) (field_some 8 (between 0 (2 ^ 62)) (sane_8 0 (2 ^ 62) (omega arith) (omega arith))) (high_leads least le)
@@ -244,7 +254,7 @@ pub interval_leads : LeadsTo (Wide 1) Shift
 interval_leads = λ interval bytes h. made_some (Wide 0) (clock_times interval) (wide_some 0 (omega arith))
 
 pub times_single : AreSingle Times
-times_single = behind_single (Wide 1) Shift (wide_single 1) shift_single
+times_single = after_single (Wide 1) Shift (wide_single 1) shift_single
 
 pub times_some : HasSome Times
 times_some = led_some (Wide 1) Shift (wide_some 1 (omega arith)) interval_leads

@@ -30,42 +30,42 @@ counts_seconds bytes plan h =
     let made = numbers.is_next.is_next.is_next.is_next.is_next in
     let same : plan.resolution ≡ numbers.number = ap (λ (first : First). first.plan.resolution) made.is in
     let w = within 1 count_max numbers.number numbers.is_first.span in
-    (omega (arith, same, w.from), omega (arith, same, w.upto))
+    (omega (arith, same, w.from), omega (arith, same, w.up_to))
 
 pub begins_with_plan : (system : System) (header : List ℕ) (held : Snapshot) (bytes : List ℕ) → Checkpoint system header held bytes → HasPlan bytes held.plan
 begins_with_plan system header held bytes h =
     let kept = h.is_next.is_next.is_next.is_next.is_next.is_next in
     let plan_is : held.plan ≡ h.number.plan = ap (λ (s : Snapshot). s.plan) kept.is in
-    let front : take (length h.front) bytes ≡ h.front = ap (take (length h.front)) h.both ∙ take-append_seam h.front h.rest in
+    let prefix : take (length h.prefix) bytes ≡ h.prefix = ap (take (length h.prefix)) h.both ∙ take-append_seam h.prefix h.rest in
     subst (HasPlan bytes) (sym plan_is) (record {
       point = h.number.point;
-      length = length h.front;
+      length = length h.prefix;
       stands = record {
-        within = let all = ap (λ (xs : List ℕ). length xs) h.both ∙ length-append h.front h.rest in omega (arith, all);
-        spelled = subst (IsFirst h.number) (sym front) h.is_first;
+        within = let all = ap (λ (xs : List ℕ). length xs) h.both ∙ length-append h.prefix h.rest in omega (arith, all);
+        spelled = subst (IsFirst h.number) (sym prefix) h.is_first;
       };
     })
 
 -- two bytes at which nothing goes on are one
 module _ {V : Type 0} (frame : V → List ℕ → Type 0) (bytes : List ℕ) where
   not_before : (at other : ℕ) → at < other → other ≤ length bytes → (at < length bytes → Begins frame (take (at + 1) bytes) → ⊥) → Begins frame (take other bytes) → ⊥
-  not_before at other lt within next front =
-      next (omega (arith, lt, within)) (subst (Begins frame) (take-take (at + 1) other bytes (omega (arith, lt))) (begins_cut frame (at + 1) (take other bytes) front))
+  not_before at other lt within next prefix =
+      next (omega (arith, lt, within)) (subst (Begins frame) (take-take (at + 1) other bytes (omega (arith, lt))) (begins_cut frame (at + 1) (take other bytes) prefix))
 
   pub breaks_once : (at other : ℕ) → at ≤ length bytes → other ≤ length bytes → (at < length bytes → Begins frame (take (at + 1) bytes) → ⊥) → (other < length bytes → Begins frame (take (other + 1) bytes) → ⊥) →
       Begins frame (take at bytes) → Begins frame (take other bytes) → at ≡ other
-  breaks_once at other within_at within_other next_at next_other front_at front_other = by (cases_lt at other)
+  breaks_once at other within_at within_other next_at next_other prefix_at prefix_other = by (cases_lt at other)
     where
       by : (at < other) ⊎ (other ≤ at) → at ≡ other
-      by (inl l) = absurd (not_before at other l within_other next_at front_other)
+      by (inl l) = absurd (not_before at other l within_other next_at prefix_other)
       by (inr g) = here (cases_lt other at)
         where
           here : (other < at) ⊎ (at ≤ other) → at ≡ other
-          here (inl l) = absurd (not_before other at l within_at next_other front_at)
+          here (inl l) = absurd (not_before other at l within_at next_other prefix_at)
           here (inr h) = omega (arith, g, h)
 
 pub lacks_at_one : (bytes : List ℕ) (at other : ℕ) → HasNone bytes at → HasNone bytes other → at ≡ other
-lacks_at_one bytes at other h k = breaks_once IsFirst bytes at other h.within k.within h.next k.next h.front k.front
+lacks_at_one bytes at other h k = breaks_once IsFirst bytes at other h.within k.within h.next k.next h.prefix k.prefix
 
 pub breaks_at_one : (system : System) (header bytes : List ℕ) (at other : ℕ) → IsBad system header bytes at → IsBad system header bytes other → at ≡ other
-breaks_at_one system header bytes at other h k = breaks_once (Checkpoint system header) bytes at other h.within k.within h.next k.next h.front k.front
+breaks_at_one system header bytes at other h k = breaks_once (Checkpoint system header) bytes at other h.within k.within h.next k.next h.prefix k.prefix

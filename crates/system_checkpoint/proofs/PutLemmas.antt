@@ -4,8 +4,8 @@ use Rattle.std.specs.List.{flat_map}
 use Rattle.std.proofs.lemmas.List.{length-append}
 
 -- one part is there, and the others come after it
-pub put_behind : (old mid new x y : List ℕ) → mid ≡ old ++ x → new ≡ mid ++ y → new ≡ old ++ (x ++ y)
-put_behind old mid new x y e f = f ∙ ap (λ (t : List ℕ). t ++ y) e ∙ append_assoc old x y
+pub put_after : (old mid new x y : List ℕ) → mid ≡ old ++ x → new ≡ mid ++ y → new ≡ old ++ (x ++ y)
+put_after old mid new x y e f = f ∙ ap (λ (t : List ℕ). t ++ y) e ∙ append_assoc old x y
 
 -- the list that was given is this one
 pub put_list : {V : Type 0} (spell : V → List ℕ) (given xs : List V) (old new : List ℕ) → given ≡ xs → new ≡ old ++ flat_map spell given → new ≡ old ++ flat_map spell xs

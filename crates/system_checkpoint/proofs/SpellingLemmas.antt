@@ -20,14 +20,14 @@ use Rattle.system_checkpoint.specs.declared.snapshot.Arming.{Arming}
 use Rattle.system_checkpoint.specs.declared.snapshot.Arming.TheVariants.{NoClock, Unarmed, At}
 use Rattle.system_checkpoint.specs.declared.snapshot.ClockTimes.{ClockTimes}
 use Rattle.system_checkpoint.specs.declared.snapshot.Snapshot.{Snapshot}
-use Rattle.system_checkpoint.specs.Parts.{Known, Nothing, Optional, Times, Wide, arming_of, between, clock_times, low_span, option_of, spans_behind, words}
+use Rattle.system_checkpoint.specs.Parts.{Known, Nothing, Optional, Times, Wide, arming_of, between, clock_times, low_span, option_of, spans_after, words}
 use Rattle.system_checkpoint.specs.First.{IsFirst, count_max, first_of, limit_max, magic, plan_of}
 use Rattle.system_checkpoint.specs.Whole.{ArmingIf, ArmingOf, Checkpoint, EventOf, StateOf, TimesIf, TimesOf, WordOf, begun, is_asked, may_be_armed}
 use Rattle.system_checkpoint.specs.Spelling.{AllBy, AreTimes, CanBeHeld, HasArming, HasEvent, HasTimes, IsArming, IsInLimits, IsState, IsToCome, IsWord, arming_bytes, first_bytes, option_bytes, sized, spelling, times_bytes, wide_bytes}
 use Rattle.system_checkpoint.proofs.PartLemmas.{in_between, within}
 
-both_are : (bytes front rest one other : List ℕ) → bytes ≡ front ++ rest → front ≡ one → rest ≡ other → bytes ≡ one ++ other
-both_are bytes front rest one other both e f = both ∙ ap (λ xs. xs ++ rest) e ∙ ap (λ xs. one ++ xs) f
+both_are : (bytes prefix rest one other : List ℕ) → bytes ≡ prefix ++ rest → prefix ≡ one → rest ≡ other → bytes ≡ one ++ other
+both_are bytes prefix rest one other both e f = both ∙ ap (λ xs. xs ++ rest) e ∙ ap (λ xs. one ++ xs) f
 
 -- ---- a number or none
 
@@ -35,27 +35,27 @@ pub record Right (most : ℕ) (spans : Spans) (value : Option ℕ) (bytes : List
   pub is : bytes ≡ option_bytes value
   pub right : IfSome value (λ word. InSpans spans word × (1 ≤ most))
 
-by_flag : (most : ℕ) (spans : Spans) (flag word : ℕ) (value : Option ℕ) (front rest : List ℕ) → flag ≤ 1 → flag ≤ most → front ≡ flag ∷ [] → Field 8 (spans_behind spans flag) word rest → value ≡ option_of flag word → Right most spans value (front ++ rest)
-by_flag most spans zero word value front rest le few e field is =
+by_flag : (most : ℕ) (spans : Spans) (flag word : ℕ) (value : Option ℕ) (prefix rest : List ℕ) → flag ≤ 1 → flag ≤ most → prefix ≡ flag ∷ [] → Field 8 (spans_after spans flag) word rest → value ≡ option_of flag word → Right most spans value (prefix ++ rest)
+by_flag most spans zero word value prefix rest le few e field is =
     let o = only_8 (between 0 0) word rest field in
-    let none : word ≡ 0 = omega (arith, (within 0 0 word field.span).upto) in
+    let none : word ≡ 0 = omega (arith, (within 0 0 word field.span).up_to) in
     record { is = ap (λ xs. xs ++ rest) e ∙ ap (λ xs. 0 ∷ xs) (o.is ∙ ap (to_be_bytes w64) none) ∙ ap option_bytes (sym is); right = subst (λ (v : Option ℕ). IfSome v (λ word. InSpans spans word × (1 ≤ most))) (sym is) tt }
-by_flag most spans (suc zero) word value front rest le few e field is =
+by_flag most spans (suc zero) word value prefix rest le few e field is =
     let o = only_8 spans word rest field in
     record { is = ap (λ xs. xs ++ rest) e ∙ ap (λ xs. 1 ∷ xs) o.is ∙ ap option_bytes (sym is); right = subst (λ (v : Option ℕ). IfSome v (λ word. InSpans spans word × (1 ≤ most))) (sym is) (field.span, few) }
-by_flag most spans (suc (suc n)) word value front rest le few e field is = absurd (omega (arith, le))
+by_flag most spans (suc (suc n)) word value prefix rest le few e field is = absurd (omega (arith, le))
 
 optional_once : (most : ℕ) → most ≤ 1 → (spans : Spans) (value : Option ℕ) (bytes : List ℕ) → Optional most spans value bytes → Right most spans value bytes
 optional_once most one spans value bytes h =
     let made = h.is_next in
     let flag = within 0 most h.number h.is_first.span in
-    let right = by_flag most spans h.number made.value value h.front h.rest (omega (arith, flag.upto, one)) flag.upto (only_1 (between 0 most) h.number h.front h.is_first).is made.spelled made.is in
+    let right = by_flag most spans h.number made.value value h.prefix h.rest (omega (arith, flag.up_to, one)) flag.up_to (only_1 (between 0 most) h.number h.prefix h.is_first).is made.spelled made.is in
     record { is = h.both ∙ right.is; right = right.right }
 
 optional_all : (most : ℕ) (spans : Spans) (value : Option ℕ) → IfSome value (λ word. (InSpans spans word × (1 ≤ most)) × (word < 2 ^ 64)) → Optional most spans value (option_bytes value)
 optional_all most spans None h = record {
   number = 0;
-  front = 0 ∷ [];
+  prefix = 0 ∷ [];
   rest = to_be_bytes w64 0;
   is_first = field_1 (between 0 most) 0 (omega arith) (in_between 0 most 0 (omega arith) (omega arith));
   is_next = record { value = 0; is = refl; spelled = field_8 (between 0 0) 0 (omega arith) (in_between 0 0 0 (omega arith) (omega arith)) };
@@ -63,7 +63,7 @@ optional_all most spans None h = record {
 }
 optional_all most spans (Some word) h = record {
   number = 1;
-  front = 1 ∷ [];
+  prefix = 1 ∷ [];
   rest = to_be_bytes w64 word;
   is_first = field_1 (between 0 most) 1 (omega arith) (in_between 0 most 1 (omega arith) h.0.1);
   is_next = record { value = word; is = refl; spelled = field_8 spans word h.1 h.0.0 };
@@ -71,8 +71,8 @@ optional_all most spans (Some word) h = record {
 }
 
 small_spans : (spans : Spans) (n : ℕ) → spans.one.high < 2 ^ 64 → spans.other.high < 2 ^ 64 → InSpans spans n → n < 2 ^ 64
-small_spans spans n one other (inl s) = omega (arith, s.upto, one)
-small_spans spans n one other (inr s) = omega (arith, s.upto, other)
+small_spans spans n one other (inl s) = omega (arith, s.up_to, one)
+small_spans spans n one other (inr s) = omega (arith, s.up_to, other)
 
 words_small : (kind : PortType) (n : ℕ) → InSpans (words kind) n → n < 2 ^ 64
 words_small Int8 n h = small_spans (words Int8) n (omega arith) (omega arith) h
@@ -99,7 +99,7 @@ bottom_is least high low h e = (within least (2 ^ 64 - 1) low (subst (λ (k : �
 low_is : (least high low : ℕ) → InSpans (low_span least high) low → LowIs least high low
 low_is least high low h = (elim (high == 2 ^ 62) as (λ b. high == 2 ^ 62 ≡ b → InSpans (if b then between 0 0 else between (if high == 0 then least else 0) (2 ^ 64 - 1)) low → LowIs least high low) [
   | true ↦ λ e s. record {
-    top = λ t. omega (arith, (within 0 0 low s).upto);
+    top = λ t. omega (arith, (within 0 0 low s).up_to);
     bottom = λ z. absurd (omega (arith, z, eqb-true high (2 ^ 62) e));
   }
   | false ↦ λ e s. record { top = λ t. absurd (eqb-false high (2 ^ 62) e t); bottom = bottom_is least high low s }
@@ -108,7 +108,7 @@ low_is least high low h = (elim (high == 2 ^ 62) as (λ b. high == 2 ^ 62 ≡ b 
 pub record WideIs (least n : ℕ) (bytes : List ℕ) : Type 0 where
   pub is : bytes ≡ wide_bytes n
   pub from : least ≤ n
-  pub upto : n ≤ 2 ^ 126
+  pub up_to : n ≤ 2 ^ 126
 
 at_most : (high low n : ℕ) → high ≤ 2 ^ 62 → low < 2 ^ 64 → (high ≡ 2 ^ 62 → low ≡ 0) → n ≡ high * 2 ^ 64 + low → n ≤ 2 ^ 126
 at_most high low n le lt top is = (elim (high == 2 ^ 62) as (λ b. high == 2 ^ 62 ≡ b → n ≤ 2 ^ 126) [
@@ -132,15 +132,15 @@ wide_once least n bytes one h =
     let high = h.number in
     let low = made.value in
     let w = within 0 (2 ^ 62) high h.is_first.span in
-    let o = only_8 (between 0 (2 ^ 62)) high h.front h.is_first in
+    let o = only_8 (between 0 (2 ^ 62)) high h.prefix h.is_first in
     let p = only_8 (low_span least high) low h.rest made.spelled in
     let facts = low_is least high low made.spelled.span in
     let is : n ≡ high * 2 ^ 64 + low = made.is in
     let same = halves high low (n / 2 ^ 64) (n % 2 ^ 64) n is p.below (div-add-mod' n (2 ^ 64)) (mod_below n (2 ^ 64) (omega arith)) in
     record {
-      is = both_are bytes h.front h.rest (to_be_bytes w64 (n / 2 ^ 64)) (to_be_bytes w64 (n % 2 ^ 64)) h.both (o.is ∙ ap (to_be_bytes w64) same.0) (p.is ∙ ap (to_be_bytes w64) same.1);
+      is = both_are bytes h.prefix h.rest (to_be_bytes w64 (n / 2 ^ 64)) (to_be_bytes w64 (n % 2 ^ 64)) h.both (o.is ∙ ap (to_be_bytes w64) same.0) (p.is ∙ ap (to_be_bytes w64) same.1);
       from = at_least least high low n one facts.bottom is;
-      upto = at_most high low n w.upto p.below facts.top is;
+      up_to = at_most high low n w.up_to p.below facts.top is;
     }
 
 in_least : (least high low : ℕ) → low < 2 ^ 64 → (high ≡ 0 → least ≤ low) → InSpans (between (if high == 0 then least else 0) (2 ^ 64 - 1)) low
@@ -156,39 +156,39 @@ in_low least high low lt top bottom = (elim (high == 2 ^ 62) as (λ b. high == 2
 ]) refl
 
 by_halves : (least n high low : ℕ) → least ≤ n → n ≤ 2 ^ 126 → n ≡ high * 2 ^ 64 + low → low < 2 ^ 64 → Wide least n (to_be_bytes w64 high ++ to_be_bytes w64 low)
-by_halves least n high low from upto is lt =
-    let le : high ≤ 2 ^ 62 = omega (arith, is, upto) in
+by_halves least n high low from up_to is lt =
+    let le : high ≤ 2 ^ 62 = omega (arith, is, up_to) in
     record {
       number = high;
-      front = to_be_bytes w64 high;
+      prefix = to_be_bytes w64 high;
       rest = to_be_bytes w64 low;
       is_first = field_8 (between 0 (2 ^ 62)) high (omega (arith, le)) (in_between 0 (2 ^ 62) high (omega arith) le);
       is_next = record {
         value = low;
         is = is;
-        spelled = field_8 (low_span least high) low lt (in_low least high low lt (λ e. omega (arith, is, e, upto)) (λ e. omega (arith, is, e, from)));
+        spelled = field_8 (low_span least high) low lt (in_low least high low lt (λ e. omega (arith, is, e, up_to)) (λ e. omega (arith, is, e, from)));
       };
       both = refl;
     }
 
 wide_all : (least n : ℕ) → least ≤ n → n ≤ 2 ^ 126 → Wide least n (wide_bytes n)
-wide_all least n from upto =
-    by_halves least n (n / 2 ^ 64) (n % 2 ^ 64) from upto (sym (div-add-mod' n (2 ^ 64))) (mod_below n (2 ^ 64) (omega arith))
+wide_all least n from up_to =
+    by_halves least n (n / 2 ^ 64) (n % 2 ^ 64) from up_to (sym (div-add-mod' n (2 ^ 64))) (mod_below n (2 ^ 64) (omega arith))
 
 times_once : (times : ClockTimes) (bytes : List ℕ) → Times times bytes → (bytes ≡ times_bytes (Some times)) × AreTimes times
 times_once times bytes h =
     let made = h.is_next in
-    let one = wide_once 1 h.number h.front (omega arith) h.is_first in
+    let one = wide_once 1 h.number h.prefix (omega arith) h.is_first in
     let other = wide_once 0 made.value h.rest (omega arith) made.spelled in
     let is : times ≡ clock_times h.number made.value = made.is in (
-      both_are bytes h.front h.rest (wide_bytes h.number) (wide_bytes made.value) h.both one.is other.is ∙ ap (λ (t : ClockTimes). times_bytes (Some t)) (sym is),
-      subst AreTimes (sym is) (record { moves = one.from; interval = one.upto; shift = other.upto }),
+      both_are bytes h.prefix h.rest (wide_bytes h.number) (wide_bytes made.value) h.both one.is other.is ∙ ap (λ (t : ClockTimes). times_bytes (Some t)) (sym is),
+      subst AreTimes (sym is) (record { moves = one.from; interval = one.up_to; shift = other.up_to }),
     )
 
 times_all : (times : ClockTimes) → AreTimes times → Times times (times_bytes (Some times))
 times_all times h = record {
   number = times.interval;
-  front = wide_bytes times.interval;
+  prefix = wide_bytes times.interval;
   rest = wide_bytes times.shift;
   is_first = wide_all 1 times.interval h.moves h.interval;
   is_next = record { value = times.shift; is = refl; spelled = wide_all 0 times.shift (omega arith) h.shift };
@@ -203,14 +203,14 @@ state_once component state bytes h =
     let state_is : h.rest ≡ state = sym block.is in
     let size : h.number ≡ length state = sym block.size_is ∙ ap length state_is in
     let w = within 0 (2 ^ 20) h.number h.is_first.span in (
-      both_are bytes h.front h.rest (to_be_bytes w32 (length state)) state h.both ((only_4 (between 0 (2 ^ 20)) h.number h.front h.is_first).is ∙ ap (to_be_bytes w32) size) state_is,
-      record { size = omega (arith, size, w.upto); are_bytes = subst AreBytes state_is block.are_bytes },
+      both_are bytes h.prefix h.rest (to_be_bytes w32 (length state)) state h.both ((only_4 (between 0 (2 ^ 20)) h.number h.prefix h.is_first).is ∙ ap (to_be_bytes w32) size) state_is,
+      record { size = omega (arith, size, w.up_to); are_bytes = subst AreBytes state_is block.are_bytes },
     )
 
 pub state_all : (component : Component) (state : List ℕ) → IsState component state → StateOf component state (sized state)
 state_all component state h = record {
   number = length state;
-  front = to_be_bytes w32 (length state);
+  prefix = to_be_bytes w32 (length state);
   rest = state;
   is_first = field_4 (between 0 (2 ^ 20)) (length state) (omega (arith, h.size)) (in_between 0 (2 ^ 20) (length state) (omega arith) h.size);
   is_next = record { is = refl; size_is = refl; are_bytes = h.are_bytes };
@@ -275,7 +275,7 @@ module _ (held : Snapshot) where
   coming = between low high
 
   to_come : (point : ℕ) → InSpans coming point → IsToCome held point
-  to_come point h = let w = within low high point h in (omega (arith, w.from), w.upto)
+  to_come point h = let w = within low high point h in (omega (arith, w.from), w.up_to)
 
   is_coming : (point : ℕ) → IsToCome held point → InSpans coming point
   is_coming point h = in_between low high point (omega (arith, h.0)) h.1
@@ -347,12 +347,12 @@ module _ {A V : Type 0} (part : A → V → List ℕ → Type 0) (spell : V → 
   from_once : (things : List A) (before values : List V) (bytes : List ℕ) → EachFrom part things before values bytes → Spelled things before values bytes
   from_once [] before values bytes h = record { own = []; values_are = h.0 ∙ sym (append-nil before); is = h.1; are_right = tt }
   from_once (a ∷ things) before values bytes h =
-      let one = once a h.number h.front h.is_first in
+      let one = once a h.number h.prefix h.is_first in
       let more = from_once things (before ++ h.number ∷ []) values h.rest h.is_next in
       record {
         own = h.number ∷ more.own;
         values_are = more.values_are ∙ append_assoc before (h.number ∷ []) more.own;
-        is = both_are bytes h.front h.rest (spell h.number) (flat_map spell more.own) h.both one.0 more.is;
+        is = both_are bytes h.prefix h.rest (spell h.number) (flat_map spell more.own) h.both one.0 more.is;
         are_right = (one.1, more.are_right);
       }
 
@@ -367,7 +367,7 @@ module _ {A V : Type 0} (part : A → V → List ℕ → Type 0) (spell : V → 
   from_all (a ∷ things) before [] h = absurd h
   from_all (a ∷ things) before (v ∷ values) h = record {
     number = v;
-    front = spell v;
+    prefix = spell v;
     rest = flat_map spell values;
     is_first = all a v h.0;
     is_next = subst (λ every. EachFrom part things (before ++ v ∷ []) every (flat_map spell values)) (append_assoc before (v ∷ []) values) (from_all things (before ++ v ∷ []) values h.1);
@@ -396,20 +396,20 @@ first_once first bytes h =
     let plan = plan_of p1.number p2.number p3.number p4.number p5.number in
     let is : first ≡ first_of plan p6.value = p6.is in
     let text : bytes ≡ first_bytes plan p6.value =
-    both_are bytes h.front h.rest magic _ h.both h.is_first
-    (both_are h.rest p1.front p1.rest (to_be_bytes w64 p1.number) _ p1.both (only_8 _ p1.number p1.front p1.is_first).is
-    (both_are p1.rest p2.front p2.rest (to_be_bytes w64 p2.number) _ p2.both (only_8 _ p2.number p2.front p2.is_first).is
-    (both_are p2.rest p3.front p3.rest (to_be_bytes w64 p3.number) _ p3.both (only_8 _ p3.number p3.front p3.is_first).is
-    (both_are p3.rest p4.front p4.rest (to_be_bytes w64 p4.number) _ p4.both (only_8 _ p4.number p4.front p4.is_first).is
-    (both_are p4.rest p5.front p5.rest (to_be_bytes w64 p5.number) _ p5.both (only_8 _ p5.number p5.front p5.is_first).is
+    both_are bytes h.prefix h.rest magic _ h.both h.is_first
+    (both_are h.rest p1.prefix p1.rest (to_be_bytes w64 p1.number) _ p1.both (only_8 _ p1.number p1.prefix p1.is_first).is
+    (both_are p1.rest p2.prefix p2.rest (to_be_bytes w64 p2.number) _ p2.both (only_8 _ p2.number p2.prefix p2.is_first).is
+    (both_are p2.rest p3.prefix p3.rest (to_be_bytes w64 p3.number) _ p3.both (only_8 _ p3.number p3.prefix p3.is_first).is
+    (both_are p3.rest p4.prefix p4.rest (to_be_bytes w64 p4.number) _ p4.both (only_8 _ p4.number p4.prefix p4.is_first).is
+    (both_are p4.rest p5.prefix p5.rest (to_be_bytes w64 p5.number) _ p5.both (only_8 _ p5.number p5.prefix p5.is_first).is
     (only_8 _ p6.value p5.rest p6.spelled).is))))) in
     let limits : IsInLimits plan p6.value = record {
-      resolution = (w1.from, w1.upto);
-      step = (w3.from, w3.upto);
-      limit = (w5.from, w5.upto);
+      resolution = (w1.from, w1.up_to);
+      step = (w3.from, w3.up_to);
+      limit = (w5.from, w5.up_to);
       from = w6.from;
-      before = omega (arith, w6.upto, w4.from);
-      near = w4.upto;
+      before = omega (arith, w6.up_to, w4.from);
+      near = w4.up_to;
       workers = refl;
       link = refl;
     } in
@@ -420,37 +420,37 @@ first_all plan point h =
     let start_small : plan.start ≤ count_max - 1 = omega (arith, h.from, h.before, h.near) in
     record {
       number = tt;
-      front = magic;
+      prefix = magic;
       rest = _;
       both = refl;
       is_first = refl;
       is_next = record {
         number = plan.resolution;
-        front = to_be_bytes w64 plan.resolution;
+        prefix = to_be_bytes w64 plan.resolution;
         rest = _;
         both = refl;
         is_first = field_8 _ plan.resolution (omega (arith, h.resolution.1)) (in_between 1 count_max plan.resolution h.resolution.0 h.resolution.1);
         is_next = record {
           number = plan.start;
-          front = to_be_bytes w64 plan.start;
+          prefix = to_be_bytes w64 plan.start;
           rest = _;
           both = refl;
           is_first = field_8 _ plan.start (omega (arith, start_small)) (in_between 0 (count_max - 1) plan.start (omega arith) start_small);
           is_next = record {
             number = plan.step;
-            front = to_be_bytes w64 plan.step;
+            prefix = to_be_bytes w64 plan.step;
             rest = _;
             both = refl;
             is_first = field_8 _ plan.step (omega (arith, h.step.1)) (in_between 1 count_max plan.step h.step.0 h.step.1);
             is_next = record {
               number = plan.stop;
-              front = to_be_bytes w64 plan.stop;
+              prefix = to_be_bytes w64 plan.stop;
               rest = _;
               both = refl;
               is_first = field_8 _ plan.stop (omega (arith, h.near)) (in_between (plan.start + 1) count_max plan.stop (omega (arith, h.from, h.before)) h.near);
               is_next = record {
                 number = plan.limit;
-                front = to_be_bytes w64 plan.limit;
+                prefix = to_be_bytes w64 plan.limit;
                 rest = to_be_bytes w64 point;
                 both = refl;
                 is_first = field_8 _ plan.limit (omega (arith, h.limit.1)) (in_between 1 limit_max plan.limit h.limit.0 h.limit.1);
@@ -471,13 +471,13 @@ first_all plan point h =
 known_once : (header bytes : List ℕ) (v : Unit {0}) → Known header v bytes → bytes ≡ sized header
 known_once header bytes v h =
     let w = within (length header) (length header) h.number h.is_first.span in
-    let size : h.number ≡ length header = omega (arith, w.from, w.upto) in
-    both_are bytes h.front h.rest (to_be_bytes w32 (length header)) header h.both ((only_4 (between (length header) (length header)) h.number h.front h.is_first).is ∙ ap (to_be_bytes w32) size) h.is_next
+    let size : h.number ≡ length header = omega (arith, w.from, w.up_to) in
+    both_are bytes h.prefix h.rest (to_be_bytes w32 (length header)) header h.both ((only_4 (between (length header) (length header)) h.number h.prefix h.is_first).is ∙ ap (to_be_bytes w32) size) h.is_next
 
 known_all : (header : List ℕ) → length header < 2 ^ 32 → Known header tt (sized header)
 known_all header short = record {
   number = length header;
-  front = to_be_bytes w32 (length header);
+  prefix = to_be_bytes w32 (length header);
   rest = header;
   is_first = field_4 (between (length header) (length header)) (length header) short (in_between (length header) (length header) (length header) (omega arith) (omega arith));
   is_next = refl;
@@ -498,20 +498,20 @@ spells_once system header held bytes short h =
     let so_far : Snapshot = record (begun first) { states = p2.number; words = p3.number; times = p4.number } in
     let armed : Snapshot = record so_far { armings = p5.number } in
     let all : Snapshot = record armed { events = p6.value } in
-    let begins = first_once first h.front h.is_first in
-    let states = each_once StateOf sized IsState state_once state_all system.components p2.number p2.front p2.is_first in
-    let words = each_once WordOf option_bytes IsWord word_once word_all system.ports p3.number p3.front p3.is_first in
-    let times = each_once TimesOf times_bytes (λ (port : Port). HasTimes (is_asked port.role)) times_of_once times_of_all system.ports p4.number p4.front p4.is_first in
-    let armings = each_once (ArmingOf so_far) arming_bytes (λ (port : Port). HasArming so_far (may_be_armed port.role)) (arming_of_once so_far) (arming_of_all so_far begins.1.near) system.ports p5.number p5.front p5.is_first in
+    let begins = first_once first h.prefix h.is_first in
+    let states = each_once StateOf sized IsState state_once state_all system.components p2.number p2.prefix p2.is_first in
+    let words = each_once WordOf option_bytes IsWord word_once word_all system.ports p3.number p3.prefix p3.is_first in
+    let times = each_once TimesOf times_bytes (λ (port : Port). HasTimes (is_asked port.role)) times_of_once times_of_all system.ports p4.number p4.prefix p4.is_first in
+    let armings = each_once (ArmingOf so_far) arming_bytes (λ (port : Port). HasArming so_far (may_be_armed port.role)) (arming_of_once so_far) (arming_of_all so_far begins.1.near) system.ports p5.number p5.prefix p5.is_first in
     let events = each_once (EventOf armed) option_bytes (HasEvent armed) (event_of_once armed) (event_of_all armed begins.1.near) system.components p6.value p5.rest p6.spelled in
     let is : held ≡ all = p6.is in
     let text : bytes ≡ spelling header all =
-    both_are bytes h.front h.rest _ _ h.both begins.0
-    (both_are h.rest p1.front p1.rest _ _ p1.both (known_once header p1.front p1.number p1.is_first)
-    (both_are p1.rest p2.front p2.rest _ _ p2.both states.0
-    (both_are p2.rest p3.front p3.rest _ _ p3.both words.0
-    (both_are p3.rest p4.front p4.rest _ _ p4.both times.0
-    (both_are p4.rest p5.front p5.rest _ _ p5.both armings.0 events.0))))) in
+    both_are bytes h.prefix h.rest _ _ h.both begins.0
+    (both_are h.rest p1.prefix p1.rest _ _ p1.both (known_once header p1.prefix p1.number p1.is_first)
+    (both_are p1.rest p2.prefix p2.rest _ _ p2.both states.0
+    (both_are p2.rest p3.prefix p3.rest _ _ p3.both words.0
+    (both_are p3.rest p4.prefix p4.rest _ _ p4.both times.0
+    (both_are p4.rest p5.prefix p5.rest _ _ p5.both armings.0 events.0))))) in
     let can : CanBeHeld system all = record { limits = begins.1; states = states.1; words = words.1; times = times.1; armings = armings.1; events = events.1 } in
     (text ∙ ap (spelling header) (sym is), subst (CanBeHeld system) (sym is) can)
 
@@ -521,37 +521,37 @@ spells_all system header held short h =
     let armed : Snapshot = record held { events = [] } in
     record {
       number = first_of held.plan held.point;
-      front = first_bytes held.plan held.point;
+      prefix = first_bytes held.plan held.point;
       rest = _;
       both = refl;
       is_first = first_all held.plan held.point h.limits;
       is_next = record {
         number = tt;
-        front = sized header;
+        prefix = sized header;
         rest = _;
         both = refl;
         is_first = known_all header short;
         is_next = record {
           number = held.states;
-          front = flat_map sized held.states;
+          prefix = flat_map sized held.states;
           rest = _;
           both = refl;
           is_first = each_all StateOf sized IsState state_once state_all system.components held.states h.states;
           is_next = record {
             number = held.words;
-            front = flat_map option_bytes held.words;
+            prefix = flat_map option_bytes held.words;
             rest = _;
             both = refl;
             is_first = each_all WordOf option_bytes IsWord word_once word_all system.ports held.words h.words;
             is_next = record {
               number = held.times;
-              front = flat_map times_bytes held.times;
+              prefix = flat_map times_bytes held.times;
               rest = _;
               both = refl;
               is_first = each_all TimesOf times_bytes (λ (port : Port). HasTimes (is_asked port.role)) times_of_once times_of_all system.ports held.times h.times;
               is_next = record {
                 number = held.armings;
-                front = flat_map arming_bytes held.armings;
+                prefix = flat_map arming_bytes held.armings;
                 rest = flat_map option_bytes held.events;
                 both = refl;
                 is_first = each_all (ArmingOf so_far) arming_bytes (λ (port : Port). HasArming so_far (may_be_armed port.role)) (arming_of_once so_far) (arming_of_all so_far h.limits.near) system.ports held.armings h.armings;

@@ -6,9 +6,9 @@ use Rattle.std.proofs.lemmas.List.{append-nil, length-append, length-drop, lengt
 use Rattle.system_model.specs.declared.system.System.{System}
 use Rattle.exact_parts.specs.declared.taken.Taken.{Taken}
 use Rattle.exact_parts.specs.declared.taken.Taken.TheVariants.{Got, NeedMore, Bad}
-use Rattle.exact_parts.specs.Taking.{AreSingle, Begins, Breaks, Gets, IsFront, Takes}
+use Rattle.exact_parts.specs.Taking.{AreSingle, Begins, Breaks, Gets, IsPrefix, Takes}
 use Rattle.exact_parts.specs.Each.{Each}
-use Rattle.exact_parts.proofs.CallerLemmas.{HasSome, LeadsTo, begins, begins_cut, behind_single, each_single, each_some, kept_single, led_some, not_within_all}
+use Rattle.exact_parts.proofs.CallerLemmas.{HasSome, LeadsTo, after_single, begins, begins_cut, each_single, each_some, kept_single, led_some, not_within_all}
 use Rattle.system_checkpoint.specs.declared.first.First.{First}
 use Rattle.system_checkpoint.specs.declared.snapshot.Arming.{Arming}
 use Rattle.system_checkpoint.specs.declared.snapshot.CheckpointFault.TheVariants as F
@@ -23,23 +23,23 @@ use Rattle.system_checkpoint.proofs.FirstLemmas.{first_before, first_single}
 
 -- ---- what comes after each list, by what is held so far
 
-abbrev pub behind_states : System → Snapshot → List (List ℕ) → Snapshot → List ℕ → Type 0
-behind_states system held states = WordsOf system (record held { states = states })
+abbrev pub after_states : System → Snapshot → List (List ℕ) → Snapshot → List ℕ → Type 0
+after_states system held states = WordsOf system (record held { states = states })
 
-abbrev pub behind_words : System → Snapshot → List (Option ℕ) → Snapshot → List ℕ → Type 0
-behind_words system held words = AllTimesOf system (record held { words = words })
+abbrev pub after_words : System → Snapshot → List (Option ℕ) → Snapshot → List ℕ → Type 0
+after_words system held words = AllTimesOf system (record held { words = words })
 
-abbrev pub behind_times : System → Snapshot → List (Option ClockTimes) → Snapshot → List ℕ → Type 0
-behind_times system held times = ArmingsOf system (record held { times = times })
+abbrev pub after_times : System → Snapshot → List (Option ClockTimes) → Snapshot → List ℕ → Type 0
+after_times system held times = ArmingsOf system (record held { times = times })
 
-abbrev pub behind_armings : System → Snapshot → List Arming → Snapshot → List ℕ → Type 0
-behind_armings system held armings = EventsOf system (record held { armings = armings })
+abbrev pub after_armings : System → Snapshot → List Arming → Snapshot → List ℕ → Type 0
+after_armings system held armings = EventsOf system (record held { armings = armings })
 
-abbrev pub behind_header : System → Snapshot → Unit {0} → Snapshot → List ℕ → Type 0
-behind_header system held nothing = StatesOf system held
+abbrev pub after_header : System → Snapshot → Unit {0} → Snapshot → List ℕ → Type 0
+after_header system held nothing = StatesOf system held
 
-abbrev pub behind_first : System → List ℕ → First → Snapshot → List ℕ → Type 0
-behind_first system header first = HeaderOf system header (begun first)
+abbrev pub after_first : System → List ℕ → First → Snapshot → List ℕ → Type 0
+after_first system header first = HeaderOf system header (begun first)
 
 -- ---- one value
 
@@ -47,59 +47,59 @@ events_single : (system : System) (held : Snapshot) → AreSingle (EventsOf syst
 events_single system held = kept_single (Each (EventOf held) system.components) (with_events held) (each_single (EventOf held) (event_of_single held) system.components [])
 
 armings_single : (system : System) (held : Snapshot) → AreSingle (ArmingsOf system held)
-armings_single system held = behind_single (Each (ArmingOf held) system.ports) (behind_armings system held) (each_single (ArmingOf held) (arming_of_single held) system.ports []) (λ armings. events_single system (record held { armings = armings }))
+armings_single system held = after_single (Each (ArmingOf held) system.ports) (after_armings system held) (each_single (ArmingOf held) (arming_of_single held) system.ports []) (λ armings. events_single system (record held { armings = armings }))
 
 times_single : (system : System) (held : Snapshot) → AreSingle (AllTimesOf system held)
-times_single system held = behind_single (Each TimesOf system.ports) (behind_times system held) (each_single TimesOf times_of_single system.ports []) (λ times. armings_single system (record held { times = times }))
+times_single system held = after_single (Each TimesOf system.ports) (after_times system held) (each_single TimesOf times_of_single system.ports []) (λ times. armings_single system (record held { times = times }))
 
 words_single : (system : System) (held : Snapshot) → AreSingle (WordsOf system held)
-words_single system held = behind_single (Each WordOf system.ports) (behind_words system held) (each_single WordOf word_of_single system.ports []) (λ words. times_single system (record held { words = words }))
+words_single system held = after_single (Each WordOf system.ports) (after_words system held) (each_single WordOf word_of_single system.ports []) (λ words. times_single system (record held { words = words }))
 
 states_single : (system : System) (held : Snapshot) → AreSingle (StatesOf system held)
-states_single system held = behind_single (Each StateOf system.components) (behind_states system held) (each_single StateOf state_of_single system.components []) (λ states. words_single system (record held { states = states }))
+states_single system held = after_single (Each StateOf system.components) (after_states system held) (each_single StateOf state_of_single system.components []) (λ states. words_single system (record held { states = states }))
 
 header_single : (system : System) (header : List ℕ) (held : Snapshot) → AreSingle (HeaderOf system header held)
-header_single system header held = behind_single (Known header) (behind_header system held) (known_single header) (λ nothing. states_single system held)
+header_single system header held = after_single (Known header) (after_header system held) (known_single header) (λ nothing. states_single system held)
 
 pub checkpoint_single : (system : System) (header : List ℕ) → AreSingle (Checkpoint system header)
-checkpoint_single system header = behind_single IsFirst (behind_first system header) first_single (λ first. header_single system header (begun first))
+checkpoint_single system header = after_single IsFirst (after_first system header) first_single (λ first. header_single system header (begun first))
 
 -- ---- each can stand
 
 events_some : (system : System) (held : Snapshot) → IsBefore held.point held.plan.stop → HasSome (EventsOf system held)
 events_some system held h = made_some (Each (EventOf held) system.components) (with_events held) (each_some (EventOf held) (event_of_some held h) system.components [])
 
-pub armings_leads : (system : System) (held : Snapshot) → IsBefore held.point held.plan.stop → LeadsTo (Each (ArmingOf held) system.ports) (behind_armings system held)
+pub armings_leads : (system : System) (held : Snapshot) → IsBefore held.point held.plan.stop → LeadsTo (Each (ArmingOf held) system.ports) (after_armings system held)
 armings_leads system held h = λ armings bytes f. events_some system (record held { armings = armings }) h
 
 armings_some : (system : System) (held : Snapshot) → IsBefore held.point held.plan.stop → HasSome (ArmingsOf system held)
-armings_some system held h = led_some (Each (ArmingOf held) system.ports) (behind_armings system held) (each_some (ArmingOf held) (arming_of_some held h) system.ports []) (armings_leads system held h)
+armings_some system held h = led_some (Each (ArmingOf held) system.ports) (after_armings system held) (each_some (ArmingOf held) (arming_of_some held h) system.ports []) (armings_leads system held h)
 
-pub times_leads : (system : System) (held : Snapshot) → IsBefore held.point held.plan.stop → LeadsTo (Each TimesOf system.ports) (behind_times system held)
+pub times_leads : (system : System) (held : Snapshot) → IsBefore held.point held.plan.stop → LeadsTo (Each TimesOf system.ports) (after_times system held)
 times_leads system held h = λ times bytes f. armings_some system (record held { times = times }) h
 
 times_some : (system : System) (held : Snapshot) → IsBefore held.point held.plan.stop → HasSome (AllTimesOf system held)
-times_some system held h = led_some (Each TimesOf system.ports) (behind_times system held) (each_some TimesOf times_of_some system.ports []) (times_leads system held h)
+times_some system held h = led_some (Each TimesOf system.ports) (after_times system held) (each_some TimesOf times_of_some system.ports []) (times_leads system held h)
 
-pub words_leads : (system : System) (held : Snapshot) → IsBefore held.point held.plan.stop → LeadsTo (Each WordOf system.ports) (behind_words system held)
+pub words_leads : (system : System) (held : Snapshot) → IsBefore held.point held.plan.stop → LeadsTo (Each WordOf system.ports) (after_words system held)
 words_leads system held h = λ words bytes f. times_some system (record held { words = words }) h
 
 words_some : (system : System) (held : Snapshot) → IsBefore held.point held.plan.stop → HasSome (WordsOf system held)
-words_some system held h = led_some (Each WordOf system.ports) (behind_words system held) (each_some WordOf word_of_some system.ports []) (words_leads system held h)
+words_some system held h = led_some (Each WordOf system.ports) (after_words system held) (each_some WordOf word_of_some system.ports []) (words_leads system held h)
 
-pub states_leads : (system : System) (held : Snapshot) → IsBefore held.point held.plan.stop → LeadsTo (Each StateOf system.components) (behind_states system held)
+pub states_leads : (system : System) (held : Snapshot) → IsBefore held.point held.plan.stop → LeadsTo (Each StateOf system.components) (after_states system held)
 states_leads system held h = λ states bytes f. words_some system (record held { states = states }) h
 
 states_some : (system : System) (held : Snapshot) → IsBefore held.point held.plan.stop → HasSome (StatesOf system held)
-states_some system held h = led_some (Each StateOf system.components) (behind_states system held) (each_some StateOf state_of_some system.components []) (states_leads system held h)
+states_some system held h = led_some (Each StateOf system.components) (after_states system held) (each_some StateOf state_of_some system.components []) (states_leads system held h)
 
-pub header_leads : (system : System) (header : List ℕ) (held : Snapshot) → IsBefore held.point held.plan.stop → LeadsTo (Known header) (behind_header system held)
+pub header_leads : (system : System) (header : List ℕ) (held : Snapshot) → IsBefore held.point held.plan.stop → LeadsTo (Known header) (after_header system held)
 header_leads system header held h = λ nothing bytes f. states_some system held h
 
-pub first_leads : (system : System) (header : List ℕ) → length header < 2 ^ 32 → LeadsTo IsFirst (behind_first system header)
+pub first_leads : (system : System) (header : List ℕ) → length header < 2 ^ 32 → LeadsTo IsFirst (after_first system header)
 first_leads system header short = λ first bytes f.
     let before = first_before first bytes f in
-    led_some (Known header) (behind_header system (begun first)) (known_some header short) (header_leads system header (begun first) before)
+    led_some (Known header) (after_header system (begun first)) (known_some header short) (header_leads system header (begun first) before)
 
 -- ---- the whole of the bytes
 
@@ -116,11 +116,11 @@ module _ (system : System) (header bytes : List ℕ) where
   is_longer : (v : Snapshot) (n : ℕ) → (n ≡ length bytes → ⊥) → Gets whole bytes v n → IsBad system header bytes n
   is_longer v n other got = record {
     within = got.within;
-    front = record { value = v; more = []; spelled = subst (whole v) (sym (append-nil (take n bytes))) got.spelled };
+    prefix = record { value = v; more = []; spelled = subst (whole v) (sym (append-nil (take n bytes))) got.spelled };
     next = λ lt b.
         let more = drop n (take (n + 1) bytes) ++ b.more in
-        let front : take n (take (n + 1) bytes) ≡ take n bytes = take-take n (n + 1) bytes (omega arith) in
-        let is : take (n + 1) bytes ++ b.more ≡ take n bytes ++ more = ap (λ xs. xs ++ b.more) (sym (take-append-drop n (take (n + 1) bytes)) ∙ ap (λ xs. xs ++ drop n (take (n + 1) bytes)) front) ∙ append_assoc (take n bytes) (drop n (take (n + 1) bytes)) b.more in
+        let prefix : take n (take (n + 1) bytes) ≡ take n bytes = take-take n (n + 1) bytes (omega arith) in
+        let is : take (n + 1) bytes ++ b.more ≡ take n bytes ++ more = ap (λ xs. xs ++ b.more) (sym (take-append-drop n (take (n + 1) bytes)) ∙ ap (λ xs. xs ++ drop n (take (n + 1) bytes)) prefix) ∙ append_assoc (take n bytes) (drop n (take (n + 1) bytes)) b.more in
         let s = single v b.value (take n bytes) more got.spelled (subst (whole b.value) is b.spelled) in
         omega (arith, s.1, length-append (drop n (take (n + 1) bytes)) b.more, length-drop n (take (n + 1) bytes), length-take (n + 1) bytes, lt);
     none = λ k all.
@@ -128,18 +128,18 @@ module _ (system : System) (header bytes : List ℕ) where
         other (omega (arith, s.1, length-drop n bytes, got.within));
   }
 
-  is_short : IsFront whole bytes → IsBad system header bytes (length bytes)
-  is_short front = record {
+  is_short : IsPrefix whole bytes → IsBad system header bytes (length bytes)
+  is_short prefix = record {
     within = omega arith;
-    front = subst (Begins whole) (sym (take_all (length bytes) bytes (omega arith))) (begins whole bytes front);
+    prefix = subst (Begins whole) (sym (take_all (length bytes) bytes (omega arith))) (begins whole bytes prefix);
     next = λ lt. absurd (omega (arith, lt));
-    none = λ k all. not_within_all whole single (length bytes) bytes k (subst (whole k) (sym (take_all (length bytes) bytes (omega arith))) all) front;
+    none = λ k all. not_within_all whole single (length bytes) bytes k (subst (whole k) (sym (take_all (length bytes) bytes (omega arith))) all) prefix;
   }
 
   is_bad : (at : ℕ) → Breaks whole bytes at → IsBad system header bytes at
   is_bad at h = record {
     within = omega (arith, h.within);
-    front = begins whole (take at bytes) h.front;
+    prefix = begins whole (take at bytes) h.prefix;
     next = λ lt. h.none;
     none = λ k all. h.none (begins_cut whole (at + 1) bytes (record { value = k; more = []; spelled = subst (whole k) (sym (append-nil bytes)) all }));
   }

@@ -1,7 +1,7 @@
 -- What a checkpoint begins with: the magic word, and the plan and the point of the run, in eight bytes each.
 use Rattle.std.specs.Prelude.{ℕ, ◌+◌, ◌-◌, ◌<◌, ◌≤◌, ◌^◌, List, length, take, codes}
 use Rattle.system_model.specs.declared.plan.Plan.{Plan}
-use Rattle.exact_parts.specs.Taking.{Begins, Behind, Gets}
+use Rattle.exact_parts.specs.Taking.{After, Begins, Gets}
 use Rattle.exact_parts.specs.Field.{Field}
 use Rattle.exact_parts.specs.Each.{IsText, Made}
 use Rattle.system_checkpoint.specs.Parts.{between}
@@ -39,25 +39,25 @@ PointOf resolution start step stop limit =
 
 abbrev pub LimitOf : (resolution start step stop : ℕ) → First → List ℕ → Type 0
 LimitOf resolution start step stop =
-    Behind (Field 8 (between 1 limit_max)) (PointOf resolution start step stop)
+    After (Field 8 (between 1 limit_max)) (PointOf resolution start step stop)
 
 abbrev pub StopOf : (resolution start step : ℕ) → First → List ℕ → Type 0
 StopOf resolution start step =
-    Behind (Field 8 (between (start + 1) count_max)) (LimitOf resolution start step)
+    After (Field 8 (between (start + 1) count_max)) (LimitOf resolution start step)
 
 abbrev pub StepOf : (resolution start : ℕ) → First → List ℕ → Type 0
 StepOf resolution start =
-    Behind (Field 8 (between 1 count_max)) (StopOf resolution start)
+    After (Field 8 (between 1 count_max)) (StopOf resolution start)
 
 abbrev pub StartOf : (resolution : ℕ) → First → List ℕ → Type 0
-StartOf resolution = Behind (Field 8 (between 0 (count_max - 1))) (StepOf resolution)
+StartOf resolution = After (Field 8 (between 0 (count_max - 1))) (StepOf resolution)
 
 abbrev pub NumbersOf : First → List ℕ → Type 0
-NumbersOf = Behind (Field 8 (between 1 count_max)) StartOf
+NumbersOf = After (Field 8 (between 1 count_max)) StartOf
 
 -- 56 bytes
 abbrev pub IsFirst : First → List ℕ → Type 0
-IsFirst = Behind (IsText magic) (λ (nothing : Unit {0}). NumbersOf)
+IsFirst = After (IsText magic) (λ (nothing : Unit {0}). NumbersOf)
 
 -- the bytes begin with this plan, and the point of some run
 pub record HasPlan (bytes : List ℕ) (plan : Plan) : Type 0 where
@@ -68,6 +68,6 @@ pub record HasPlan (bytes : List ℕ) (plan : Plan) : Type 0 where
 -- no plan stands there: this is the first byte that continues none, or the length of the bytes
 pub record HasNone (bytes : List ℕ) (at : ℕ) : Type 0 where
   pub within : at ≤ length bytes
-  pub front : Begins IsFirst (take at bytes)
+  pub prefix : Begins IsFirst (take at bytes)
   pub next : at < length bytes → Begins IsFirst (take (at + 1) bytes) → ⊥
   pub none : (plan : Plan) → HasPlan bytes plan → ⊥

@@ -3,7 +3,7 @@ use Rattle.std.specs.Prelude.{ℕ, ◌+◌, ◌*◌, ◌-◌, ◌^◌, ◌==◌,
 use Rattle.value_types.specs.declared.values.PortType.{PortType}
 use Rattle.value_types.specs.declared.values.PortType.TheVariants.{Int8, UInt8, Int16, UInt16, Int32, UInt32, Int64, UInt64, Boolean, Enumeration, Clock}
 use Rattle.exact_parts.specs.declared.field.Spans.{Spans}
-use Rattle.exact_parts.specs.Taking.{Behind}
+use Rattle.exact_parts.specs.Taking.{After}
 use Rattle.exact_parts.specs.Field.{Field}
 use Rattle.exact_parts.specs.Each.{Block, IsText, Made}
 use Rattle.system_checkpoint.specs.declared.snapshot.Arming.{Arming}
@@ -46,15 +46,15 @@ words Enumeration = any
 abbrev pub option_of : ℕ → ℕ → Option ℕ
 option_of flag word = if flag == 1 then Some word else None
 
-abbrev pub spans_behind : Spans → ℕ → Spans
-spans_behind spans flag = if flag == 1 then spans else between 0 0
+abbrev pub spans_after : Spans → ℕ → Spans
+spans_after spans flag = if flag == 1 then spans else between 0 0
 
 abbrev pub Word : Spans → ℕ → Option ℕ → List ℕ → Type 0
-Word spans flag = Made (Field 8 (spans_behind spans flag)) (option_of flag)
+Word spans flag = Made (Field 8 (spans_after spans flag)) (option_of flag)
 
 -- 1 in one byte and a number of the spans in 8, or nine times 0; where none may be there, the flag 0 alone
 abbrev pub Optional : ℕ → Spans → Option ℕ → List ℕ → Type 0
-Optional most spans = Behind (Field 1 (between 0 most)) (Word spans)
+Optional most spans = After (Field 1 (between 0 most)) (Word spans)
 
 -- the point of a Clock that may be armed
 abbrev pub arming_of : Option ℕ → Arming
@@ -69,11 +69,11 @@ state_max = 2 ^ 20
 
 -- a state
 abbrev pub State : List ℕ → List ℕ → Type 0
-State = Behind (Field 4 (between 0 state_max)) Block
+State = After (Field 4 (between 0 state_max)) Block
 
 -- a text that is known
 abbrev pub Known : List ℕ → Unit {0} → List ℕ → Type 0
-Known text = Behind (Field 4 (between (length text) (length text))) (λ (n : ℕ). IsText text)
+Known text = After (Field 4 (between (length text) (length text))) (λ (n : ℕ). IsText text)
 
 -- ---- the timing of a Clock that was asked for it
 
@@ -91,7 +91,7 @@ abbrev pub Low : ℕ → ℕ → ℕ → List ℕ → Type 0
 Low least high = Made (Field 8 (low_span least high)) (joined high)
 
 abbrev pub Wide : ℕ → ℕ → List ℕ → Type 0
-Wide least = Behind (Field 8 (between 0 (2 ^ 62))) (Low least)
+Wide least = After (Field 8 (between 0 (2 ^ 62))) (Low least)
 
 abbrev pub clock_times : ℕ → ℕ → ClockTimes
 clock_times interval shift = record { interval = interval; shift = shift }
@@ -101,7 +101,7 @@ abbrev pub Shift : ℕ → ClockTimes → List ℕ → Type 0
 Shift interval = Made (Wide 0) (clock_times interval)
 
 abbrev pub Times : ClockTimes → List ℕ → Type 0
-Times = Behind (Wide 1) Shift
+Times = After (Wide 1) Shift
 
 -- ---- nothing
 

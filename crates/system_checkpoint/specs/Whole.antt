@@ -8,7 +8,7 @@ use Rattle.system_model.specs.declared.system.Role.TheVariants.{TimeClock}
 use Rattle.system_model.specs.declared.system.Timing.TheVariants.{Answered, Countdown, Changing}
 use Rattle.exact_parts.specs.declared.taken.Taken.{Taken}
 use Rattle.exact_parts.specs.declared.taken.Taken.TheVariants.{Got, NeedMore, Bad}
-use Rattle.exact_parts.specs.Taking.{Begins, Behind}
+use Rattle.exact_parts.specs.Taking.{After, Begins}
 use Rattle.exact_parts.specs.Each.{Each, Made}
 use Rattle.system_checkpoint.specs.declared.first.First.{First}
 use Rattle.system_checkpoint.specs.declared.snapshot.Arming.{Arming}
@@ -74,26 +74,26 @@ EventsOf system held = Made (Each (EventOf held) system.components) (with_events
 
 abbrev pub ArmingsOf : System → Snapshot → Snapshot → List ℕ → Type 0
 ArmingsOf system held =
-    Behind (Each (ArmingOf held) system.ports)
+    After (Each (ArmingOf held) system.ports)
     (λ (armings : List Arming). EventsOf system (record held { armings = armings }))
 
 abbrev pub AllTimesOf : System → Snapshot → Snapshot → List ℕ → Type 0
 AllTimesOf system held =
-    Behind (Each TimesOf system.ports)
+    After (Each TimesOf system.ports)
     (λ (times : List (Option ClockTimes)). ArmingsOf system (record held { times = times }))
 
 abbrev pub WordsOf : System → Snapshot → Snapshot → List ℕ → Type 0
 WordsOf system held =
-    Behind (Each WordOf system.ports)
+    After (Each WordOf system.ports)
     (λ (words : List (Option ℕ)). AllTimesOf system (record held { words = words }))
 
 abbrev pub StatesOf : System → Snapshot → Snapshot → List ℕ → Type 0
 StatesOf system held =
-    Behind (Each StateOf system.components)
+    After (Each StateOf system.components)
     (λ (states : List (List ℕ)). WordsOf system (record held { states = states }))
 
 abbrev pub HeaderOf : System → List ℕ → Snapshot → Snapshot → List ℕ → Type 0
-HeaderOf system header held = Behind (Known header) (λ (nothing : Unit {0}). StatesOf system held)
+HeaderOf system header held = After (Known header) (λ (nothing : Unit {0}). StatesOf system held)
 
 -- what is held once the plan and the point are known
 abbrev pub begun : First → Snapshot
@@ -110,14 +110,14 @@ begun first = record {
 -- the bytes are the checkpoint of a run of the system, where its trace begins with this header
 abbrev pub Checkpoint : System → List ℕ → Snapshot → List ℕ → Type 0
 Checkpoint system header =
-    Behind IsFirst (λ (first : First). HeaderOf system header (begun first))
+    After IsFirst (λ (first : First). HeaderOf system header (begun first))
 
 -- ---- an answer
 
 -- no checkpoint is these bytes, and this is the first byte that continues none, or their length
 pub record IsBad (system : System) (header bytes : List ℕ) (at : ℕ) : Type 0 where
   pub within : at ≤ length bytes
-  pub front : Begins (Checkpoint system header) (take at bytes)
+  pub prefix : Begins (Checkpoint system header) (take at bytes)
   pub next : at < length bytes → Begins (Checkpoint system header) (take (at + 1) bytes) → ⊥
   pub none : (held : Snapshot) → Checkpoint system header held bytes → ⊥
 

@@ -4,7 +4,7 @@ ghost use Rattle.system_checkpoint.specs.First.{HasNone, HasPlan, IsFirst, Limit
 
 use crate::CheckpointFault;
 use crate::parts::{take_between, take_text};
-use exact_parts::{Taken, behind};
+use exact_parts::{Taken, after};
 use sim_base::{MOST_COUNTS, MOST_INSTANTS};
 use system_model::Plan;
 
@@ -39,7 +39,7 @@ pub(crate) fn take_first(bytes: &[u8]) -> Taken<First>
     ensures { Takes IsFirst bytes.now result }
 {
     match take_text(bytes, &MAGIC) {
-        Taken::Got { value: (), length } => behind(length, take_resolution(&bytes[length..])),
+        Taken::Got { value: (), length } => after(length, take_resolution(&bytes[length..])),
         Taken::NeedMore => Taken::NeedMore,
         Taken::Bad { at } => Taken::Bad { at },
     }
@@ -49,7 +49,7 @@ fn take_resolution(bytes: &[u8]) -> Taken<First>
     ensures { Takes NumbersOf bytes.now result }
 {
     match take_between(bytes, 8, 1, MOST_COUNTS) {
-        Taken::Got { value, length } => behind(length, take_start(&bytes[length..], value)),
+        Taken::Got { value, length } => after(length, take_start(&bytes[length..], value)),
         Taken::NeedMore => Taken::NeedMore,
         Taken::Bad { at } => Taken::Bad { at },
     }
@@ -60,7 +60,7 @@ fn take_start(bytes: &[u8], resolution: u64) -> Taken<First>
 {
     match take_between(bytes, 8, 0, MOST_COUNTS - 1) {
         Taken::Got { value, length } => {
-            behind(length, take_step(&bytes[length..], resolution, value))
+            after(length, take_step(&bytes[length..], resolution, value))
         }
         Taken::NeedMore => Taken::NeedMore,
         Taken::Bad { at } => Taken::Bad { at },
@@ -73,7 +73,7 @@ fn take_step(bytes: &[u8], resolution: u64, start: u64) -> Taken<First>
 {
     match take_between(bytes, 8, 1, MOST_COUNTS) {
         Taken::Got { value, length } => {
-            behind(
+            after(
                 length,
                 take_stop(&bytes[length..], resolution, start, value),
             )
@@ -98,7 +98,7 @@ fn take_stop(bytes: &[u8], resolution: u64, start: u64, step: u64) -> Taken<Firs
                 workers: 1,
                 link: 1,
             };
-            behind(length, take_limit(&bytes[length..], plan))
+            after(length, take_limit(&bytes[length..], plan))
         }
         Taken::NeedMore => Taken::NeedMore,
         Taken::Bad { at } => Taken::Bad { at },
@@ -117,7 +117,7 @@ fn take_limit(bytes: &[u8], plan: Plan) -> Taken<First>
                 limit: value,
                 ..plan
             };
-            behind(length, take_point(&bytes[length..], plan))
+            after(length, take_point(&bytes[length..], plan))
         }
         Taken::NeedMore => Taken::NeedMore,
         Taken::Bad { at } => Taken::Bad { at },

@@ -8,7 +8,7 @@ ghost use Rattle.system_checkpoint.specs.Whole.{ArmingIf, ArmingOf, EventOf, Sta
 use crate::parts::{between, take_optional, take_state, take_times, words};
 use crate::{Arming, ClockTimes, Snapshot};
 use exact_parts::Taken;
-use sim_base::Items;
+use sim_base::{Items, SharedBytes};
 use std::alloc::{AllocError, Global};
 use system_model::{Component, Port, Role, Timing};
 use value_types::PortType;
@@ -17,14 +17,15 @@ use value_types::PortType;
 pub(crate) fn take_states(
     alloc: Global,
     components: &[Component],
-    bytes: &[u8],
-) -> Result<Taken<Items<Items<u8>>>, AllocError>
+    bytes: &SharedBytes,
+) -> Result<Taken<Items<SharedBytes>>, AllocError>
     ensures { IfOk result (λ taken. Takes (Each StateOf components.now) bytes.now taken) }
 {
     let mut states = Vec::new(alloc);
     let mut done = 0;
     for _component in components {
-        let taken = take_state(alloc, &bytes[done..])?;
+        let after = bytes.after(done)?;
+        let taken = take_state(&after)?;
         match taken {
             Taken::Got { value, length } => {
                 states.push(value)?;

@@ -1,13 +1,13 @@
-ghost use Rattle.std.specs.Prelude.{◌≡◌, ◌≤◌, ◌<◌, ◌^◌, IfOk, length};
+ghost use Rattle.std.specs.Prelude.{◌≡◌, ◌≤◌, ◌<◌, ◌^◌, ◌↔◌, IfOk, IsTrue, length};
 ghost use Rattle.exact_parts.specs.Taking.{Takes};
-ghost use Rattle.exact_parts.specs.Field.{Field, IsSane};
+ghost use Rattle.exact_parts.specs.Field.{AreBytes, Field, IsSane};
 ghost use Rattle.exact_parts.specs.Each.{Block, IsText, remade};
-ghost use Rattle.system_checkpoint.specs.Parts.{Known, Low, Optional, Shift, State, Times, Wide, Word, any, between, joined, low_span, option_of, spans_behind, words};
+ghost use Rattle.system_checkpoint.specs.Parts.{Known, Low, Optional, Shift, State, Times, Wide, Word, any, between, joined, low_span, option_of, spans_after, words};
 
 use crate::ClockTimes;
-use exact_parts::{Span, Spans, Taken, behind, take_number};
-use sim_base::Items;
-use std::alloc::{AllocError, Global};
+use exact_parts::{Span, Spans, Taken, take_number};
+use sim_base::SharedBytes;
+use std::alloc::AllocError;
 use value_types::PortType;
 
 pub(crate) fn between(low: u64, high: u64) -> Spans
@@ -59,8 +59,8 @@ pub(crate) fn words(kind: PortType) -> Spans
     }
 }
 
-fn spans_behind(spans: Spans, flag: u64) -> Spans
-    ensures { result ≡ spans_behind spans flag }
+fn spans_after(spans: Spans, flag: u64) -> Spans
+    ensures { result ≡ spans_after spans flag }
 {
     if flag == 1 { spans } else { between(0, 0) }
 }
@@ -89,7 +89,7 @@ fn take_word(bytes: &[u8], spans: Spans, flag: u64) -> Taken<Option<u64>>
     requires { IsSane 8 spans }
     ensures { Takes (Word spans flag) bytes.now result }
 {
-    remake(flag, take_number(bytes, 8, spans_behind(spans, flag)))
+    remake(flag, take_number(bytes, 8, spans_after(spans, flag)))
 }
 
 /// Takes a number of so many bytes within a span.
@@ -107,7 +107,10 @@ pub(crate) fn take_optional(bytes: &[u8], most: u64, spans: Spans) -> Taken<Opti
     ensures { Takes (Optional most spans) bytes.now result }
 {
     match take_between(bytes, 1, 0, most) {
-        Taken::Got { value, length } => behind(length, take_word(&bytes[length..], spans, value)),
+        Taken::Got { value, length } => exact_parts::after(
+            length,
+            take_word(&bytes[length..], spans, value),
+        ),
         Taken::NeedMore => Taken::NeedMore,
         Taken::Bad { at } => Taken::Bad { at },
     }
@@ -138,35 +141,47 @@ pub(crate) fn take_known(bytes: &[u8], text: &[u8]) -> Taken<()>
 {
     let size = text.len() as u64;
     match take_between(bytes, 4, size, size) {
-        Taken::Got { value: _, length } => behind(length, take_text(&bytes[length..], text)),
+        Taken::Got { value: _, length } => exact_parts::after(
+            length,
+            take_text(&bytes[length..], text),
+        ),
         Taken::NeedMore => Taken::NeedMore,
         Taken::Bad { at } => Taken::Bad { at },
     }
 }
 
+// Whether there are so many bytes.
+fn has_bytes(bytes: &[u8], size: usize) -> bool
+    ensures enough { IsTrue result ↔ size ≤ length bytes.now }
+    ensures are_bytes { AreBytes bytes.now }
+{
+    size <= bytes.len()
+}
+
 // Takes so many bytes.
-fn take_block(alloc: Global, bytes: &[u8], size: usize) -> Result<Taken<Items<u8>>, AllocError>
+fn take_block(bytes: &SharedBytes, size: usize) -> Result<Taken<SharedBytes>, AllocError>
     ensures { IfOk result (λ taken. Takes (Block size) bytes.now taken) }
 {
-    if bytes.len() < size {
+    if !has_bytes(bytes.as_slice(), size) {
         return Ok(Taken::NeedMore);
     }
-    let block = Vec::from_slice(alloc, &bytes[..size])?;
-    let value = Items::from_vec(block);
+    let value = bytes.prefix(size)?;
     Ok(Taken::Got {
         value,
         length: size,
     })
 }
 
-/// Takes a state, which comes after its length.
-pub(crate) fn take_state(alloc: Global, bytes: &[u8]) -> Result<Taken<Items<u8>>, AllocError>
+/// Takes a state, which comes after its length. It isn't copied.
+pub(crate) fn take_state(bytes: &SharedBytes) -> Result<Taken<SharedBytes>, AllocError>
     ensures { IfOk result (λ taken. Takes State bytes.now taken) }
 {
-    match take_between(bytes, 4, 0, 1 << 20) {
+    match take_between(bytes.as_slice(), 4, 0, 1 << 20) {
         Taken::Got { value, length } => {
-            let rest = take_block(alloc, &bytes[length..], value as usize)?;
-            Ok(behind(length, rest))
+            let after = bytes.after(length)?;
+            let rest = take_block(&after, value as usize)?;
+            let whole = exact_parts::after(length, rest);
+            Ok(whole)
         }
         Taken::NeedMore => Ok(Taken::NeedMore),
         Taken::Bad { at } => Ok(Taken::Bad { at }),
@@ -178,7 +193,10 @@ pub(crate) fn take_times(bytes: &[u8]) -> Taken<ClockTimes>
     ensures { Takes Times bytes.now result }
 {
     match take_wide(bytes, 1) {
-        Taken::Got { value, length } => behind(length, take_shift(&bytes[length..], value)),
+        Taken::Got { value, length } => exact_parts::after(
+            length,
+            take_shift(&bytes[length..], value),
+        ),
         Taken::NeedMore => Taken::NeedMore,
         Taken::Bad { at } => Taken::Bad { at },
     }
@@ -207,7 +225,10 @@ fn take_wide(bytes: &[u8], least: u64) -> Taken<u128>
     ensures { Takes (Wide least) bytes.now result }
 {
     match take_between(bytes, 8, 0, 1 << 62) {
-        Taken::Got { value, length } => behind(length, take_low(&bytes[length..], least, value)),
+        Taken::Got { value, length } => exact_parts::after(
+            length,
+            take_low(&bytes[length..], least, value),
+        ),
         Taken::NeedMore => Taken::NeedMore,
         Taken::Bad { at } => Taken::Bad { at },
     }

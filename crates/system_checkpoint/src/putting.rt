@@ -6,7 +6,7 @@ ghost use Rattle.system_checkpoint.specs.Spelling.{arming_bytes, first_bytes, gr
 
 use crate::first::MAGIC;
 use crate::{Arming, ClockTimes, Snapshot};
-use sim_base::Items;
+use sim_base::SharedBytes;
 use system_model::Plan;
 
 /// Appends a checkpoint to what `out` has, which has room for it: of what is held, where the trace begins with this header.
@@ -87,7 +87,7 @@ pub fn put_sized(bytes: &[u8], out: &mut Vec<u8>)
     put(bytes, out);
 }
 
-fn put_states(states: &[Items<u8>], out: &mut Vec<u8>)
+fn put_states(states: &[SharedBytes], out: &mut Vec<u8>)
     requires few { All (λ state. length state ≤ state_max) states.now }
     requires room { vec_len out.old + length (flat_map sized states.now) ≤ vec_capacity out.old }
     ensures text { out.new.items ≡ out.old.items ++ flat_map sized states.now }

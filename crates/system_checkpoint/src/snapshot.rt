@@ -1,4 +1,4 @@
-use sim_base::Items;
+use sim_base::{Items, SharedBytes};
 use system_model::Plan;
 use thiserror::Error;
 
@@ -9,8 +9,8 @@ pub struct Snapshot {
     pub plan: Plan,
     /// where the run is held, in counts
     pub point: u64,
-    /// the state of each component, as fmi3SerializeFMUState gives it
-    pub states: Items<Items<u8>>,
+    /// the state of each component, as fmi3SerializeFMUState gives it: a part of the bytes that were read
+    pub states: Items<SharedBytes>,
     /// the word of each port, if it has had a value
     pub words: Items<Option<u64>>,
     /// of each port the interval and the shift that its Clock was asked for

@@ -1,8 +1,8 @@
 use crate::{
     CheckpointFault, Snapshot, checkpoint_len, put_checkpoint, read_checkpoint, read_plan,
 };
-use sim_base::Items;
-use std::alloc::Global;
+use sim_base::{Items, SharedBytes};
+use std::alloc::{AllocError, Global};
 use std::test::Fail;
 use system_model::{Plan, System};
 
@@ -22,6 +22,10 @@ fn empty(alloc: Global) -> System {
     }
 }
 
+fn shared(alloc: Global, bytes: &[u8]) -> Result<SharedBytes, AllocError> {
+    SharedBytes::new(alloc, bytes.to_vec(alloc)?)
+}
+
 #[test]
 fn a_run_is_held_and_read_back(rt: HostRuntime) -> Result<(), Fail> {
     let alloc = rt.alloc();
@@ -35,7 +39,7 @@ fn a_run_is_held_and_read_back(rt: HostRuntime) -> Result<(), Fail> {
         link: 1,
     };
     assert_eq!(rt; read_plan(BYTES), Ok(plan));
-    let held = read_checkpoint(alloc, BYTES, &empty(alloc), HEADER)?;
+    let held = read_checkpoint(alloc, &shared(alloc, BYTES)?, &empty(alloc), HEADER)?;
     assert_eq!(rt; held.plan, plan);
     assert_eq!(rt; held.point, 5);
     let none = Snapshot {
@@ -56,22 +60,37 @@ fn a_run_is_held_and_read_back(rt: HostRuntime) -> Result<(), Fail> {
     Ok(())
 }
 
+// Whether these bytes are told as bad at this place.
+fn is_bad_at(alloc: Global, bytes: &SharedBytes, system: &System, at: u64) -> bool {
+    read_checkpoint(alloc, bytes, system, HEADER).err() == Some(CheckpointFault::Bad { at })
+}
+
+// Whether the first bytes, so many of them, are told as bad after the last of them.
+fn is_bad_when_cut(alloc: Global, whole: &SharedBytes, system: &System, end: usize) -> bool {
+    if end > whole.len() {
+        return false;
+    }
+    match whole.prefix(end) {
+        Ok(cut) => is_bad_at(alloc, &cut, system, end as u64),
+        Err(_) => false,
+    }
+}
+
+// Whether a byte more is told as bad.
+fn is_bad_when_longer(alloc: Global, system: &System) -> Result<bool, AllocError> {
+    let mut more = Vec::from_slice(alloc, BYTES)?;
+    more.push(0)?;
+    let longer = SharedBytes::new(alloc, more)?;
+    Ok(is_bad_at(alloc, &longer, system, 62))
+}
+
 #[test]
 fn the_first_byte_that_continues_none_is_told(rt: HostRuntime) -> Result<(), Fail> {
     let alloc = rt.alloc();
     let system = empty(alloc);
-    for end in 0..BYTES.len() {
-        let cut = read_checkpoint(alloc, &BYTES[..end], &system, HEADER);
-        assert_eq!(rt;
-            cut.err(),
-            Some(CheckpointFault::Bad { at: end as u64 }),
-            "{end}"
-        );
-    }
-    let mut more = Vec::from_slice(alloc, BYTES)?;
-    more.push(0)?;
-    let longer = read_checkpoint(alloc, more.as_slice(), &system, HEADER);
-    assert_eq!(rt; longer.err(), Some(CheckpointFault::Bad { at: 62 }));
+    let whole = shared(alloc, BYTES)?;
+    assert!(rt; (0..BYTES.len()).all(|end| is_bad_when_cut(alloc, &whole, &system, end)));
+    assert!(rt; is_bad_when_longer(alloc, &system)?);
     assert_eq!(rt;
         read_plan(&BYTES[..40]),
         Err(CheckpointFault::Bad { at: 40 })

@@ -6,16 +6,16 @@ use crate::first::{First, take_first};
 use crate::lists::{take_all_times, take_armings, take_events, take_states, take_words};
 use crate::parts::take_known;
 use crate::{CheckpointFault, Snapshot};
-use exact_parts::{Taken, behind};
-use sim_base::Items;
+use exact_parts::Taken;
+use sim_base::{Items, SharedBytes};
 use std::alloc::{AllocError, Global};
 use system_model::System;
 
 /// Reads the checkpoint of a run of the system whose trace begins with this header: header and port lines, as the text of
-/// the trace has them. `Bad` where the bytes are none.
+/// the trace has them. `Bad` where the bytes are none. The states that are read share the bytes.
 pub fn read_checkpoint(
     alloc: Global,
-    bytes: &[u8],
+    bytes: &SharedBytes,
     system: &System,
     header: &[u8],
 ) -> Result<Snapshot, CheckpointFault>
@@ -48,18 +48,20 @@ fn told(taken: Taken<Snapshot>, all: usize) -> Result<Snapshot, CheckpointFault>
 // Takes a checkpoint; other bytes may follow.
 fn take_whole(
     alloc: Global,
-    bytes: &[u8],
+    bytes: &SharedBytes,
     system: &System,
     header: &[u8],
 ) -> Result<Taken<Snapshot>, AllocError>
     requires { length header.now < 2 ^ 32 }
     ensures { IfOk result (λ taken. Takes (Checkpoint system.now header.now) bytes.now taken) }
 {
-    match take_first(bytes) {
+    match take_first(bytes.as_slice()) {
         Taken::Got { value, length } => {
             let held = begun(alloc, value);
-            let rest = take_header(alloc, &bytes[length..], system, header, held)?;
-            Ok(behind(length, rest))
+            let after = bytes.after(length)?;
+            let rest = take_header(alloc, &after, system, header, held)?;
+            let whole = exact_parts::after(length, rest);
+            Ok(whole)
         }
         Taken::NeedMore => Ok(Taken::NeedMore),
         Taken::Bad { at } => Ok(Taken::Bad { at }),
@@ -84,7 +86,7 @@ fn begun(alloc: Global, first: First) -> Snapshot
 // Takes the header, and what comes after it.
 fn take_header(
     alloc: Global,
-    bytes: &[u8],
+    bytes: &SharedBytes,
     system: &System,
     header: &[u8],
     held: Snapshot,
@@ -94,10 +96,12 @@ fn take_header(
     requires near { held.plan.stop ≤ 2 ^ 62 }
     ensures { IfOk result (λ taken. Takes (HeaderOf system.now header.now held) bytes.now taken) }
 {
-    match take_known(bytes, header) {
+    match take_known(bytes.as_slice(), header) {
         Taken::Got { value: (), length } => {
-            let rest = take_from_states(alloc, &bytes[length..], system, held)?;
-            Ok(behind(length, rest))
+            let after = bytes.after(length)?;
+            let rest = take_from_states(alloc, &after, system, held)?;
+            let whole = exact_parts::after(length, rest);
+            Ok(whole)
         }
         Taken::NeedMore => Ok(Taken::NeedMore),
         Taken::Bad { at } => Ok(Taken::Bad { at }),
@@ -107,7 +111,7 @@ fn take_header(
 // Takes the states, and what comes after them.
 fn take_from_states(
     alloc: Global,
-    bytes: &[u8],
+    bytes: &SharedBytes,
     system: &System,
     mut held: Snapshot,
 ) -> Result<Taken<Snapshot>, AllocError>
@@ -119,8 +123,10 @@ fn take_from_states(
     match taken {
         Taken::Got { value, length } => {
             held.states = value;
-            let rest = take_from_words(alloc, &bytes[length..], system, held)?;
-            Ok(behind(length, rest))
+            let after = bytes.after(length)?;
+            let rest = take_from_words(alloc, after.as_slice(), system, held)?;
+            let whole = exact_parts::after(length, rest);
+            Ok(whole)
         }
         Taken::NeedMore => Ok(Taken::NeedMore),
         Taken::Bad { at } => Ok(Taken::Bad { at }),
@@ -143,7 +149,8 @@ fn take_from_words(
         Taken::Got { value, length } => {
             held.words = value;
             let rest = take_from_times(alloc, &bytes[length..], system, held)?;
-            Ok(behind(length, rest))
+            let whole = exact_parts::after(length, rest);
+            Ok(whole)
         }
         Taken::NeedMore => Ok(Taken::NeedMore),
         Taken::Bad { at } => Ok(Taken::Bad { at }),
@@ -166,7 +173,8 @@ fn take_from_times(
         Taken::Got { value, length } => {
             held.times = value;
             let rest = take_from_armings(alloc, &bytes[length..], system, held)?;
-            Ok(behind(length, rest))
+            let whole = exact_parts::after(length, rest);
+            Ok(whole)
         }
         Taken::NeedMore => Ok(Taken::NeedMore),
         Taken::Bad { at } => Ok(Taken::Bad { at }),
@@ -189,7 +197,8 @@ fn take_from_armings(
         Taken::Got { value, length } => {
             held.armings = value;
             let rest = take_from_events(alloc, &bytes[length..], system, held)?;
-            Ok(behind(length, rest))
+            let whole = exact_parts::after(length, rest);
+            Ok(whole)
         }
         Taken::NeedMore => Ok(Taken::NeedMore),
         Taken::Bad { at } => Ok(Taken::Bad { at }),

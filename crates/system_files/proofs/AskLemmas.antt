@@ -1,12 +1,11 @@
 -- Reads, one after another.
 use Rattle.std.proofs.Common.{◌≡◌, ◌≤◌, ◌^◌, ℕ, List, [], ◌∷◌, ◌++◌, length, Option, Some, None, IfSome, refl, sym, ap, ap₂, ◌∙◌, subst, inl, inr, append_assoc, append-nil}
-use Rattle.std.specs.Prelude.{Result, Vec, Ok, Err}
-use Rattle.std.specs.declared.alloc.Global.{Global}
+use Rattle.std.specs.Prelude.{Result, Ok, Err}
 use Rattle.std.proofs.lemmas.List.{map-append}
 use Rattle.std.proofs.lemmas.List.Elements.{All-append, All-cons, All-nil, Contains-push}
 use Rattle.sim_base.specs.Asking.{AreOfFiles, Asks, IsAnswerOf, with_reads}
 use Rattle.sim_base.specs.Folder.{FolderView, KeepsLimit, NotesRead, Reads}
-use Rattle.sim_base.specs.ReadNotes.{read_of, told_answer}
+use Rattle.sim_base.specs.ReadNotes.{read_of}
 use Rattle.sim_base.specs.declared.folder.ReadFault.{ReadFault}
 use Rattle.sim_base.specs.declared.folder.ReadFault.TheVariants as r
 use Rattle.sim_base.specs.declared.read_book.ReadNote.{ReadNote}
@@ -56,16 +55,16 @@ asked_then old mid new some more paths files m n = record {
 
 -- the answer to a read
 abbrev pub Answer : Type 0
-Answer = Result (Vec ℕ Global) ReadFault
+Answer = Result (List ℕ) ReadFault
 
 -- where a folder tells its files, this is the answer to a read of a path
 abbrev pub Answers : FolderView → List ℕ → Answer → Type 0
 Answers folder path answer = IfSome folder.files (λ at. Reads (at path) (2 ^ 24) answer)
 
 abbrev one_read : List ℕ → Answer → List ReadNote
-one_read path answer = read_of path (told_answer answer) ∷ []
+one_read path answer = read_of path answer ∷ []
 
-answers_so : (at : Option (List ℕ)) (answer : Answer) → Reads at (2 ^ 24) answer → IsAnswerOf at (told_answer answer)
+answers_so : (at : Option (List ℕ)) (answer : Answer) → Reads at (2 ^ 24) answer → IsAnswerOf at answer
 answers_so at (Ok bytes) h = h.0
 answers_so at (Err r.Missing) h = h
 answers_so at (Err (r.TooBig n)) h = (h.0, h.1, h.2)
@@ -75,15 +74,15 @@ answers_so at (Err r.Memory) h = tt
 of_one : (files : Option (List ℕ → Option (List ℕ))) (path : List ℕ) (answer : Answer) → IfSome files (λ at. Reads (at path) (2 ^ 24) answer) → AreOfFiles files (one_read path answer)
 of_one None path answer told = tt
 of_one (Some at) path answer told =
-    All-cons (λ (read : ReadNote). IsAnswerOf (at read.path) read.answer) (read_of path (told_answer answer)) [] (answers_so (at path) answer told)
+    All-cons (λ (read : ReadNote). IsAnswerOf (at read.path) read.answer) (read_of path answer) [] (answers_so (at path) answer told)
     (All-nil (λ (read : ReadNote). IsAnswerOf (at read.path) read.answer))
 
-one_asked : (path : List ℕ) (answer : Answer) (old new : FolderView) → new ≡ with_reads old (one_read path answer) → (told_answer answer ≡ Err r.Failed → ⊥) → Answers old path answer →
+one_asked : (path : List ℕ) (answer : Answer) (old new : FolderView) → new ≡ with_reads old (one_read path answer) → (answer ≡ Err r.Failed → ⊥) → Answers old path answer →
     Asks (one_read path answer) (path ∷ []) old new
 one_asked path answer old new told unfailed answers = record {
   told = told;
   paths_are = refl;
-  unfailed = All-cons (λ (read : ReadNote). read.answer ≡ Err r.Failed → ⊥) (read_of path (told_answer answer)) [] unfailed
+  unfailed = All-cons (λ (read : ReadNote). read.answer ≡ Err r.Failed → ⊥) (read_of path answer) [] unfailed
       (All-nil (λ (read : ReadNote). read.answer ≡ Err r.Failed → ⊥));
   given = of_one old.files path answer answers;
 }
@@ -92,7 +91,7 @@ held : (path : List ℕ) (answer : Result (List ℕ) ReadFault) → Holds (read_
 held path answer = Contains-push [] (read_of path answer)
 
 -- bytes that were read
-module _ (path : List ℕ) (bytes : Vec ℕ Global) (read : List ℕ) (old new : FolderView) (same : read ≡ bytes.items) (short : length bytes.items ≤ 2 ^ 24)
+module _ (path : List ℕ) (bytes : List ℕ) (read : List ℕ) (old new : FolderView) (same : read ≡ bytes) (short : length bytes ≤ 2 ^ 24)
     (answers : Answers old path (Ok bytes)) (noted : NotesRead old new path (Ok bytes)) where
   asks_bytes : Asks (one_read path (Ok bytes)) (path ∷ []) old new
   asks_bytes = one_asked path (Ok bytes) old new noted (λ e. cc) answers
@@ -100,7 +99,7 @@ module _ (path : List ℕ) (bytes : Vec ℕ Global) (read : List ℕ) (old new :
   pub takes_file : {A : Type 0} (Says : List ℕ → A → Type 0) (said : A) → Says read said → TakesFile Says path said old new
   takes_file Says said says = record {
     reads = one_read path (Ok bytes);
-    has = (Ok bytes.items, held path (Ok bytes.items), (bytes.items, refl, short, subst (λ (b : List ℕ). Says b said) same says));
+    has = (Ok bytes, held path (Ok bytes), (bytes, refl, short, subst (λ (b : List ℕ). Says b said) same says));
     asks = asks_bytes;
   }
 
@@ -110,7 +109,7 @@ module _ (path : List ℕ) (bytes : Vec ℕ Global) (read : List ℕ) (old new :
     is,
     record {
       reads = one_read path (Ok bytes);
-      lacks = (Ok bytes.items, held path (Ok bytes.items), (refl, (bytes.items, refl, short, subst (λ (b : List ℕ). BreaksAlone (Says b) (Breaks b) rule place) same first)));
+      lacks = (Ok bytes, held path (Ok bytes), (refl, (bytes, refl, short, subst (λ (b : List ℕ). BreaksAlone (Says b) (Breaks b) rule place) same first)));
       asks = asks_bytes;
     },
   )

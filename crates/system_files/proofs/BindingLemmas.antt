@@ -18,8 +18,8 @@ use Rattle.system_loading.specs.declared.parameters.GivenSet.{GivenSet}
 use Rattle.parameter_values.specs.Ranges.{AreInRange}
 use Rattle.system_loading.specs.Faults.{TellsFirst}
 use Rattle.system_loading.specs.Readings.{BreaksAlone}
-use Rattle.system_files.specs.declared.loading.LoadEnd.{LoadEnd}
-use Rattle.system_files.specs.declared.loading.LoadEnd.TheVariants as end
+use Rattle.system_files.specs.declared.loading.LoadError.{LoadError}
+use Rattle.system_files.specs.declared.loading.LoadError.TheVariants as end
 use Rattle.system_files.specs.Order.{binding_files, mapping_files, part_files}
 use Rattle.system_files.specs.Steps.{AtBinding, EndsBinding, EndsBindings, EndsWithin, IsGivenAlone, IsMappingAlone, SaysMapping, SaysMappingWithin, TakesBinding, TakesBindings, TakesPart, TakesValues, TellsWithin}
 use Rattle.system_files.proofs.AskLemmas.{asked_then, none_asked}
@@ -77,7 +77,7 @@ module _ (directory : List ℕ) (o : Outline) (old mid : FolderView) (bindings :
             (asked_then old mid new takes.reads t.reads (flat_map (binding_files directory o) (take n bindings)) (binding_files directory o b) takes.asks t.asks);
       })
 
-  pub ends_more : (ended : LoadEnd) (new : FolderView) → bindings ≡ o.systems.bindings → EndsBinding directory o b ended mid new → EndsBindings directory o ended old new
+  pub ends_more : (ended : LoadError) (new : FolderView) → bindings ≡ o.systems.bindings → EndsBinding directory o b ended mid new → EndsBindings directory o ended old new
   ends_more ended new same h = AtBinding (take n bindings) given b (drop (n + 1) bindings) mid (sym same ∙ parted bindings n b below is) takes h
 
 -- as many as bindings before the place
@@ -88,7 +88,7 @@ as_many directory o old new bindings n given within takes =
 
 -- ---- the end at an element of the outline
 
-pub ends_within : {A : Type 0} (Says : A → Type 0) (Breaks : Rule → Place → Type 0) (fault : Fault) (path : List ℕ) (ended : LoadEnd) → TellsFirst Says Breaks fault → TellsWithin fault path ended →
+pub ends_within : {A : Type 0} (Says : A → Type 0) (Breaks : Rule → Place → Type 0) (fault : Fault) (path : List ℕ) (ended : LoadError) → TellsFirst Says Breaks fault → TellsWithin fault path ended →
     EndsWithin (λ rule place. BreaksAlone Says Breaks rule place) path ended
 ends_within Says Breaks (f.Broken rule place) path (end.File file fault) first told = (rule, (place, told.0, told.1, first))
 ends_within Says Breaks f.Memory path (end.File file fault) first told = absurd told

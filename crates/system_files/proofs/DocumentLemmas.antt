@@ -163,7 +163,7 @@ module _ (directory : List ℕ) (reads : List ReadNote) (steady : AreSteady read
   pub data Compared (x y : Point) : Type 0 where
     Same : x ≡ y → Compared x y
     Before : (m : Point) → Plain x m → Leads IsStructure directory reads m y → Compared x y
-    Behind : (m : Point) → Alone y m → Compared x y
+    After : (m : Point) → Alone y m → Compared x y
 
   on : (x y : Point) → Leads IsStructure directory reads x y → Compared x y
   on x y (Here _ _ e) = Same e
@@ -172,7 +172,7 @@ module _ (directory : List ℕ) (reads : List ReadNote) (steady : AreSteady read
   -- a point that is come to alone, and another that is come to from the same
   compare_from : (x y z : Point) → Leads SaysStructure directory reads x y → Leads IsStructure directory reads x z → Compared y z
   compare_from x y z (Here _ _ e) plain = on y z (subst (λ (p : Point). Leads IsStructure directory reads p z) e plain)
-  compare_from x y z (Onward _ m _ first rest) (Here _ _ e) = Behind m (subst (λ (p : Point). Alone p m) e first)
+  compare_from x y z (Onward _ m _ first rest) (Here _ _ e) = After m (subst (λ (p : Point). Alone p m) e first)
   compare_from x y z (Onward _ m _ first rest) (Onward _ n _ other more) =
       compare_from m y z rest (subst (λ (p : Point). Leads IsStructure directory reads p z) (sym (one_step x m n first other)) more)
 
@@ -190,7 +190,7 @@ module _ (directory : List ℕ) (reads : List ReadNote) (steady : AreSteady read
       by : Compared x y → x ≡ y
       by (Same e) = e
       by (Before m step rest) = let h = no_next x m n step is in absurd (none h.0 h.1.0 h.1.1)
-      by (Behind m step) = let h = alone_next y m k step ends in absurd (nothing h.0 h.1.0 h.1.1)
+      by (After m step) = let h = alone_next y m k step ends in absurd (nothing h.0 h.1.0 h.1.1)
 
   states : (documents others : List SystemDocument) (g h : Gathered) → point documents g ≡ point others h → g ≡ h
   states documents others g h e = same_Some g h (ap (λ (p : Point). p.state) e)
@@ -251,7 +251,7 @@ module _ (directory : List ℕ) (reads : List ReadNote) (steady : AreSteady read
       by : (y : Point) → NextAt y.state (next.Document path s) → Compared (point a.documents a.last) y → ⊥
       by y at (Same e) = none_document path s (one_next a.last (next.Document path s) next.Nothing (subst (λ (p : Point). NextAt p.state (next.Document path s)) (sym e) at) a.all)
       by y at (Before m step rest) = let h = no_next (point a.documents a.last) m next.Nothing step a.all in none_document h.0 h.1.0 h.1.1
-      by y at (Behind m step) = taken_flawed y m path s flaw step at lacks
+      by y at (After m step) = taken_flawed y m path s flaw step at lacks
   gathers_unflawed o asked told flaw a (AtNesting documents g place rule _ _ _ gathers stands asked_is told_is flaw_is) =
       let end = stops g place rule stands in
       let same = ended_once (point a.documents a.last) (point documents g) next.Nothing end.0 none_document end.1.1 a.all end.1.0
@@ -268,7 +268,7 @@ module _ (directory : List ℕ) (reads : List ReadNote) (steady : AreSteady read
       by : (x : Point) → NextAt x.state (next.Document path s) → Compared x (point f.documents f.last) → ⊥
       by x at (Same e) = none_document path s (one_next f.last (next.Document path s) next.Nothing (subst (λ (p : Point). NextAt p.state (next.Document path s)) e at) f.all)
       by x at (Before m step rest) = flawed_taken x m path s flaw step at lacks
-      by x at (Behind m step) = let h = alone_next (point f.documents f.last) m next.Nothing step f.all in none_document h.0 h.1.0 h.1.1
+      by x at (After m step) = let h = alone_next (point f.documents f.last) m next.Nothing step f.all in none_document h.0 h.1.0 h.1.1
   lacks_ungathered o asked told flaw (AtNesting documents g place rule _ _ _ gathers stands asked_is told_is flaw_is) f =
       let end = stops g place rule stands in
       let same = ended_once (point documents g) (point f.documents f.last) end.0 next.Nothing end.1.1 none_document end.1.0 f.all
@@ -307,7 +307,7 @@ module _ (directory : List ℕ) (reads : List ReadNote) (steady : AreSteady read
             flawed_once (IsStructure s) (BreaksStructure s) reads steady (joined_path directory path) flaw another lacks lacks_here,
           )
       by x y at there e f (Before m step rest) = absurd (flawed_taken x m path s flaw step at lacks)
-      by x y at there e f (Behind m step) = absurd (taken_flawed y m path2 s2 another step there lacks2)
+      by x y at there e f (After m step) = absurd (taken_flawed y m path2 s2 another step there lacks2)
   lacks_once asked told flaw others elsewhere another (AtDocument documents path s _ _ _ comes lacks asked_is told_is) (AtNesting documents2 g place rule _ _ _ gathers stands asked2 told2 flaw2) =
       let here = comes_from SaysStructure directory reads documents path s comes in
       let x : Point = record { documents = documents; state = here.0 } in
@@ -316,7 +316,7 @@ module _ (directory : List ℕ) (reads : List ReadNote) (steady : AreSteady read
       by : (x : Point) → NextAt x.state (next.Document path s) → (n : Next) × (IsNext g n × ((p : List ℕ) (s : Setting) → next.Document p s ≡ n → ⊥)) → Compared x (point documents2 g) → IsOne asked told flaw others elsewhere another
       by x at end (Same e) = absurd (end.1.1 path s (one_next g (next.Document path s) end.0 (subst (λ (p : Point). NextAt p.state (next.Document path s)) e at) end.1.0))
       by x at end (Before m step rest) = absurd (flawed_taken x m path s flaw step at lacks)
-      by x at end (Behind m step) = let h = alone_next (point documents2 g) m end.0 step end.1.0 in absurd (end.1.1 h.0 h.1.0 h.1.1)
+      by x at end (After m step) = let h = alone_next (point documents2 g) m end.0 step end.1.0 in absurd (end.1.1 h.0 h.1.0 h.1.1)
   lacks_once asked told flaw others elsewhere another (AtNesting documents g place rule _ _ _ gathers stands asked_is told_is flaw_is) (AtDocument documents2 path2 s2 _ _ _ comes2 lacks2 asked2 told2) =
       let there = comes_from IsStructure directory reads documents2 path2 s2 comes2 in
       let y : Point = record { documents = documents2; state = there.0 } in
@@ -325,7 +325,7 @@ module _ (directory : List ℕ) (reads : List ReadNote) (steady : AreSteady read
       by : (y : Point) → NextAt y.state (next.Document path2 s2) → (n : Next) × (IsNext g n × ((p : List ℕ) (s : Setting) → next.Document p s ≡ n → ⊥)) → Compared (point documents g) y → IsOne asked told flaw others elsewhere another
       by y at end (Same e) = absurd (end.1.1 path2 s2 (one_next g (next.Document path2 s2) end.0 (subst (λ (p : Point). NextAt p.state (next.Document path2 s2)) (sym e) at) end.1.0))
       by y at end (Before m step rest) = let h = no_next (point documents g) m end.0 step end.1.0 in absurd (end.1.1 h.0 h.1.0 h.1.1)
-      by y at end (Behind m step) = absurd (taken_flawed y m path2 s2 another step at lacks2)
+      by y at end (After m step) = absurd (taken_flawed y m path2 s2 another step at lacks2)
   lacks_once asked told flaw others elsewhere another (AtNesting documents g place rule _ _ _ gathers stands asked_is told_is flaw_is) (AtNesting documents2 h place2 rule2 _ _ _ gathers2 stands2 asked2 told2 flaw2) =
       let end = stops g place rule stands in
       let other = stops h place2 rule2 stands2 in

@@ -26,8 +26,8 @@ use Rattle.system_loading.specs.declared.parameters.GivenSet.{GivenSet}
 use Rattle.system_loading.specs.Outlines.{place_at, place_in}
 use Rattle.system_files.specs.declared.subject.Subject.TheVariants as what
 use Rattle.system_files.specs.declared.loaded.Loaded.{Loaded}
-use Rattle.system_files.specs.declared.loading.LoadEnd.{LoadEnd}
-use Rattle.system_files.specs.declared.loading.LoadEnd.TheVariants as end
+use Rattle.system_files.specs.declared.loading.LoadError.{LoadError}
+use Rattle.system_files.specs.declared.loading.LoadError.TheVariants as end
 use Rattle.system_files.specs.declared.named.NamedFile.{NamedFile}
 use Rattle.system_files.specs.declared.named.FileFault.{FileFault}
 use Rattle.system_files.specs.declared.named.FileFault.TheVariants.{Unread, Missing, TooBig, Broken}
@@ -75,7 +75,7 @@ module _ (s : Search) (path : List ℕ) (some : List ReadNote) (paths : List (Li
   }
   ends_memory new (inr same) = subst (ReadsSome s old) (sym same) (record { reads = some; asked = paths; some = first; asks = asks })
 
-  ends_at : (ended : LoadEnd) (new : FolderView) → EndsAt Breaks path ended before new → EndsLoading s ended old new
+  ends_at : (ended : LoadError) (new : FolderView) → EndsAt Breaks path ended before new → EndsLoading s ended old new
   ends_at (end.File file fault) new h = ends_file file fault new h
   ends_at end.Memory new h = ends_memory new h
 
@@ -94,7 +94,7 @@ come_asked s all documents path t sys (ComesNext _ _ _ g gathers comes) = TakenD
 
 -- the end at an element of a document
 ends_nesting : (s : Search) (documents : List SystemDocument) (g : Gathered) (place : elements.Place) (rule : NestingRule) (old new : FolderView) → s.subject ≡ what.System →
-    GathersFrom s.directory documents g old new → HasNestingFlaw g place rule → (ended : LoadEnd) → TellsNesting s.directory documents place rule ended → EndsLoading s ended old new
+    GathersFrom s.directory documents g old new → HasNestingFlaw g place rule → (ended : LoadError) → TellsNesting s.directory documents place rule ended → EndsLoading s ended old new
 ends_nesting s documents g place rule old new sys f stands (end.File file fault) tells =
     let flaw = Faulty (Nesting rule) (place_at documents place) [] in
     let told = told_at s.directory documents place in
@@ -110,7 +110,7 @@ ends_nesting s documents g place rule old new sys f stands (end.File file fault)
 ends_nesting s documents g place rule old new sys f stands end.Memory tells =
     record { reads = f.reads; asked = document_files s.directory documents; some = gathered_asked s documents g old new sys f; asks = f.asks }
 
-pub ends_outline : (s : Search) (ended : LoadEnd) (old new : FolderView) → EndsOutline s.subject s.directory ended old new → EndsLoading s ended old new
+pub ends_outline : (s : Search) (ended : LoadError) (old new : FolderView) → EndsOutline s.subject s.directory ended old new → EndsLoading s ended old new
 ends_outline s ended old new (EndsAtDocument documents path t mid sys r h) =
     let file = joined_path s.directory path in
     let paths = document_files s.directory documents in
@@ -121,17 +121,17 @@ ends_outline s ended old new (EndsAtDocument documents path t mid sys r h) =
     (come_asked s r.reads documents path t sys r.comes) old mid r.asks ended new h
 ends_outline s ended old new (EndsAtNesting documents g place rule sys f stands tells) = ends_nesting s documents g place rule old new sys f stands ended tells
 ends_outline s ended old new (EndsBetween documents g sys f is) =
-    subst (λ (e : LoadEnd). EndsLoading s e old new) (sym is)
+    subst (λ (e : LoadError). EndsLoading s e old new) (sym is)
     (record { reads = f.reads; asked = document_files s.directory documents; some = gathered_asked s documents g old new sys f; asks = f.asks })
 ends_outline s ended old new (NoOutlineRoom is told) =
-    subst (λ (e : LoadEnd). EndsLoading s e old new) (sym is) (record { reads = []; asked = []; some = Nothing [] refl; asks = none_here old new told })
+    subst (λ (e : LoadError). EndsLoading s e old new) (sym is) (record { reads = []; asked = []; some = Nothing [] refl; asks = none_here old new told })
 
 -- ---- at a binding
 
 -- the end at an element of the outline, which breaks a rule alone
 within_end : (s : Search) (old new : FolderView) (path : List ℕ) (reads : List ReadNote) (asked : List (List ℕ)) (Spoils : Rule → Place → Type 0) →
     ((rule : Rule) (place : Place) → Spoils rule place → ComesAlone s reads asked (Fails path (Faulty rule place []))) → AsksSome s reads asked → Asks reads asked old new →
-    (ended : LoadEnd) → EndsWithin Spoils path ended → EndsLoading s ended old new
+    (ended : LoadError) → EndsWithin Spoils path ended → EndsLoading s ended old new
 within_end s old new path reads asked Spoils alone some asks (end.File file fault) h =
     let rule = h.0 in
     let place = h.1.0 in
@@ -171,14 +171,14 @@ module _ (s : Search) (o : Outline) (shapes : List Shape) (taken : List Binding)
       TakenBindings o shapes taken given (b ∷ rest) _ (reached_bindings s all o shapes taken given (b ∷ rest) reach) (append-nil (asked_with s o taken))
 
   module _ (old before : FolderView) (some : List ReadNote) (reach : ReachesBindingsAlone s some o shapes taken given (b ∷ rest)) (asks : Asks some (asked_with s o taken) old before) where
-    behind : (all : List ReadNote) → AreAmong some all → ReachesBindingsAlone s all o shapes taken given (b ∷ rest)
-    behind all among = more_bindings some all among s o shapes taken given (b ∷ rest) reach
+    after : (all : List ReadNote) → AreAmong some all → ReachesBindingsAlone s all o shapes taken given (b ∷ rest)
+    after all among = more_bindings some all among s o shapes taken given (b ∷ rest) reach
 
-    ends_values : (origin : Origin) (ended : LoadEnd) (new : FolderView) → b.values ≡ origin →
+    ends_values : (origin : Origin) (ended : LoadError) (new : FolderView) → b.values ≡ origin →
         EndsPart FailsValues FailsValuesWithin s.directory o b.owner origin ended before new → EndsLoading s ended old new
     ends_values (File base source) ended new e h =
         ends_at s (part_path s.directory o b.owner base source) some (asked_with s o taken) FailsValues
-        (λ all among. to_values all (behind all among) base source e) (λ all among flaw l. no_values all (behind all among) (File base source) flaw e l)
+        (λ all among. to_values all (after all among) base source e) (λ all among flaw l. no_values all (after all among) (File base source) flaw e l)
         (TakenBindings o shapes taken given (b ∷ rest) _ (reached_bindings s some o shapes taken given (b ∷ rest) reach) refl) old before asks ended new h
     ends_values (Inline node) ended new e h =
         within_end s old new (told_in s.directory o node) some (asked_with s o taken ++ []) (FailsValuesWithin o node)
@@ -195,20 +195,20 @@ module _ (s : Search) (o : Outline) (shapes : List Shape) (taken : List Binding)
 
       both_reach : ReachesBindingsAlone s both o shapes taken given (b ∷ rest)
       unfolding both
-      both_reach = behind (some ++ values.reads) (among_left some values.reads)
+      both_reach = after (some ++ values.reads) (among_left some values.reads)
 
       set_alone : IsValuesAlone s.directory both o b.owner b.values set
       unfolding both
       set_alone = more_values values.reads (some ++ values.reads) (among_right some values.reads) s.directory o b set values.is
 
       module _ (all : List ReadNote) (among : AreAmong both all) where
-        behind_both : ReachesBindingsAlone s all o shapes taken given (b ∷ rest)
-        behind_both = more_bindings both all among s o shapes taken given (b ∷ rest) both_reach
+        after_both : ReachesBindingsAlone s all o shapes taken given (b ∷ rest)
+        after_both = more_bindings both all among s o shapes taken given (b ∷ rest) both_reach
 
-        behind_set : IsValuesAlone s.directory all o b.owner b.values set
-        behind_set = more_values both all among s.directory o b set set_alone
+        after_set : IsValuesAlone s.directory all o b.owner b.values set
+        after_set = more_values both all among s.directory o b set set_alone
 
-      ends_mapping : (origin : Origin) (ended : LoadEnd) (new : FolderView) → b.mapping ≡ Some origin →
+      ends_mapping : (origin : Origin) (ended : LoadError) (new : FolderView) → b.mapping ≡ Some origin →
           EndsPart FailsMapping FailsMappingWithin s.directory o b.owner origin ended middle new → EndsLoading s ended old new
       ends_mapping (File base source) ended new m h =
           let path = part_path s.directory o b.owner base source in
@@ -219,11 +219,11 @@ module _ (s : Search) (o : Outline) (shapes : List Shape) (taken : List Binding)
           ∙ sym (append_assoc (asked_with s o taken) (part_files s.directory o b.owner b.values) (path ∷ [])) in
           ends_at s path both before_it FailsMapping
           (λ all among. subst (λ (ps : List (List ℕ)). ComesTo s all ps path) same
-          (ToPart o shapes taken given b rest (binding_files s.directory o b) _ _ (reached_bindings s all o shapes taken given (b ∷ rest) (behind_both all among))
-          (OfMapping set base source _ _ (is_values s all o b set (behind_set all among)) m refl refl) refl))
+          (ToPart o shapes taken given b rest (binding_files s.directory o b) _ _ (reached_bindings s all o shapes taken given (b ∷ rest) (after_both all among))
+          (OfMapping set base source _ _ (is_values s all o b set (after_set all among)) m refl refl) refl))
           (λ all among flaw l. subst (λ (ps : List (List ℕ)). ComesAlone s all ps (Fails path flaw)) same
-          (no_set_alone s all o shapes taken given b rest (binding_files s.directory o b) path flaw (behind_both all among)
-          (InMappingAlone (File base source) set _ _ flaw (behind_set all among) m l refl refl)))
+          (no_set_alone s all o shapes taken given b rest (binding_files s.directory o b) path flaw (after_both all among)
+          (InMappingAlone (File base source) set _ _ flaw (after_set all among) m l refl refl)))
           (values_asked both both_reach b.values refl) old middle both_asked ended new h
       ends_mapping (Inline node) ended new m h =
           within_end s old new (told_in s.directory o node) both (asked_with s o taken ++ part_files s.directory o b.owner b.values) (FailsMappingWithin o node)
@@ -232,7 +232,7 @@ module _ (s : Search) (o : Outline) (shapes : List Shape) (taken : List Binding)
           (sym (append-nil (part_files s.directory o b.owner b.values)) ∙ ap (λ (x : Option Origin). part_files s.directory o b.owner b.values ++ mapping_files s.directory o b.owner x) (sym m)) refl))
           (values_asked both both_reach b.values refl) (subst (Asks both (asked_with s o taken ++ part_files s.directory o b.owner b.values) old) (sym h.0) both_asked) ended h.1
 
-    pub ends_binding : (ended : LoadEnd) (new : FolderView) → EndsBinding s.directory o b ended before new → EndsLoading s ended old new
+    pub ends_binding : (ended : LoadError) (new : FolderView) → EndsBinding s.directory o b ended before new → EndsLoading s ended old new
     ends_binding ended new (AtValues h) = ends_values b.values ended new refl h
     ends_binding ended new (AtMapping set origin middle values m h) = ends_mapping set middle values origin ended new m h
 
@@ -288,7 +288,7 @@ module _ (s : Search) (o : Outline) (old mid : FolderView) (outline : TakesOutli
         asks = r.1;
       }
 
-  ends_shapes : (ended : LoadEnd) (new : FolderView) → EndsShapes s.per_second s.directory o.systems.components ended mid new → EndsLoading s ended old new
+  ends_shapes : (ended : LoadError) (new : FolderView) → EndsShapes s.per_second s.directory o.systems.components ended mid new → EndsLoading s ended old new
   ends_shapes ended new (AtShape taken shapes c rest middle is t more h) =
       let r = some_taken taken shapes (c ∷ rest) middle is t in
       let some = outline.reads ++ t.reads in
@@ -302,23 +302,23 @@ module _ (s : Search) (o : Outline) (old mid : FolderView) (outline : TakesOutli
       (no_shape_alone s all o taken shapes c rest flaw (more_reached some all among s o taken shapes (c ∷ rest) r.0) l))
       (Taken o taken shapes (c ∷ rest) _ (reached s some o taken shapes (c ∷ rest) r.0) refl) old middle r.1 ended new h
   ends_shapes ended new (NoShapeRoom taken shapes rest is t ended_is) =
-      subst (λ (e : LoadEnd). EndsLoading s e old new) (sym ended_is) (ends_taken taken shapes rest new is t)
+      subst (λ (e : LoadError). EndsLoading s e old new) (sym ended_is) (ends_taken taken shapes rest new is t)
 
-  ends_bindings : (shapes : List Shape) (middle : FolderView) (ended : LoadEnd) (new : FolderView) → TakesShapes s.per_second s.directory o.systems.components shapes mid middle →
+  ends_bindings : (shapes : List Shape) (middle : FolderView) (ended : LoadError) (new : FolderView) → TakesShapes s.per_second s.directory o.systems.components shapes mid middle →
       EndsBindings s.directory o ended middle new → EndsLoading s ended old new
   ends_bindings shapes middle ended new t (AtBinding taken given b rest before is takes h) =
       let r = parts_reach shapes taken given (b ∷ rest) middle before is t takes in
       ends_binding s o shapes taken given b rest old before r.0 r.1 r.2 ended new h
   ends_bindings shapes middle ended new t (NoBindingRoom is new_is) =
-      subst (λ (e : LoadEnd). EndsLoading s e old new) (sym is)
+      subst (λ (e : LoadError). EndsLoading s e old new) (sym is)
       (ends_taken o.systems.components shapes [] new (sym (append-nil o.systems.components))
       (subst (TakesShapes s.per_second s.directory o.systems.components shapes mid) (sym new_is) t))
 
-  ends_together : (shapes : List Shape) (given : List GivenBinding) (ended : LoadEnd) (new : FolderView) → TakesParts s.per_second s.directory o shapes given mid new → EndsTogether s.directory o shapes given ended →
+  ends_together : (shapes : List Shape) (given : List GivenBinding) (ended : LoadError) (new : FolderView) → TakesParts s.per_second s.directory o shapes given mid new → EndsTogether s.directory o shapes given ended →
       EndsLoading s ended old new
   ends_together shapes given ended new t (AtParameter n in_mapping rule place ports file broken in_file none is) =
       let r = all_reach shapes given new t in
-      subst (λ (e : LoadEnd). EndsLoading s e old new) (sym is) (record {
+      subst (λ (e : LoadError). EndsLoading s e old new) (sym is) (record {
         reads = r.0;
         asked = asked_with s o o.systems.bindings;
         comes = subst (λ (xs : List PortId). ComesAlone s r.0 (asked_with s o o.systems.bindings) (Fails file.path (Faulty rule place xs))) (sym none)
@@ -327,7 +327,7 @@ module _ (s : Search) (o : Outline) (old mid : FolderView) (outline : TakesOutli
       })
   ends_together shapes given ended new t (AtRule bound rule node ports file binds broken in_file is) =
       let r = all_reach shapes given new t in
-      subst (λ (e : LoadEnd). EndsLoading s e old new) (sym is) (record {
+      subst (λ (e : LoadError). EndsLoading s e old new) (sym is) (record {
         reads = r.0;
         asked = asked_with s o o.systems.bindings;
         comes = subst (λ (p : List ℕ). ComesAlone s r.0 (asked_with s o o.systems.bindings) (Fails p (Faulty rule (place_in o node) ports))) (sym in_file)
@@ -336,14 +336,14 @@ module _ (s : Search) (o : Outline) (old mid : FolderView) (outline : TakesOutli
       })
   ends_together shapes given ended new t (NoSystemRoom is) =
       let r = all_reach shapes given new t in
-      subst (λ (e : LoadEnd). EndsLoading s e old new) (sym is) (record {
+      subst (λ (e : LoadError). EndsLoading s e old new) (sym is) (record {
         reads = r.0;
         asked = asked_with s o o.systems.bindings;
         some = TakenBindings o shapes o.systems.bindings given [] _ (reached_bindings s r.0 o shapes o.systems.bindings given [] r.1) refl;
         asks = r.2;
       })
 
-  pub ends_models : (ended : LoadEnd) (new : FolderView) → EndsModels s.per_second s.directory o ended mid new → EndsLoading s ended old new
+  pub ends_models : (ended : LoadError) (new : FolderView) → EndsModels s.per_second s.directory o ended mid new → EndsLoading s ended old new
   ends_models ended new (OfShapes h) = ends_shapes ended new h
   ends_models ended new (OfBindings shapes middle t h) = ends_bindings shapes middle ended new t h
   ends_models ended new (OfSystem shapes given t h) = ends_together shapes given ended new t h

@@ -16,8 +16,8 @@ use Rattle.nested_documents.specs.States.{Gathered}
 use Rattle.system_loading.specs.declared.documents.SystemDocument.{SystemDocument}
 use Rattle.system_loading.specs.declared.outline.Outline.{Outline}
 use Rattle.system_loading.specs.Documents.{Said}
-use Rattle.system_files.specs.declared.loading.LoadEnd.{LoadEnd}
-use Rattle.system_files.specs.declared.loading.LoadEnd.TheVariants as end
+use Rattle.system_files.specs.declared.loading.LoadError.{LoadError}
+use Rattle.system_files.specs.declared.loading.LoadError.TheVariants as end
 use Rattle.system_files.specs.declared.subject.Subject.TheVariants as what
 use Rattle.system_files.specs.Documents.{Begins, ComesNext, ComesTop, IsGathered, LacksConnector, Nested, Outermost, StandsTooDeep, document_files, top_path}
 use Rattle.system_files.specs.Steps.{AddsDocument, EndsAt, EndsAtDocument, EndsAtNesting, EndsBetween, EndsOutline, FailsStructure, GathersFrom, SaysStructure, TakesFile, TakesOutline, TellsNesting}
@@ -38,7 +38,7 @@ module _ (directory : List ℕ) where
     asks = files_as takes.reads (joined_path directory top_path ∷ []) documents old new (sym (ap (document_files directory) begins.documents)) takes.asks;
   }
 
-  pub ends_top : (ended : LoadEnd) (old new : FolderView) → EndsAt (FailsStructure OUTERMOST) (joined_path directory top_path) ended old new → EndsOutline what.System directory ended old new
+  pub ends_top : (ended : LoadError) (old new : FolderView) → EndsAt (FailsStructure OUTERMOST) (joined_path directory top_path) ended old new → EndsOutline what.System directory ended old new
   ends_top ended old new h = EndsAtDocument [] top_path OUTERMOST old refl (record { reads = []; comes = ComesTop [] top_path OUTERMOST refl refl refl; asks = none_asked old }) h
 
   -- it was read, and then memory ran out
@@ -63,14 +63,14 @@ module _ (directory : List ℕ) where
               (asked_then old mid new some more (document_files directory before) (joined_path directory path ∷ []) so_far.asks adds.takes.asks);
         }
 
-    pub ends_more : (path : List ℕ) (s : Setting) (ended : LoadEnd) (new : FolderView) → IsNext g (next.Document path s) → EndsAt (FailsStructure s) (joined_path directory path) ended mid new → EndsOutline what.System directory ended old new
+    pub ends_more : (path : List ℕ) (s : Setting) (ended : LoadError) (new : FolderView) → IsNext g (next.Document path s) → EndsAt (FailsStructure s) (joined_path directory path) ended mid new → EndsOutline what.System directory ended old new
     ends_more path s ended new comes h =
         EndsAtDocument before path s mid refl (record { reads = so_far.reads; comes = ComesNext before path s g so_far.gathers comes; asks = so_far.asks }) h
 
     pub ends_here : EndsOutline what.System directory end.Memory old mid
     ends_here = EndsBetween before g refl so_far refl
 
-    pub ends_deep : (place : elements.Place) (ended : LoadEnd) → IsNext g (next.TooDeep place) → TellsNesting directory before place n.TooDeep ended → EndsOutline what.System directory ended old mid
+    pub ends_deep : (place : elements.Place) (ended : LoadError) → IsNext g (next.TooDeep place) → TellsNesting directory before place n.TooDeep ended → EndsOutline what.System directory ended old mid
     ends_deep place ended comes tells = EndsAtNesting before g place n.TooDeep refl so_far (StandsTooDeep place n.TooDeep comes refl) tells
 
     -- ---- all are read
@@ -82,7 +82,7 @@ module _ (directory : List ℕ) where
       asks = subst (λ (ds : List SystemDocument). Asks so_far.reads (document_files directory ds) old mid) (sym is.documents) so_far.asks;
     }
 
-    pub ends_lacking : (place : elements.Place) (ended : LoadEnd) → IsNext g next.Nothing → g.lacking ≡ Some place → TellsNesting directory before place n.NoInnerConnector ended → EndsOutline what.System directory ended old mid
+    pub ends_lacking : (place : elements.Place) (ended : LoadError) → IsNext g next.Nothing → g.lacking ≡ Some place → TellsNesting directory before place n.NoInnerConnector ended → EndsOutline what.System directory ended old mid
     ends_lacking place ended all lacks tells = EndsAtNesting before g place n.NoInnerConnector refl so_far (LacksConnector place n.NoInnerConnector all lacks refl) tells
 
 -- ---- how many

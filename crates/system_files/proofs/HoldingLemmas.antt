@@ -24,8 +24,8 @@ use Rattle.system_loading.specs.declared.outline.Outline.{Outline}
 use Rattle.system_loading.specs.Assembly.{HaveSameParts}
 use Rattle.system_loading.specs.Outlines.{place_in}
 use Rattle.system_files.specs.declared.loaded.Loaded.{Loaded}
-use Rattle.system_files.specs.declared.loading.LoadEnd.{LoadEnd}
-use Rattle.system_files.specs.declared.loading.LoadEnd.TheVariants as end
+use Rattle.system_files.specs.declared.loading.LoadError.{LoadError}
+use Rattle.system_files.specs.declared.loading.LoadError.TheVariants as end
 use Rattle.system_files.specs.declared.named.FileFault.{FileFault}
 use Rattle.system_files.specs.declared.named.FileFault.TheVariants.{Unread, Missing, TooBig, Broken}
 use Rattle.system_files.specs.Documents.{told_in}
@@ -190,7 +190,7 @@ module _ (s : Search) (plan : Plan) where
     asks = loads.asks;
   }
 
-  pub ends_held : (ended : LoadEnd) (old new : FolderView) → EndsLoading s ended old new → EndsHeld s plan ended old new
+  pub ends_held : (ended : LoadError) (old new : FolderView) → EndsLoading s ended old new → EndsHeld s plan ended old new
   ends_held end.Memory old new h = h
   ends_held (end.File file Unread) old new h = h
   ends_held (end.File file Missing) old new h = refused_held file.path Absent old new h
@@ -232,7 +232,7 @@ module _ (s : Search) (plan : Plan) where
       asks = reach.2;
     }
 
-    pub unheld_ends : (node : ℕ) (ended : LoadEnd) → IsFirstUnheld o loaded.system plan node → TellsUnheld s.directory o node ended → EndsHeld s plan ended old new
+    pub unheld_ends : (node : ℕ) (ended : LoadError) → IsFirstUnheld o loaded.system plan node → TellsUnheld s.directory o node ended → EndsHeld s plan ended old new
     unheld_ends node (end.File file fault) first tells =
         subst (λ (x : FileFault). FileFailsHeld s plan x file.path old new) (sym tells.1)
         (subst (λ (p : List ℕ). LoadsHeld s plan (Fails p (Faulty CannotBeHeld (place_in o node) [])) old new) (sym tells.0) (unheld_loads node first))

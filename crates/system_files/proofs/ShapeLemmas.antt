@@ -12,8 +12,8 @@ use Rattle.value_types.specs.declared.shape.Shape.{Shape}
 use Rattle.ssd_tree.specs.declared.tree.ComponentPart.{ComponentPart}
 use Rattle.doc_tables.specs.Tables.{IsTableBelow}
 use Rattle.flatten.specs.Flat.{source_at}
-use Rattle.system_files.specs.declared.loading.LoadEnd.{LoadEnd}
-use Rattle.system_files.specs.declared.loading.LoadEnd.TheVariants as end
+use Rattle.system_files.specs.declared.loading.LoadError.{LoadError}
+use Rattle.system_files.specs.declared.loading.LoadError.TheVariants as end
 use Rattle.system_files.specs.Files.{Holds, first_uses}
 use Rattle.system_files.specs.Order.{model_path}
 use Rattle.system_files.specs.Steps.{AtShape, Copied, EndsNext, EndsShapes, HasShapeAlone, IsNew, NoCopy, NoRead, NoShapeRoom, Read, TakesNext, TakesShapes, paths_of}
@@ -70,7 +70,7 @@ module _ (per_second : ℕ) (directory : List ℕ) (taken : List ComponentPart) 
         (asked_then old mid new takes.reads h.reads (paths_of directory taken) (model_path directory c ∷ []) takes.asks h.asks);
   }
 
-  pub next_ends : (ended : LoadEnd) (new : FolderView) → EndsNext per_second directory (taken ++ c ∷ rest) (length taken) c ended mid new →
+  pub next_ends : (ended : LoadError) (new : FolderView) → EndsNext per_second directory (taken ++ c ∷ rest) (length taken) c ended mid new →
       EndsShapes per_second directory (taken ++ c ∷ rest) ended old new
   next_ends ended new (NoCopy is new_is) = NoShapeRoom taken shapes (c ∷ rest) refl (subst (TakesShapes per_second directory taken shapes old) (sym new_is) takes) is
   next_ends ended new (NoRead is_new h) = AtShape taken shapes c rest mid refl takes (paths_new is_new) h
@@ -97,7 +97,7 @@ module _ (per_second : ℕ) (directory : List ℕ) (old mid : FolderView) (compo
       (subst (λ (cs : List ComponentPart). TakesNext per_second directory cs (length (take n components)) c shapes shape mid new) (parted components n c below is)
       (subst (λ (m : ℕ). TakesNext per_second directory components m c shapes shape mid new) counted t)))
 
-  pub ends_more : (ended : LoadEnd) (new : FolderView) → EndsNext per_second directory components (length shapes) c ended mid new → EndsShapes per_second directory components ended old new
+  pub ends_more : (ended : LoadError) (new : FolderView) → EndsNext per_second directory components (length shapes) c ended mid new → EndsShapes per_second directory components ended old new
   ends_more ended new t =
       subst (λ (cs : List ComponentPart). EndsShapes per_second directory cs ended old new) (sym (parted components n c below is))
       (next_ends per_second directory (take n components) c (drop (n + 1) components) shapes old mid takes plain_taken own_plain ended new
@@ -115,7 +115,7 @@ as_many per_second directory old mid components n shapes within takes =
     AllZip-long (HasShapeAlone per_second directory takes.reads) (take n components) shapes takes.each ∙ length-take-le n components within
 
 -- memory runs out before the next component
-pub ends_here : (per_second : ℕ) (directory : List ℕ) (components : List ComponentPart) (n : ℕ) (shapes : List Shape) (ended : LoadEnd) (old new : FolderView) →
+pub ends_here : (per_second : ℕ) (directory : List ℕ) (components : List ComponentPart) (n : ℕ) (shapes : List Shape) (ended : LoadError) (old new : FolderView) →
     TakesShapes per_second directory (take n components) shapes old new → ended ≡ end.Memory → EndsShapes per_second directory components ended old new
 ends_here per_second directory components n shapes ended old new takes is =
     NoShapeRoom (take n components) shapes (drop n components) (sym (take-append-drop n components)) takes is

@@ -17,8 +17,8 @@ use Rattle.system_loading.specs.Assembly.{Makes}
 use Rattle.system_loading.specs.Binding.{Binds}
 use Rattle.system_loading.specs.Outlines.{place_in}
 use Rattle.system_files.specs.declared.loaded.Loaded.{Loaded}
-use Rattle.system_files.specs.declared.loading.LoadEnd.{LoadEnd}
-use Rattle.system_files.specs.declared.loading.LoadEnd.TheVariants as end
+use Rattle.system_files.specs.declared.loading.LoadError.{LoadError}
+use Rattle.system_files.specs.declared.loading.LoadError.TheVariants as end
 use Rattle.system_files.specs.declared.named.FileFault.{FileFault}
 use Rattle.system_files.specs.declared.named.FileFault.TheVariants.{Unread, Missing, TooBig, Broken}
 use Rattle.system_files.specs.declared.subject.Subject.TheVariants as what
@@ -90,7 +90,7 @@ FileFailsHeld s plan (Broken rule place ports) path old new =
     LoadsHeld s plan (Fails path (Faulty rule place ports)) old new
 
 -- why nothing is loaded
-abbrev pub EndsHeld : Search → Plan → LoadEnd → FolderView → FolderView → Type 0
+abbrev pub EndsHeld : Search → Plan → LoadError → FolderView → FolderView → Type 0
 EndsHeld s plan (end.File file fault) old new = FileFailsHeld s plan fault file.path old new
 EndsHeld s plan end.Memory old new = ReadsSome s old new
 
@@ -103,7 +103,7 @@ HoldsBack component passing number =
     IsSomeAnd passing (λ (id : CompId). id.0 ≡ number)
 
 -- the end tells the rule at an element of the outline, unless memory runs out
-abbrev pub TellsUnheld : List ℕ → Outline → ℕ → LoadEnd → Type 0
+abbrev pub TellsUnheld : List ℕ → Outline → ℕ → LoadError → Type 0
 TellsUnheld directory o node (end.File file fault) =
     (file.path ≡ told_in directory o node) ×
     (fault ≡ Broken CannotBeHeld (place_in o node) [])

@@ -18,8 +18,8 @@ use Rattle.system_loading.specs.declared.outline.Outline.{Outline}
 use Rattle.system_loading.specs.declared.parameters.GivenBinding.{GivenBinding}
 use Rattle.system_loading.specs.declared.parameters.GivenSet.{GivenSet}
 use Rattle.system_loading.specs.Documents.{IsStructure}
-use Rattle.system_files.specs.declared.loading.LoadEnd.{LoadEnd}
-use Rattle.system_files.specs.declared.loading.LoadEnd.TheVariants as end
+use Rattle.system_files.specs.declared.loading.LoadError.{LoadError}
+use Rattle.system_files.specs.declared.loading.LoadError.TheVariants as end
 use Rattle.system_files.specs.declared.named.FileFault.{FileFault}
 use Rattle.system_files.specs.declared.named.FileFault.TheVariants.{Unread, Missing, TooBig, Broken}
 use Rattle.system_files.specs.declared.subject.Subject.TheVariants as what
@@ -107,7 +107,7 @@ FileFails s (Broken rule place ports) path old new =
     Loads s (Fails path (Faulty rule place ports)) old new
 
 -- why nothing is loaded
-abbrev pub EndsLoading : Search → LoadEnd → FolderView → FolderView → Type 0
+abbrev pub EndsLoading : Search → LoadError → FolderView → FolderView → Type 0
 EndsLoading s (end.File file fault) old new = FileFails s fault file.path old new
 EndsLoading s end.Memory old new = ReadsSome s old new
 

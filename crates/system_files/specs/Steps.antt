@@ -39,8 +39,8 @@ use Rattle.system_loading.specs.Documents.{BreaksStructure, IsStructure, Said}
 use Rattle.system_loading.specs.Outlines.{element_in, lone_outline, place_at, place_in}
 use Rattle.system_loading.specs.Readings.{BreaksAlone, BreaksMapping, BreaksMappingWithin, BreaksModel, BreaksValues, BreaksValuesWithin, IsMapping, IsMappingWithin, IsModel, IsValues, IsValuesWithin, SaysAlone}
 use Rattle.system_files.specs.declared.loaded.Loaded.{Loaded}
-use Rattle.system_files.specs.declared.loading.LoadEnd.{LoadEnd}
-use Rattle.system_files.specs.declared.loading.LoadEnd.TheVariants as end
+use Rattle.system_files.specs.declared.loading.LoadError.{LoadError}
+use Rattle.system_files.specs.declared.loading.LoadError.TheVariants as end
 use Rattle.system_files.specs.declared.named.NamedFile.{NamedFile}
 use Rattle.system_files.specs.declared.named.FileFault.{FileFault}
 use Rattle.system_files.specs.declared.named.FileFault.TheVariants.{Unread, Missing, TooBig, Broken}
@@ -127,25 +127,25 @@ FaultAt Breaks path (Broken rule place ports) old new =
     LeavesFile Breaks path (Faulty rule place ports) old new
 
 -- the end at the file at a path
-abbrev pub EndsAt : (List ℕ → Rule → Place → Type 0) → List ℕ → LoadEnd → FolderView →
+abbrev pub EndsAt : (List ℕ → Rule → Place → Type 0) → List ℕ → LoadError → FolderView →
     FolderView → Type 0
 EndsAt Breaks path (end.File file fault) old new =
     (file.path ≡ path) × FaultAt Breaks path fault old new
 EndsAt Breaks path end.Memory old new = MayAsk path old new
 
 -- the end at the file at a path of which nothing is asked but its bytes
-abbrev pub EndsUnread : List ℕ → LoadEnd → FolderView → FolderView → Type 0
+abbrev pub EndsUnread : List ℕ → LoadError → FolderView → FolderView → Type 0
 EndsUnread path ended old new = EndsAt (λ bytes rule place. ⊥) path ended old new
 
 -- the end at a file that wasn't answered
-abbrev pub unread_end : NamedFile → ReadFault → LoadEnd
+abbrev pub unread_end : NamedFile → ReadFault → LoadError
 unread_end file r.Failed = end.File file Unread
 unread_end file r.Missing = end.File file Missing
 unread_end file (r.TooBig length) = end.File file TooBig
 unread_end file r.Memory = end.Memory
 
 -- the end at a file that breaks a rule by itself
-abbrev pub fault_end : NamedFile → Fault → LoadEnd
+abbrev pub fault_end : NamedFile → Fault → LoadError
 fault_end file (f.Broken rule place) = end.File file (Broken rule place [])
 fault_end file f.Memory = end.Memory
 
@@ -186,7 +186,7 @@ pub record ReachesDocument (directory : List ℕ) (documents : List SystemDocume
   pub asks : Asks reads (document_files directory documents) old new
 
 -- the end tells the rule at an element of a document, unless memory runs out
-abbrev pub TellsNesting : List ℕ → List SystemDocument → elements.Place → NestingRule → LoadEnd →
+abbrev pub TellsNesting : List ℕ → List SystemDocument → elements.Place → NestingRule → LoadError →
     Type 0
 TellsNesting directory documents place rule (end.File file fault) =
     (file.path ≡ told_at directory documents place) ×
@@ -194,7 +194,7 @@ TellsNesting directory documents place rule (end.File file fault) =
 TellsNesting directory documents place rule end.Memory = Unit {0}
 
 -- the end before there is an outline: at a document, where documents stand in one another as they may not, or out of memory
-pub data EndsOutline (subject : Subject) (directory : List ℕ) (ended : LoadEnd)
+pub data EndsOutline (subject : Subject) (directory : List ℕ) (ended : LoadError)
     (old new : FolderView) : Type 0 where
   EndsAtDocument : (documents : List SystemDocument) (path : List ℕ) (s : Setting)
       (mid : FolderView) → subject ≡ what.System →
@@ -237,7 +237,7 @@ pub data TakesNext (per_second : ℕ) (directory : List ℕ) (components : List 
 
 -- the end at the next component
 pub data EndsNext (per_second : ℕ) (directory : List ℕ) (components : List ComponentPart) (n : ℕ)
-    (c : ComponentPart) (ended : LoadEnd) (old new : FolderView) : Type 0 where
+    (c : ComponentPart) (ended : LoadError) (old new : FolderView) : Type 0 where
   NoCopy : ended ≡ end.Memory → new ≡ old →
       EndsNext per_second directory components n c ended old new
   NoRead : IsNew components n c.source →
@@ -253,7 +253,7 @@ pub record TakesShapes (per_second : ℕ) (directory : List ℕ) (components : L
 
 -- the end before each component has its shape: at the description of one, or out of memory
 pub data EndsShapes (per_second : ℕ) (directory : List ℕ) (components : List ComponentPart)
-    (ended : LoadEnd) (old new : FolderView) : Type 0 where
+    (ended : LoadError) (old new : FolderView) : Type 0 where
   AtShape : (taken : List ComponentPart) (shapes : List Shape) (c : ComponentPart)
       (rest : List ComponentPart) (mid : FolderView) → components ≡ taken ++ c ∷ rest →
       TakesShapes per_second directory taken shapes old mid →
@@ -280,14 +280,14 @@ abbrev pub HasDocument : Outline → Type 0
 HasDocument o = All (HasBindingDocument o) o.systems.bindings
 
 -- the end at an element of the outline, which is told in the file at a path
-abbrev pub EndsWithin : (Rule → Place → Type 0) → List ℕ → LoadEnd → Type 0
+abbrev pub EndsWithin : (Rule → Place → Type 0) → List ℕ → LoadError → Type 0
 EndsWithin Breaks path (end.File file fault) =
     (rule : Rule) × ((place : Place) × (file.path ≡ path) ×
     (fault ≡ Broken rule place []) × Breaks rule place)
 EndsWithin Breaks path end.Memory = Unit {0}
 
 -- the end tells the fault in the file at a path, unless memory runs out
-abbrev pub TellsWithin : Fault → List ℕ → LoadEnd → Type 0
+abbrev pub TellsWithin : Fault → List ℕ → LoadError → Type 0
 TellsWithin (f.Broken rule place) path (end.File file fault) =
     (file.path ≡ path) × (fault ≡ Broken rule place [])
 TellsWithin f.Memory path (end.File file fault) = ⊥
@@ -295,7 +295,7 @@ TellsWithin fault path end.Memory = Unit {0}
 
 -- the end at a part of a binding
 abbrev pub EndsPart : (List ℕ → Rule → Place → Type 0) → (Outline → ℕ → Rule → Place → Type 0) →
-    List ℕ → Outline → Owner → Origin → LoadEnd → FolderView → FolderView → Type 0
+    List ℕ → Outline → Owner → Origin → LoadError → FolderView → FolderView → Type 0
 EndsPart Breaks Within directory o owner (File base path) ended old new =
     EndsAt Breaks (part_path directory o owner base path) ended old new
 EndsPart Breaks Within directory o owner (Inline node) ended old new =
@@ -344,7 +344,7 @@ pub record TakesBinding (directory : List ℕ) (o : Outline) (b : Binding) (give
 
 -- the end at a binding: at its values, or at its mapping where the values were taken
 pub data EndsBinding (directory : List ℕ) (o : Outline) (b : Binding)
-    (ended : LoadEnd) (old new : FolderView) : Type 0 where
+    (ended : LoadError) (old new : FolderView) : Type 0 where
   AtValues : EndsPart FailsValues FailsValuesWithin directory o b.owner b.values ended old
       new → EndsBinding directory o b ended old new
   AtMapping : (given : GivenSet) (origin : Origin) (mid : FolderView) →
@@ -360,7 +360,7 @@ pub record TakesBindings (directory : List ℕ) (o : Outline) (bindings : List B
   pub asks : Asks reads (flat_map (binding_files directory o) bindings) old new
 
 -- the end before each binding is taken: at one of them, or out of memory
-pub data EndsBindings (directory : List ℕ) (o : Outline) (ended : LoadEnd)
+pub data EndsBindings (directory : List ℕ) (o : Outline) (ended : LoadError)
     (old new : FolderView) : Type 0 where
   AtBinding : (taken : List Binding) (given : List GivenBinding) (b : Binding) (rest : List Binding)
       (mid : FolderView) → o.systems.bindings ≡ taken ++ b ∷ rest →
@@ -385,7 +385,7 @@ HasBindingPart o binds.Memory = Unit {0}
 
 -- the end at a rule that what bindings give breaks, or that an outline and shapes break together, or out of memory
 pub data EndsTogether (directory : List ℕ) (o : Outline) (shapes : List Shape)
-    (given : List GivenBinding) (ended : LoadEnd) : Type 0 where
+    (given : List GivenBinding) (ended : LoadError) : Type 0 where
   AtParameter : (n : ℕ) (in_mapping : Bool) (rule : Rule) (place : Place) (ports : List PortId)
       (file : NamedFile) → BreaksBindingAlone o shapes given n in_mapping rule place →
       IsBindingToldIn directory o n in_mapping file.path → ports ≡ [] →
@@ -420,7 +420,7 @@ pub record TakesModels (per_second : ℕ) (directory : List ℕ) (o : Outline) (
   pub is : IsLoaded directory o shapes given loaded
 
 -- the end after there is an outline
-pub data EndsModels (per_second : ℕ) (directory : List ℕ) (o : Outline) (ended : LoadEnd)
+pub data EndsModels (per_second : ℕ) (directory : List ℕ) (o : Outline) (ended : LoadError)
     (old new : FolderView) : Type 0 where
   OfShapes : EndsShapes per_second directory o.systems.components ended old new →
       EndsModels per_second directory o ended old new

@@ -5,7 +5,7 @@ ghost use Rattle.system_files.specs.Documents.{told_in};
 ghost use Rattle.system_files.specs.Order.{part_path, part_told};
 ghost use Rattle.system_files.specs.Steps.{EndsBinding, EndsBindings, EndsPart, FailsMapping, FailsMappingWithin, FailsValues, FailsValuesWithin, HasBindingDocument, HasDocument, HasOriginDocument, SaysMapping, SaysMappingWithin, SaysValues, SaysValuesWithin, TakesBinding, TakesBindings, TakesPart, TellsWithin};
 
-use crate::loading::LoadEnd;
+use crate::loading::LoadError;
 use crate::named::NamedFile;
 use crate::paths::{part_path, told_in};
 use crate::reading::{read_names, read_set, refuse};
@@ -23,7 +23,7 @@ pub(crate) fn load_bindings<F: Folder>(
     directory: &str,
     outline: &Outline,
     folder: &mut F,
-) -> Result<Vec<GivenBinding>, LoadEnd>
+) -> Result<Vec<GivenBinding>, LoadError>
     requires { HasDocument outline.now }
     ensures ok { IfOk result (λ given. TakesBindings directory.now outline.now
         outline.now.systems.bindings given.items (F.view folder.old) (F.view folder.new)) }
@@ -32,7 +32,7 @@ pub(crate) fn load_bindings<F: Folder>(
 {
     let bindings = outline.systems.bindings.as_slice();
     let Ok(room) = Vec::with_capacity(alloc, bindings.len()) else {
-        return Err(LoadEnd::Memory);
+        return Err(LoadError::Memory);
     };
     let mut given = room;
     for place in 0..bindings.len() {
@@ -52,7 +52,7 @@ fn load_binding<F: Folder>(
     outline: &Outline,
     binding: &Binding,
     folder: &mut F,
-) -> Result<GivenBinding, LoadEnd>
+) -> Result<GivenBinding, LoadError>
     requires { HasBindingDocument outline.now binding.now }
     ensures ok { IfOk result (λ given. TakesBinding directory.now outline.now binding.now given
         (F.view folder.old) (F.view folder.new)) }
@@ -99,7 +99,7 @@ fn load_values<F: Folder>(
     owner: Owner,
     origin: &Origin,
     folder: &mut F,
-) -> Result<GivenSet, LoadEnd>
+) -> Result<GivenSet, LoadError>
     requires { HasOriginDocument outline.now origin.now }
     ensures ok { IfOk result (λ given. TakesPart SaysValues SaysValuesWithin directory.now
         outline.now owner origin.now given (F.view folder.old) (F.view folder.new)) }
@@ -117,7 +117,7 @@ fn load_values<F: Folder>(
             path.as_str(),
         ) {
             Ok(file) => read_set(alloc, file, folder),
-            Err(_) => Err(LoadEnd::Memory),
+            Err(_) => Err(LoadError::Memory),
         },
         Origin::Inline { node } => match values_within(alloc, outline, *node) {
             Ok(given) => Ok(given),
@@ -134,7 +134,7 @@ fn load_mapping<F: Folder>(
     owner: Owner,
     origin: &Origin,
     folder: &mut F,
-) -> Result<GivenMapping, LoadEnd>
+) -> Result<GivenMapping, LoadError>
     requires { HasOriginDocument outline.now origin.now }
     ensures ok { IfOk result (λ given. TakesPart SaysMapping SaysMappingWithin directory.now
         outline.now owner origin.now given (F.view folder.old) (F.view folder.new)) }
@@ -151,7 +151,7 @@ fn load_mapping<F: Folder>(
             path.as_str(),
         ) {
             Ok(file) => read_names(alloc, file, folder),
-            Err(_) => Err(LoadEnd::Memory),
+            Err(_) => Err(LoadError::Memory),
         },
         Origin::Inline { node } => match mapping_within(alloc, outline, *node) {
             Ok(given) => Ok(given),
@@ -221,11 +221,11 @@ fn refuse_within(
     outline: &Outline,
     number: usize,
     fault: Fault,
-) -> LoadEnd
+) -> LoadError
     ensures { TellsWithin fault (told_in directory.now outline.now number) result }
 {
     match name_told(alloc, directory, outline, number) {
         Ok(file) => refuse(alloc, file, fault),
-        Err(_) => LoadEnd::Memory,
+        Err(_) => LoadError::Memory,
     }
 }

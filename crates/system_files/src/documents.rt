@@ -9,7 +9,7 @@ ghost use Rattle.system_files.specs.Documents.{Adds, Begins, IsGathered, told_at
 ghost use Rattle.system_files.specs.declared.subject.Subject.TheVariants as what;
 ghost use Rattle.system_files.specs.Steps.{AddsDocument, EndsAt, EndsOutline, FailsStructure, GathersFrom, TakesOutline, TellsNesting};
 
-use crate::loading::LoadEnd;
+use crate::loading::LoadError;
 use crate::named::{FileFault, NamedFile};
 use crate::paths::{document_path, told_at};
 use crate::reading::read_structure;
@@ -33,7 +33,7 @@ pub(crate) fn read_outline<F: Folder>(
     alloc: Global,
     directory: &str,
     folder: &mut F,
-) -> Result<Outline, LoadEnd>
+) -> Result<Outline, LoadError>
     ensures ok { IfOk result (λ outline. TakesOutline what.System directory.now outline
         (F.view folder.old) (F.view folder.new)) }
     ensures err { IfErr result (λ end. EndsOutline what.System directory.now end
@@ -61,13 +61,17 @@ pub(crate) fn read_outline<F: Folder>(
                     NestingRule::TooDeep,
                 ));
             }
-            Err(_) => return Err(LoadEnd::Memory),
+            Err(_) => return Err(LoadError::Memory),
         }
     }
 }
 
 // Reads the outermost document.
-fn read_top<F: Folder>(alloc: Global, directory: &str, folder: &mut F) -> Result<Gathering, LoadEnd>
+fn read_top<F: Folder>(
+    alloc: Global,
+    directory: &str,
+    folder: &mut F,
+) -> Result<Gathering, LoadError>
     ensures ok { IfOk result (λ now. GathersFrom directory.now now.documents.items
         (gathered now.nest) (F.view folder.old) (F.view folder.new)) }
     ensures err { IfErr result (λ end. EndsOutline what.System directory.now end
@@ -77,11 +81,11 @@ fn read_top<F: Folder>(alloc: Global, directory: &str, folder: &mut F) -> Result
         Ok(file) => match read_structure(alloc, file, OUTERMOST, folder) {
             Ok(read) => match begin(alloc, read) {
                 Ok(gathering) => Ok(gathering),
-                Err(_) => Err(LoadEnd::Memory),
+                Err(_) => Err(LoadError::Memory),
             },
             Err(end) => Err(end),
         },
-        Err(_) => Err(LoadEnd::Memory),
+        Err(_) => Err(LoadError::Memory),
     }
 }
 
@@ -105,7 +109,7 @@ fn read_next<F: Folder>(
     path: Text,
     setting: Setting,
     folder: &mut F,
-) -> Result<Gathering, LoadEnd>
+) -> Result<Gathering, LoadError>
     requires { IsNext (gathered gathering.nest) (Next.Document path setting) }
     ensures ok { IfOk result (λ now. AddsDocument directory.now path setting
         gathering.documents.items (gathered gathering.nest) now.documents.items
@@ -117,11 +121,11 @@ fn read_next<F: Folder>(
         Ok(file) => match read_structure(alloc, file, setting, folder) {
             Ok(read) => match add(alloc, gathering, path, read) {
                 Ok(more) => Ok(more),
-                Err(_) => Err(LoadEnd::Memory),
+                Err(_) => Err(LoadError::Memory),
             },
             Err(end) => Err(end),
         },
-        Err(_) => Err(LoadEnd::Memory),
+        Err(_) => Err(LoadError::Memory),
     }
 }
 
@@ -147,7 +151,7 @@ fn add(
 }
 
 // The outline, where all documents are read.
-fn finish(alloc: Global, directory: &str, gathering: Gathering) -> Result<Outline, LoadEnd>
+fn finish(alloc: Global, directory: &str, gathering: Gathering) -> Result<Outline, LoadError>
     requires { IsNext (gathered gathering.nest) Next.Nothing }
     ensures ok { IfOk result (λ outline. IsGathered gathering.documents.items
         (gathered gathering.nest) outline) }
@@ -178,12 +182,12 @@ fn refuse_nesting(
     documents: &[SystemDocument],
     place: Place,
     rule: NestingRule,
-) -> LoadEnd
+) -> LoadError
     ensures { TellsNesting directory.now documents.now place rule result }
 {
     match name_told(alloc, directory, documents, place) {
         Ok(file) => match place_at(alloc, documents, place) {
-            Ok(told) => LoadEnd::File {
+            Ok(told) => LoadError::File {
                 file,
                 fault: FileFault::Broken {
                     rule: Rule::Nesting(rule),
@@ -191,9 +195,9 @@ fn refuse_nesting(
                     ports: Items::from_vec(Vec::new(alloc)),
                 },
             },
-            Err(_) => LoadEnd::Memory,
+            Err(_) => LoadError::Memory,
         },
-        Err(_) => LoadEnd::Memory,
+        Err(_) => LoadError::Memory,
     }
 }
 

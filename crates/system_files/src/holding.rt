@@ -11,7 +11,7 @@ ghost use Rattle.system_files.specs.Order.{Found};
 
 use crate::bindings::name_told;
 use crate::loaded::Loaded;
-use crate::loading::{LoadEnd, load_models, load_outline};
+use crate::loading::{LoadError, load_models, load_outline};
 use crate::named::FileFault;
 use crate::subject::Subject;
 use doc_tree::Rule;
@@ -30,7 +30,7 @@ pub fn load_held<F: Folder>(
     directory: &str,
     plan: Plan,
     folder: &mut F,
-) -> Result<Loaded, LoadEnd>
+) -> Result<Loaded, LoadError>
     requires above { 1 ≤ plan.resolution }
     requires within { plan.resolution ≤ 2 ^ 62 }
     ensures ok { IfOk result (λ loaded. LoadsHeld (search_by directory.now plan) plan
@@ -101,12 +101,12 @@ fn earlier(first: Option<usize>, node: usize) -> Option<usize>
 }
 
 // The end at a component that keeps the run from being held.
-fn refuse_unheld(alloc: Global, directory: &str, outline: &Outline, node: usize) -> LoadEnd
+fn refuse_unheld(alloc: Global, directory: &str, outline: &Outline, node: usize) -> LoadError
     ensures { TellsUnheld directory.now outline.now node result }
 {
     match name_told(alloc, directory, outline, node) {
         Ok(file) => match outline.place(alloc, node) {
-            Ok(place) => LoadEnd::File {
+            Ok(place) => LoadError::File {
                 file,
                 fault: FileFault::Broken {
                     rule: Rule::CannotBeHeld,
@@ -114,8 +114,8 @@ fn refuse_unheld(alloc: Global, directory: &str, outline: &Outline, node: usize)
                     ports: Items::from_vec(Vec::new(alloc)),
                 },
             },
-            Err(_) => LoadEnd::Memory,
+            Err(_) => LoadError::Memory,
         },
-        Err(_) => LoadEnd::Memory,
+        Err(_) => LoadError::Memory,
     }
 }

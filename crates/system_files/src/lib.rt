@@ -16,7 +16,7 @@ mod together;
 
 pub use holding::load_held;
 pub use loaded::Loaded;
-pub use loading::{LoadEnd, load};
+pub use loading::{LoadError, load};
 pub use named::{FileFault, NamedFile};
 pub use reading::read_file;
 pub use room::{NoMemory, make_room};

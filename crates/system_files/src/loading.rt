@@ -30,7 +30,7 @@ use value_types::Shape;
 
 /// Why nothing is loaded.
 #[derive(Debug, Drop)]
-pub enum LoadEnd {
+pub enum LoadError {
     /// A file isn't taken.
     File { file: NamedFile, fault: FileFault },
     /// Out of memory.
@@ -48,7 +48,7 @@ pub fn load<F: Folder>(
     directory: &str,
     resolution: u64,
     folder: &mut F,
-) -> Result<Loaded, LoadEnd>
+) -> Result<Loaded, LoadError>
     requires above { 1 ≤ resolution }
     requires within { resolution ≤ 2 ^ 62 }
     ensures ok { IfOk result (λ loaded. Loads (search_of subject directory.now resolution)
@@ -76,7 +76,7 @@ pub(crate) fn load_outline<F: Folder>(
     subject: Subject,
     directory: &str,
     folder: &mut F,
-) -> Result<Outline, LoadEnd>
+) -> Result<Outline, LoadError>
     ensures ok { IfOk result (λ outline. TakesOutline subject directory.now outline
         (F.view folder.old) (F.view folder.new)) }
     ensures err { IfErr result (λ end. EndsOutline subject directory.now end (F.view folder.old)
@@ -85,7 +85,7 @@ pub(crate) fn load_outline<F: Folder>(
     match subject {
         Subject::Fmu => match lone_outline(alloc) {
             Ok(outline) => Ok(outline),
-            Err(_) => Err(LoadEnd::Memory),
+            Err(_) => Err(LoadError::Memory),
         },
         Subject::System => read_outline(alloc, directory, folder),
     }
@@ -98,7 +98,7 @@ pub(crate) fn load_models<F: Folder>(
     resolution: u64,
     outline: &Outline,
     folder: &mut F,
-) -> Result<Loaded, LoadEnd>
+) -> Result<Loaded, LoadError>
     requires above { 1 ≤ resolution }
     requires within { resolution ≤ 2 ^ 62 }
     requires whole { IsWholeTree outline.now.systems }
@@ -136,7 +136,7 @@ fn put_together(
     outline: &Outline,
     shapes: &[Shape],
     given: Vec<GivenBinding>,
-) -> Result<Loaded, LoadEnd>
+) -> Result<Loaded, LoadError>
     requires whole { IsWholeTree outline.now.systems }
     requires shapes { AreShapesOf outline.now.systems shapes.now }
     requires ready { AreReady outline.now shapes.now given.items }
@@ -154,7 +154,7 @@ fn put_together(
                     bound,
                     folders,
                 }),
-                Err(_) => Err(LoadEnd::Memory),
+                Err(_) => Err(LoadError::Memory),
             },
             Err(fault) => Err(refuse_together(alloc, directory, outline, fault)),
         },

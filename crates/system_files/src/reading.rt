@@ -5,11 +5,11 @@ ghost use Rattle.system_loading.specs.Documents.{said_of};
 ghost use Rattle.system_files.specs.Files.{description_path};
 ghost use Rattle.system_files.specs.Steps.{EndsAt, EndsUnread, FailsMapping, FailsModel, FailsStructure, FailsValues, SaysMapping, SaysModel, SaysStructure, SaysValues, TakesFile, fault_end, unread_end};
 
-use crate::loading::LoadEnd;
+use crate::loading::LoadError;
 use crate::named::{FileFault, NamedFile};
 use crate::paths::description_path;
 use crate::room::NoMemory;
-use sim_base::{Folder, Items, MOST_FILE_BYTES, ReadFault, Text};
+use sim_base::{Folder, Items, MOST_FILE_BYTES, ReadFault, SharedBytes, Text};
 use ssd_tree::Setting;
 use std::alloc::Global;
 use system_loading::{
@@ -19,14 +19,18 @@ use system_loading::{
 use value_types::Shape;
 
 /// Reads the bytes of the file at a path, of which there are at most 16 MiB, whatever they say.
-pub fn read_file<F: Folder>(alloc: Global, path: &str, folder: &mut F) -> Result<Vec<u8>, LoadEnd>
-    ensures ok { IfOk result (λ bytes. TakesFile (λ read given. read ≡ given) path.now bytes.items
+pub fn read_file<F: Folder>(
+    alloc: Global,
+    path: &str,
+    folder: &mut F,
+) -> Result<SharedBytes, LoadError>
+    ensures ok { IfOk result (λ bytes. TakesFile (λ read given. read ≡ given) path.now bytes
         (F.view folder.old) (F.view folder.new)) }
     ensures err { IfErr result (λ end. EndsUnread path.now end (F.view folder.old)
         (F.view folder.new)) }
 {
     let Ok(file) = name_file(alloc, path) else {
-        return Err(LoadEnd::Memory);
+        return Err(LoadError::Memory);
     };
     match folder.read(alloc, file.path.as_str(), MOST_FILE_BYTES) {
         Ok(bytes) => Ok(bytes),
@@ -47,14 +51,14 @@ pub(crate) fn read_structure<F: Folder>(
     file: NamedFile,
     setting: Setting,
     folder: &mut F,
-) -> Result<ReadDocument, LoadEnd>
+) -> Result<ReadDocument, LoadError>
     ensures ok { IfOk result (λ read. TakesFile (SaysStructure setting) file.path (said_of read)
         (F.view folder.old) (F.view folder.new)) }
     ensures err { IfErr result (λ end. EndsAt (FailsStructure setting) file.path end
         (F.view folder.old) (F.view folder.new)) }
 {
     match folder.read(alloc, file.path.as_str(), MOST_FILE_BYTES) {
-        Ok(bytes) => match read_system_document(alloc, &bytes, setting) {
+        Ok(bytes) => match read_system_document(alloc, bytes.as_slice(), setting) {
             Ok(read) => Ok(read),
             Err(fault) => Err(refuse(alloc, file, fault)),
         },
@@ -68,14 +72,14 @@ pub(crate) fn read_model<F: Folder>(
     file: NamedFile,
     resolution: u64,
     folder: &mut F,
-) -> Result<Shape, LoadEnd>
+) -> Result<Shape, LoadError>
     ensures ok { IfOk result (λ shape. TakesFile (SaysModel resolution) file.path shape
         (F.view folder.old) (F.view folder.new)) }
     ensures err { IfErr result (λ end. EndsAt (FailsModel resolution) file.path end
         (F.view folder.old) (F.view folder.new)) }
 {
     match folder.read(alloc, file.path.as_str(), MOST_FILE_BYTES) {
-        Ok(bytes) => match read_shape(alloc, &bytes, resolution) {
+        Ok(bytes) => match read_shape(alloc, bytes.as_slice(), resolution) {
             Ok(shape) => Ok(shape),
             Err(fault) => Err(refuse(alloc, file, fault)),
         },
@@ -88,7 +92,7 @@ pub(crate) fn read_set<F: Folder>(
     alloc: Global,
     file: NamedFile,
     folder: &mut F,
-) -> Result<GivenSet, LoadEnd>
+) -> Result<GivenSet, LoadError>
     ensures ok { IfOk result (λ given. TakesFile SaysValues file.path given
         (F.view folder.old) (F.view folder.new)) }
     ensures range { IfOk result (λ given. AreInRange given.set) }
@@ -96,7 +100,7 @@ pub(crate) fn read_set<F: Folder>(
         (F.view folder.new)) }
 {
     match folder.read(alloc, file.path.as_str(), MOST_FILE_BYTES) {
-        Ok(bytes) => match read_values(alloc, &bytes) {
+        Ok(bytes) => match read_values(alloc, bytes.as_slice()) {
             Ok(given) => Ok(given),
             Err(fault) => Err(refuse(alloc, file, fault)),
         },
@@ -109,14 +113,14 @@ pub(crate) fn read_names<F: Folder>(
     alloc: Global,
     file: NamedFile,
     folder: &mut F,
-) -> Result<GivenMapping, LoadEnd>
+) -> Result<GivenMapping, LoadError>
     ensures ok { IfOk result (λ given. TakesFile SaysMapping file.path given
         (F.view folder.old) (F.view folder.new)) }
     ensures err { IfErr result (λ end. EndsAt FailsMapping file.path end (F.view folder.old)
         (F.view folder.new)) }
 {
     match folder.read(alloc, file.path.as_str(), MOST_FILE_BYTES) {
-        Ok(bytes) => match read_mapping(alloc, &bytes) {
+        Ok(bytes) => match read_mapping(alloc, bytes.as_slice()) {
             Ok(given) => Ok(given),
             Err(fault) => Err(refuse(alloc, file, fault)),
         },
@@ -132,32 +136,32 @@ pub(crate) fn name_description(alloc: Global, folder: &str) -> Result<NamedFile,
 }
 
 // The end at a file that wasn't answered.
-fn leave_unread(file: NamedFile, fault: ReadFault) -> LoadEnd
+fn leave_unread(file: NamedFile, fault: ReadFault) -> LoadError
     ensures { result ≡ unread_end file fault }
 {
     match fault {
-        ReadFault::Failed => LoadEnd::File {
+        ReadFault::Failed => LoadError::File {
             file,
             fault: FileFault::Unread,
         },
-        ReadFault::Missing => LoadEnd::File {
+        ReadFault::Missing => LoadError::File {
             file,
             fault: FileFault::Missing,
         },
-        ReadFault::TooBig { .. } => LoadEnd::File {
+        ReadFault::TooBig { .. } => LoadError::File {
             file,
             fault: FileFault::TooBig,
         },
-        ReadFault::Memory => LoadEnd::Memory,
+        ReadFault::Memory => LoadError::Memory,
     }
 }
 
 /// The end at a file that breaks a rule by itself.
-pub(crate) fn refuse(alloc: Global, file: NamedFile, fault: Fault) -> LoadEnd
+pub(crate) fn refuse(alloc: Global, file: NamedFile, fault: Fault) -> LoadError
     ensures { result ≡ fault_end file fault }
 {
     match fault {
-        Fault::Broken { rule, place } => LoadEnd::File {
+        Fault::Broken { rule, place } => LoadError::File {
             file,
             fault: FileFault::Broken {
                 rule,
@@ -165,6 +169,6 @@ pub(crate) fn refuse(alloc: Global, file: NamedFile, fault: Fault) -> LoadEnd
                 ports: Items::from_vec(Vec::new(alloc)),
             },
         },
-        Fault::Memory => LoadEnd::Memory,
+        Fault::Memory => LoadError::Memory,
     }
 }

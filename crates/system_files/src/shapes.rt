@@ -8,7 +8,7 @@ ghost use Rattle.ssd_tree.specs.declared.tree.ComponentPart.{ComponentPart};
 ghost use Rattle.system_files.specs.Order.{model_path};
 ghost use Rattle.system_files.specs.Steps.{EndsAt, EndsNext, EndsShapes, FailsModel, IsNew, SaysModel, TakesFile, TakesNext, TakesShapes};
 
-use crate::loading::LoadEnd;
+use crate::loading::LoadError;
 use crate::named::NamedFile;
 use crate::paths::folder_of;
 use crate::reading::{name_description, read_model};
@@ -26,7 +26,7 @@ pub(crate) fn load_shapes<F: Folder>(
     components: &[ComponentPart],
     resolution: u64,
     folder: &mut F,
-) -> Result<Vec<Shape>, LoadEnd>
+) -> Result<Vec<Shape>, LoadError>
     requires { All (λ (c : ComponentPart). IsPlain c.source) components.now }
     ensures ok { IfOk result (λ shapes. TakesShapes resolution directory.now components.now
         shapes.items (F.view folder.old) (F.view folder.new)) }
@@ -34,7 +34,7 @@ pub(crate) fn load_shapes<F: Folder>(
         (F.view folder.old) (F.view folder.new)) }
 {
     let Ok(room) = Vec::with_capacity(alloc, components.len()) else {
-        return Err(LoadEnd::Memory);
+        return Err(LoadError::Memory);
     };
     let mut shapes = room;
     let mut known = NamePlaces::new(alloc);
@@ -47,7 +47,7 @@ pub(crate) fn load_shapes<F: Folder>(
             Err(end) => return Err(end),
         }
         let Ok(()) = known.put(Some(component.source.as_str()), place) else {
-            return Err(LoadEnd::Memory);
+            return Err(LoadError::Memory);
         };
     }
     Ok(shapes)
@@ -62,7 +62,7 @@ fn next_shape<F: Folder>(
     shapes: &[Shape],
     resolution: u64,
     folder: &mut F,
-) -> Result<Shape, LoadEnd>
+) -> Result<Shape, LoadError>
     ensures ok { (components : List ComponentPart) → IsTableBelow (source_at components) (length shapes.now) (found_name known.now) →
         IfOk result (λ shape. TakesNext resolution directory.now components (length shapes.now) component.now shapes.now shape (F.view folder.old) (F.view folder.new)) }
     ensures err { (components : List ComponentPart) → IsTableBelow (source_at components) (length shapes.now) (found_name known.now) →
@@ -84,13 +84,13 @@ fn known_shape<'a>(known: &NamePlaces<'_>, source: &str, shapes: &'a [Shape]) ->
     shapes.get(known.find(source)?)
 }
 
-fn copy_shape(alloc: Global, shape: &Shape) -> Result<Shape, LoadEnd>
+fn copy_shape(alloc: Global, shape: &Shape) -> Result<Shape, LoadError>
     ensures ok { IfOk result (λ copied. copied ≡ shape.now) }
-    ensures err { IfErr result (λ end. end ≡ LoadEnd.Memory) }
+    ensures err { IfErr result (λ end. end ≡ LoadError.Memory) }
 {
     match shape.copy(alloc) {
         Ok(shape) => Ok(shape),
-        Err(_) => Err(LoadEnd::Memory),
+        Err(_) => Err(LoadError::Memory),
     }
 }
 
@@ -101,7 +101,7 @@ fn load_shape<F: Folder>(
     component: &ComponentPart,
     resolution: u64,
     folder: &mut F,
-) -> Result<Shape, LoadEnd>
+) -> Result<Shape, LoadError>
     ensures ok { IfOk result (λ shape. TakesFile (SaysModel resolution)
         (model_path directory.now component.now) shape (F.view folder.old) (F.view folder.new)) }
     ensures err { IfErr result (λ end. EndsAt (FailsModel resolution)
@@ -109,7 +109,7 @@ fn load_shape<F: Folder>(
 {
     match name_model(alloc, directory, component) {
         Ok(file) => read_model(alloc, file, resolution, folder),
-        Err(_) => Err(LoadEnd::Memory),
+        Err(_) => Err(LoadError::Memory),
     }
 }
 

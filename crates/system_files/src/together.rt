@@ -10,7 +10,7 @@ ghost use Rattle.system_files.specs.Order.{IsBindingToldIn, origin_of};
 ghost use Rattle.system_files.specs.Steps.{EndsTogether, HasBindingPart};
 
 use crate::bindings::{name_part_told, name_told};
-use crate::loading::LoadEnd;
+use crate::loading::LoadError;
 use crate::named::{FileFault, NamedFile};
 use crate::room::NoMemory;
 use sim_base::Items;
@@ -23,7 +23,7 @@ pub(crate) fn refuse_together(
     directory: &str,
     outline: &Outline,
     fault: AssemblyFault,
-) -> LoadEnd
+) -> LoadError
     ensures { (shapes : List Shape) (given : List GivenBinding) (bound : Bound) →
         BindsAlone outline.now shapes given bound → TellsTogether outline.now shapes fault →
         EndsTogether directory.now outline.now shapes given result }
@@ -32,16 +32,16 @@ pub(crate) fn refuse_together(
         AssemblyFault::Broken { rule, node, ports } => {
             match name_told(alloc, directory, outline, node) {
                 Ok(file) => match outline.place(alloc, node) {
-                    Ok(place) => LoadEnd::File {
+                    Ok(place) => LoadError::File {
                         file,
                         fault: FileFault::Broken { rule, place, ports },
                     },
-                    Err(_) => LoadEnd::Memory,
+                    Err(_) => LoadError::Memory,
                 },
-                Err(_) => LoadEnd::Memory,
+                Err(_) => LoadError::Memory,
             }
         }
-        AssemblyFault::Memory => LoadEnd::Memory,
+        AssemblyFault::Memory => LoadError::Memory,
     }
 }
 
@@ -51,7 +51,7 @@ pub(crate) fn refuse_binding(
     directory: &str,
     outline: &Outline,
     fault: BindingFault,
-) -> LoadEnd
+) -> LoadError
     requires { HasBindingPart outline.now fault }
     ensures { (shapes : List Shape) (given : List GivenBinding) →
         TellsBinding outline.now shapes given fault →
@@ -64,7 +64,7 @@ pub(crate) fn refuse_binding(
             rule,
             place,
         } => match name_binding(alloc, directory, outline, binding, in_mapping) {
-            Ok(file) => LoadEnd::File {
+            Ok(file) => LoadError::File {
                 file,
                 fault: FileFault::Broken {
                     rule,
@@ -72,9 +72,9 @@ pub(crate) fn refuse_binding(
                     ports: Items::from_vec(Vec::new(alloc)),
                 },
             },
-            Err(_) => LoadEnd::Memory,
+            Err(_) => LoadError::Memory,
         },
-        BindingFault::Memory => LoadEnd::Memory,
+        BindingFault::Memory => LoadError::Memory,
     }
 }
 

@@ -10,7 +10,7 @@ use Rattle.value_types.specs.declared.shape.Shape.{Shape}
 use Rattle.value_types.specs.declared.shape.Variable.{Variable}
 use Rattle.system_model.specs.declared.system.Component.{Component}
 use Rattle.system_model.specs.declared.system.Port.{Port}
-use Rattle.system_model.specs.Ports.{numbers, source_of, is_output_role}
+use Rattle.system_model.specs.Ports.{port_numbers, source_of, is_output_role}
 use Rattle.system_model.specs.Needs.{Needs, ByFeed, ByClock, ByDependency, NeedsInitially, InitiallyByFeed, InitiallyByDependency, DependsOn, is_unclocked_at}
 use Rattle.system_model.specs.Shapes.{IsSoundShape, HasFittingStart, HasNames, NamesClocks}
 use Rattle.system_model.specs.Ports.{feed_of}
@@ -137,16 +137,16 @@ depends_none b p q d = at_port (λ port. (c : Component) → slice_get sampling_
     some_of None h = absurd h
     some_of (Some v) h = (v, h)
 
-no_clocks : (q : ℕ) → Contains (numbers []) q → ⊥
+no_clocks : (q : ℕ) → Contains (port_numbers []) q → ⊥
 no_clocks q m = let less : m.0 < 0 = m.1 in omega (arith, less)
 
 -- what each port needs: by its feed and its Clocks
 abbrev NeedsAlone : Port → (ℕ → Type 0) → Type 0
-NeedsAlone port P = ((q : ℕ) → source_of port.role ≡ Some q → P q) × ((q : ℕ) → Contains (numbers port.clocks) q → P q)
+NeedsAlone port P = ((q : ℕ) → source_of port.role ≡ Some q → P q) × ((q : ℕ) → Contains (port_numbers port.clocks) q → P q)
 
 needs_by : (p : ℕ) (port : Port) → slice_get sampling_system.ports p ≡ Some port → (P : ℕ → Type 0) → NeedsAlone port P → (q : ℕ) → Needs sampling_system p q → P q
 needs_by p port is P h q (ByFeed other at from) = h.0 q (ap (λ (x : Port). source_of x.role) (same_Some _ _ (sym is ∙ at)) ∙ from)
-needs_by p port is P h q (ByClock other at among) = h.1 q (subst (λ (x : Port). Contains (numbers x.clocks) q) (sym (same_Some _ _ (sym is ∙ at))) among)
+needs_by p port is P h q (ByClock other at among) = h.1 q (subst (λ (x : Port). Contains (port_numbers x.clocks) q) (sym (same_Some _ _ (sym is ∙ at))) among)
 needs_by p port is P h q (ByDependency d events) = absurd (depends_none false p q d)
 
 initially_by : (p : ℕ) (port : Port) → slice_get sampling_system.ports p ≡ Some port → (P : ℕ → Type 0) → ((q : ℕ) → source_of port.role ≡ Some q → P q) → (q : ℕ) → NeedsInitially sampling_system p q → P q

@@ -60,16 +60,16 @@ pub record InBlock (i : ℕ) (vs : List Variable) (label : Label) : Type 0 where
   pub there : slice_get vs place ≡ Some variable
   pub is : IsLabel i variable label
 
-block_found : (i : ℕ) (vs : List Variable) (behind : List Label) (p : ℕ) (label : Label) {P : Type 0} → slice_get (filter_map (label_at i) vs ++ behind) p ≡ Some label →
-    (InBlock i vs label → P) → ((q : ℕ) → slice_get behind q ≡ Some label → P) → P
-block_found i [] behind p label {P} is inside later = later p is
-block_found i (v ∷ vs) behind p label {P} is inside later =
-    (elim (label_at i v) as (λ o. label_at i v ≡ o → slice_get (cons_option o (filter_map (label_at i) vs) ++ behind) p ≡ Some label → P) [
-      | None ↦ λ e at. block_found i vs behind p label at (λ b. inside (record { place = suc b.place; variable = b.variable; there = b.there; is = b.is })) later
-      | Some first ↦ λ e. at_first first e p (λ q at. block_found i vs behind q label at (λ b. inside (record { place = suc b.place; variable = b.variable; there = b.there; is = b.is })) later)
+block_found : (i : ℕ) (vs : List Variable) (beyond : List Label) (p : ℕ) (label : Label) {P : Type 0} → slice_get (filter_map (label_at i) vs ++ beyond) p ≡ Some label →
+    (InBlock i vs label → P) → ((q : ℕ) → slice_get beyond q ≡ Some label → P) → P
+block_found i [] beyond p label {P} is inside later = later p is
+block_found i (v ∷ vs) beyond p label {P} is inside later =
+    (elim (label_at i v) as (λ o. label_at i v ≡ o → slice_get (cons_option o (filter_map (label_at i) vs) ++ beyond) p ≡ Some label → P) [
+      | None ↦ λ e at. block_found i vs beyond p label at (λ b. inside (record { place = suc b.place; variable = b.variable; there = b.there; is = b.is })) later
+      | Some first ↦ λ e. at_first first e p (λ q at. block_found i vs beyond q label at (λ b. inside (record { place = suc b.place; variable = b.variable; there = b.there; is = b.is })) later)
     ]) refl is
   where
-    at_first : (first : Label) → label_at i v ≡ Some first → (k : ℕ) → ((q : ℕ) → slice_get (filter_map (label_at i) vs ++ behind) q ≡ Some label → P) → slice_get (first ∷ filter_map (label_at i) vs ++ behind) k ≡ Some label → P
+    at_first : (first : Label) → label_at i v ≡ Some first → (k : ℕ) → ((q : ℕ) → slice_get (filter_map (label_at i) vs ++ beyond) q ≡ Some label → P) → slice_get (first ∷ filter_map (label_at i) vs ++ beyond) k ≡ Some label → P
     at_first first e zero more at = inside (record { place = 0; variable = v; there = refl; is = labelled i v label (e ∙ at) })
     at_first first e (suc k) more at = more k at
 
@@ -102,18 +102,18 @@ apart_cons a xs new apart (suc p) zero x y at_x at_y alike =
 apart_cons a xs new apart (suc p) (suc q) x y at_x at_y alike = ap suc (apart p q x y at_x at_y alike)
 
 -- the labels of one component, before those of components with greater numbers
-block_apart : (i : ℕ) (vs : List Variable) (behind : List Label) → IsDistinct nat_eq (map (λ (v : Variable). v.reference) vs) → ((q : ℕ) (b : Label) → slice_get behind q ≡ Some b → i < b.component) → AreApart behind →
-    AreApart (filter_map (label_at i) vs ++ behind)
-block_apart i [] behind distinct after apart = apart
-block_apart i (v ∷ vs) behind distinct after apart =
-    let more : AreApart (filter_map (label_at i) vs ++ behind) = block_apart i vs behind (IsDistinct-tail nat_eq v.reference (map (λ (x : Variable). x.reference) vs) distinct) after apart in
-    (elim (label_at i v) as (λ o. label_at i v ≡ o → AreApart (cons_option o (filter_map (label_at i) vs) ++ behind)) [
+block_apart : (i : ℕ) (vs : List Variable) (beyond : List Label) → IsDistinct nat_eq (map (λ (v : Variable). v.reference) vs) → ((q : ℕ) (b : Label) → slice_get beyond q ≡ Some b → i < b.component) → AreApart beyond →
+    AreApart (filter_map (label_at i) vs ++ beyond)
+block_apart i [] beyond distinct after apart = apart
+block_apart i (v ∷ vs) beyond distinct after apart =
+    let more : AreApart (filter_map (label_at i) vs ++ beyond) = block_apart i vs beyond (IsDistinct-tail nat_eq v.reference (map (λ (x : Variable). x.reference) vs) distinct) after apart in
+    (elim (label_at i v) as (λ o. label_at i v ≡ o → AreApart (cons_option o (filter_map (label_at i) vs) ++ beyond)) [
       | None ↦ λ e. more
-      | Some a ↦ λ e. let is : IsLabel i v a = labelled i v a e in apart_cons a (filter_map (label_at i) vs ++ behind) (λ q b at alike.
-          block_found i vs behind q b at
+      | Some a ↦ λ e. let is : IsLabel i v a = labelled i v a e in apart_cons a (filter_map (label_at i) vs ++ beyond) (λ q b at alike.
+          block_found i vs beyond q b at
           (λ found. absent_from (λ (x : Variable). x.reference) v.reference vs (IsDistinct-head nat_eq v.reference (map (λ (x : Variable). x.reference) vs) distinct) found.place found.variable found.there
           (sym is.reference ∙ alike.reference ∙ found.is.reference))
-          (λ k behind_it. let same : i ≡ b.component = sym is.component ∙ alike.component in let less : i < b.component = after k b behind_it in omega (arith, same, less))) more
+          (λ k after_it. let same : i ≡ b.component = sym is.component ∙ alike.component in let less : i < b.component = after k b after_it in omega (arith, same, less))) more
     ]) refl
 
 labels_after : (i : ℕ) (cs : List Component) (q : ℕ) (b : Label) → slice_get (labels_from i cs) q ≡ Some b → i ≤ b.component

@@ -87,10 +87,10 @@ filtered_partner {X} {Y} R test (z ∷ zs) ys zero x zip is passes =
     first (u ∷ us) zipped = record { place = 0; other = u; is = refl; holds = subst (λ w. R w u) (same_Some _ _ is) zipped.0 }
 filtered_partner {X} {Y} R test (z ∷ zs) ys (suc k) x zip is passes =
     (elim (test z) as (λ b. test z ≡ b → AllZip R (cond b (z ∷ filter test zs) (filter test zs)) ys → Partner R x ys) [
-      | true ↦ λ t. behind (λ us zipped. filtered_partner R test zs us k x zipped is passes) ys
+      | true ↦ λ t. after (λ us zipped. filtered_partner R test zs us k x zipped is passes) ys
       | false ↦ λ t zipped. filtered_partner R test zs ys k x zipped is passes
     ]) refl zip
   where
-    behind : ((us : List Y) → AllZip R (filter test zs) us → Partner R x us) → (us : List Y) → AllZip R (z ∷ filter test zs) us → Partner R x us
-    behind more [] zipped = absurd zipped
-    behind more (u ∷ us) zipped = later R x u us (more us zipped.1)
+    after : ((us : List Y) → AllZip R (filter test zs) us → Partner R x us) → (us : List Y) → AllZip R (z ∷ filter test zs) us → Partner R x us
+    after more [] zipped = absurd zipped
+    after more (u ∷ us) zipped = later R x u us (more us zipped.1)

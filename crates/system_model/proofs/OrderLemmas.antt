@@ -30,15 +30,15 @@ abbrev tail_of : List ℕ → List ℕ
 tail_of [] = []
 tail_of (x ∷ xs) = xs
 
-stands : (NeedsOf : ℕ → ℕ → Type 0) (taken rest before behind : List ℕ) (p : ℕ) → IsOrderFrom NeedsOf taken rest → rest ≡ before ++ p ∷ behind → Stands NeedsOf (taken ++ before) p
-stands NeedsOf taken [] [] behind p from split = absurd (cc)
-stands NeedsOf taken [] (x ∷ before) behind p from split = absurd (cc)
-stands NeedsOf taken (y ∷ rest) [] behind p from split =
+stands : (NeedsOf : ℕ → ℕ → Type 0) (taken rest before later : List ℕ) (p : ℕ) → IsOrderFrom NeedsOf taken rest → rest ≡ before ++ p ∷ later → Stands NeedsOf (taken ++ before) p
+stands NeedsOf taken [] [] later p from split = absurd (cc)
+stands NeedsOf taken [] (x ∷ before) later p from split = absurd (cc)
+stands NeedsOf taken (y ∷ rest) [] later p from split =
     let here : Stands NeedsOf taken y = record { once = from.0; after = from.1 } in
     let same : y ≡ p = ap (head_of y) split in
     rw append-nil (subst (Stands NeedsOf taken) same here)
-stands NeedsOf taken (y ∷ rest) (x ∷ before) behind p from split =
-    let more : Stands NeedsOf ((taken ++ y ∷ []) ++ before) p = stands NeedsOf (taken ++ y ∷ []) rest before behind p from.2 (ap tail_of split) in
+stands NeedsOf taken (y ∷ rest) (x ∷ before) later p from split =
+    let more : Stands NeedsOf ((taken ++ y ∷ []) ++ before) p = stands NeedsOf (taken ++ y ∷ []) rest before later p from.2 (ap tail_of split) in
     let same : (taken ++ y ∷ []) ++ before ≡ taken ++ (x ∷ before) = append_assoc taken (y ∷ []) before ∙ ap (λ z. taken ++ (z ∷ before)) (ap (head_of y) split) in
     subst (λ xs. Stands NeedsOf xs p) same more
 
@@ -47,29 +47,29 @@ pub order_by : (IsAmong : ℕ → Type 0) (NeedsOf : ℕ → ℕ → Type 0) (or
 order_by IsAmong NeedsOf order each only from = record {
   each = each;
   only = only;
-  once = λ before behind p split. (stands NeedsOf [] order before behind p from split).once;
-  after = λ before behind p q split needs. (stands NeedsOf [] order before behind p from split).after q needs;
+  once = λ before later p split. (stands NeedsOf [] order before later p from split).once;
+  after = λ before later p q split needs. (stands NeedsOf [] order before later p from split).after q needs;
 }
 
 -- ---- the order by number
 
-place_in_range : (n : ℕ) (before behind : List ℕ) (p : ℕ) → range_with_len 0 n ≡ before ++ p ∷ behind → p ≡ length before
-place_in_range n before behind p split =
-    let long : n ≡ length before + suc (length behind) = sym (length-range_with_len 0 n) ∙ ap length split ∙ length-append before (p ∷ behind) in
-    let seam : get_or (before ++ p ∷ behind) (length before) 0 ≡ p = get_or-append_seam before p behind 0 in
+place_in_range : (n : ℕ) (before later : List ℕ) (p : ℕ) → range_with_len 0 n ≡ before ++ p ∷ later → p ≡ length before
+place_in_range n before later p split =
+    let long : n ≡ length before + suc (length later) = sym (length-range_with_len 0 n) ∙ ap length split ∙ length-append before (p ∷ later) in
+    let seam : get_or (before ++ p ∷ later) (length before) 0 ≡ p = get_or-append_seam before p later 0 in
     let at : get_or (range_with_len 0 n) (length before) 0 ≡ 0 + length before = get_or-range_with_len 0 n (length before) 0 (omega (arith, long)) in
-    let same : get_or (range_with_len 0 n) (length before) 0 ≡ get_or (before ++ p ∷ behind) (length before) 0 = ap (λ xs. get_or xs (length before) 0) split in
+    let same : get_or (range_with_len 0 n) (length before) 0 ≡ get_or (before ++ p ∷ later) (length before) 0 = ap (λ xs. get_or xs (length before) 0) split in
     omega (arith, seam, at, same)
 
-once_in_range : (n : ℕ) (before behind : List ℕ) (p : ℕ) → range_with_len 0 n ≡ before ++ p ∷ behind → Contains before p → ⊥
-once_in_range n before behind p split among =
-    let place : p ≡ length before = place_in_range n before behind p split in
-    let long : n ≡ length before + suc (length behind) = sym (length-range_with_len 0 n) ∙ ap length split ∙ length-append before (p ∷ behind) in
+once_in_range : (n : ℕ) (before later : List ℕ) (p : ℕ) → range_with_len 0 n ≡ before ++ p ∷ later → Contains before p → ⊥
+once_in_range n before later p split among =
+    let place : p ≡ length before = place_in_range n before later p split in
+    let long : n ≡ length before + suc (length later) = sym (length-range_with_len 0 n) ∙ ap length split ∙ length-append before (p ∷ later) in
     let within : among.0 < length before = among.1 in
     let is : get_or before among.0 p ≡ p = among.2 in
-    let left : get_or (before ++ p ∷ behind) among.0 p ≡ get_or before among.0 p = get_or-append before (p ∷ behind) p among.0 within in
+    let left : get_or (before ++ p ∷ later) among.0 p ≡ get_or before among.0 p = get_or-append before (p ∷ later) p among.0 within in
     let at : get_or (range_with_len 0 n) among.0 p ≡ 0 + among.0 = get_or-range_with_len 0 n among.0 p (omega (arith, long, within)) in
-    let same : get_or (range_with_len 0 n) among.0 p ≡ get_or (before ++ p ∷ behind) among.0 p = ap (λ xs. get_or xs among.0 p) split in
+    let same : get_or (range_with_len 0 n) among.0 p ≡ get_or (before ++ p ∷ later) among.0 p = ap (λ xs. get_or xs among.0 p) split in
     omega (arith, place, within, is, left, at, same)
 
 -- where nobody needs anything, the numbers below n are an order of them
@@ -78,8 +78,8 @@ pub order_by_number : (n : ℕ) (IsAmong : ℕ → Type 0) (NeedsOf : ℕ → �
 order_by_number n IsAmong NeedsOf order is below among none = record {
   each = λ p m. subst (λ xs. Contains xs p) (sym is) (here p (below p m));
   only = λ p m. among p (within p (subst (λ xs. Contains xs p) is m));
-  once = λ before behind p split. once_in_range n before behind p (sym is ∙ split);
-  after = λ before behind p q split needs. absurd (none p q needs);
+  once = λ before later p split. once_in_range n before later p (sym is ∙ split);
+  after = λ before later p q split needs. absurd (none p q needs);
 }
   where
     here : (p : ℕ) → p < n → Contains (range_with_len 0 n) p

@@ -18,7 +18,7 @@ use Rattle.system_model.specs.declared.system.Role.{Role}
 use Rattle.system_model.specs.declared.system.Role.TheVariants.{Output}
 use Rattle.system_model.specs.declared.system.Port.{Port}
 use Rattle.system_model.specs.declared.system.System.{System}
-use Rattle.system_model.specs.Ports.{feed_of, numbers, label_of, labels_from, source_of, is_clock_role}
+use Rattle.system_model.specs.Ports.{feed_of, port_numbers, label_of, labels_from, source_of, is_clock_role}
 use Rattle.system_model.specs.Needs.{Needs, ByFeed, ByClock, ByDependency, NeedsInitially, InitiallyByFeed, InitiallyByDependency, DependsOn, is_unclocked, is_unclocked_at}
 use Rattle.system_model.specs.Shapes.{IsSoundShape, NamesClocks}
 use Rattle.system_model.specs.Sound.{IsSound, IsPort, IsRole, IsUnder, HasSoundComponents, HasSoundPorts}
@@ -138,7 +138,7 @@ no_event system is i c of events = true_false (sym events ∙ (shape_at system i
 needs_none : (system : System) → IsOfOutputs system → (p q : ℕ) → Needs system p q → ⊥
 needs_none system is p q (ByFeed port at from) = no_feed port.role q (plain system is p port at).0 from
 needs_none system is p q (ByClock port at among) =
-    let m : Contains (numbers []) q = subst (λ (xs : List PortId). Contains (numbers xs) q) (plain system is p port at).1 among in
+    let m : Contains (port_numbers []) q = subst (λ (xs : List PortId). Contains (port_numbers xs) q) (plain system is p port at).1 among in
     let less : m.0 < 0 = m.1 in
     absurd (omega (arith, less))
 needs_none system is p q (ByDependency d events) = no_event system is d.port.component.0 d.component d.of events
@@ -198,7 +198,7 @@ outputs_sound system is = record {
   components = sound_components system is;
   ports = sound_ports system is;
   feeds = λ p port feed at from. absurd (none_some feed (sym (ap feed_of (plain system is p port at).0) ∙ from));
-  instant_order = order_by_number (length system.ports) (λ p. p < length system.ports) (Needs system) (numbers system.instant_order) is.instant_order (λ p h. h) (λ p h. h) (needs_none system is);
-  initial_order = order_by_number (length system.ports) (λ p. is_unclocked_at system.ports p ≡ true) (NeedsInitially system) (numbers system.initial_order) is.initial_order
+  instant_order = order_by_number (length system.ports) (λ p. p < length system.ports) (Needs system) (port_numbers system.instant_order) is.instant_order (λ p h. h) (λ p h. h) (needs_none system is);
+  initial_order = order_by_number (length system.ports) (λ p. is_unclocked_at system.ports p ≡ true) (NeedsInitially system) (port_numbers system.initial_order) is.initial_order
       (unclocked_within system.ports) (within_unclocked system is) (needs_none_initially system is);
 }

@@ -23,7 +23,7 @@ use Rattle.system_model.specs.declared.system.Role.{Role}
 use Rattle.system_model.specs.declared.system.Role.TheVariants.{Input, Output, ClockInput, ClockOutput, TimeClock}
 use Rattle.system_model.specs.declared.system.Port.{Port}
 use Rattle.system_model.specs.declared.system.System.{System}
-use Rattle.system_model.specs.Ports.{label_of, labels_from, numbers, is_output_role, is_clock_role, feed_of, source_of}
+use Rattle.system_model.specs.Ports.{label_of, labels_from, port_numbers, is_output_role, is_clock_role, feed_of, source_of}
 use Rattle.system_model.specs.Shapes.{IsSoundShape, IsSoundClock, NamesClocks}
 use Rattle.system_model.specs.Sound.{IsSound, IsPort, IsRole, IsFeed, IsUnder}
 use Rattle.system_model.proofs.Lists.{all_at, at_contains, contains_at, found_under, filtered_partner, true_false}
@@ -233,9 +233,9 @@ clock_beside system i k (r ∷ rs) [] c zip is = absurd zip
 clock_beside system i zero (r ∷ rs) (x ∷ xs) c zip is = (r, refl, subst (IsUnder system i r) (same_Some _ _ is) zip.0)
 clock_beside system i (suc k) (r ∷ rs) (x ∷ xs) c zip is = clock_beside system i k rs xs c zip.1 is
 
-pub clock_at : (system : System) → IsSound system → (p : ℕ) (port : Port) (placed : Placed system p port) (q : ℕ) → Contains (numbers port.clocks) q → ClockOf system port placed.variable q
+pub clock_at : (system : System) → IsSound system → (p : ℕ) (port : Port) (placed : Placed system p port) (q : ℕ) → Contains (port_numbers port.clocks) q → ClockOf system port placed.variable q
 clock_at system sound p port placed q among =
-    let at = contains_at (numbers port.clocks) q among in
+    let at = contains_at (port_numbers port.clocks) q among in
     numbered at.0 (sym (slice_get-map (λ (x : PortId). x.0) port.clocks at.0) ∙ at.1)
   where
     from_port : (r k : ℕ) → slice_get placed.variable.clocks k ≡ Some r → IsSomeAnd (slice_get system.ports q) (λ (other : Port). (other.component.0 ≡ port.component.0) × (other.reference ≡ r)) → ClockOf system port placed.variable q

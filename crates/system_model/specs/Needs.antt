@@ -7,7 +7,7 @@ use Rattle.value_types.specs.declared.shape.Variable.{Variable}
 use Rattle.system_model.specs.declared.system.Component.{Component}
 use Rattle.system_model.specs.declared.system.Port.{Port}
 use Rattle.system_model.specs.declared.system.System.{System}
-use Rattle.system_model.specs.Ports.{numbers, source_of, is_output_role, is_clock_role}
+use Rattle.system_model.specs.Ports.{port_numbers, source_of, is_output_role, is_clock_role}
 
 -- p is an output and q a port of the same component, on which p is declared to depend; in Initialization Mode by a list of its own
 pub record DependsOn (system : System) (initializing : Bool) (p q : ℕ) : Type 0 where
@@ -27,7 +27,7 @@ pub data Needs (system : System) (p q : ℕ) : Type 0 where
   ByFeed : (port : Port) → slice_get system.ports p ≡ Some port →
       source_of port.role ≡ Some q → Needs system p q
   ByClock : (port : Port) → slice_get system.ports p ≡ Some port →
-      Contains (numbers port.clocks) q → Needs system p q
+      Contains (port_numbers port.clocks) q → Needs system p q
   ByDependency : (depends : DependsOn system false p q) →
       depends.component.shape.has_event_mode ≡ true → Needs system p q
 

@@ -10,7 +10,7 @@ use Rattle.system_model.specs.declared.system.Component.{Component}
 use Rattle.system_model.specs.declared.system.Role.TheVariants.{Output}
 use Rattle.system_model.specs.declared.system.Port.{Port}
 use Rattle.system_model.specs.declared.system.System.{System}
-use Rattle.system_model.specs.Ports.{numbers, label_of, labels_from}
+use Rattle.system_model.specs.Ports.{port_numbers, label_of, labels_from}
 use Rattle.system_model.specs.Shapes.{IsSoundShape}
 
 -- a sound shape without event mode, early return, inputs and Clocks, whose outputs depend on no port in Initialization Mode
@@ -35,5 +35,5 @@ pub record IsOfOutputs (system : System) : Type 0 where
   pub few_ports : length system.ports ≤ 65536
   pub numbered : map label_of system.ports ≡ labels_from 0 system.components
   pub outputs : All (λ (port : Port). (port.role ≡ Output) × (port.clocks ≡ [])) system.ports
-  pub instant_order : numbers system.instant_order ≡ range_with_len 0 (length system.ports)
-  pub initial_order : numbers system.initial_order ≡ range_with_len 0 (length system.ports)
+  pub instant_order : port_numbers system.instant_order ≡ range_with_len 0 (length system.ports)
+  pub initial_order : port_numbers system.initial_order ≡ range_with_len 0 (length system.ports)

@@ -13,8 +13,8 @@ use Rattle.system_model.specs.declared.system.Role.TheVariants.{Input, Output, C
 use Rattle.system_model.specs.declared.system.Port.{Port}
 
 -- the numbers of some ports
-abbrev pub numbers : List PortId → List ℕ
-numbers ports = map (λ (p : PortId). p.0) ports
+abbrev pub port_numbers : List PortId → List ℕ
+port_numbers ports = map (λ (p : PortId). p.0) ports
 
 -- ---- roles
 

@@ -20,7 +20,7 @@ use Rattle.system_model.specs.declared.system.Port.{Port}
 use Rattle.system_model.specs.declared.system.Feed.{Feed}
 use Rattle.system_model.specs.declared.system.System.{System}
 use Rattle.system_model.specs.Carried.{IsOn}
-use Rattle.system_model.specs.Ports.{numbers, feed_of, is_output_role, label_of, labels_from}
+use Rattle.system_model.specs.Ports.{port_numbers, feed_of, is_output_role, label_of, labels_from}
 use Rattle.system_model.specs.Needs.{Needs, NeedsInitially, is_unclocked_at}
 use Rattle.system_model.specs.EarlyReturn.{early_count}
 use Rattle.system_model.specs.Orders.{IsOrder}
@@ -120,6 +120,6 @@ pub record IsSound (system : System) : Type 0 where
   pub ports : HasSoundPorts system
   pub feeds : HasSoundFeeds system
   pub instant_order : IsOrder (λ p. p < length system.ports) (Needs system)
-      (numbers system.instant_order)
+      (port_numbers system.instant_order)
   pub initial_order : IsOrder (λ p. is_unclocked_at system.ports p ≡ true) (NeedsInitially system)
-      (numbers system.initial_order)
+      (port_numbers system.initial_order)

@@ -72,9 +72,9 @@ fn agrees(alloc: Global, text: &[u8]) -> bool {
                 rule: DocumentRule::Malformed,
                 byte,
             };
-            let front = &text[..byte];
-            match read_tree(alloc, front) {
-                Ok(_) if is_document(front) => {}
+            let prefix = &text[..byte];
+            match read_tree(alloc, prefix) {
+                Ok(_) if is_document(prefix) => {}
                 Err(error) if error == expected => {}
                 _ => return false,
             }

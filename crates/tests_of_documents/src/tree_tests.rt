@@ -393,7 +393,7 @@ fn is_cut_at_each_end(alloc: Global, document: &[u8]) -> bool {
 }
 
 #[test]
-fn each_front_is_cut_at_its_end(rt: HostRuntime) {
+fn each_prefix_is_cut_at_its_end(rt: HostRuntime) {
     assert!(rt; is_cut_at_each_end(rt.alloc(), DESCRIPTION.as_bytes()));
     assert!(rt; is_cut_at_each_end(rt.alloc(), SYSTEM.as_bytes()));
 }
@@ -415,8 +415,8 @@ static DEPTHS: [(&str, DocumentRule, usize); 6] = [
     ("", DocumentRule::Malformed, 192),
 ];
 
-fn is_fault_behind(alloc: Global, front: &str, row: &(&str, DocumentRule, usize)) -> bool {
-    match format!(in alloc; "{front}{}", row.0) {
+fn is_fault_after(alloc: Global, prefix: &str, row: &(&str, DocumentRule, usize)) -> bool {
+    match format!(in alloc; "{prefix}{}", row.0) {
         Ok(text) => is_fault(alloc, text.as_bytes(), row.1, row.2),
         Err(_) => false,
     }
@@ -425,15 +425,15 @@ fn is_fault_behind(alloc: Global, front: &str, row: &(&str, DocumentRule, usize)
 #[test]
 fn elements_stand_64_deep(rt: HostRuntime) -> Result<(), Fail> {
     let alloc = rt.alloc();
-    let front = repeat(alloc, "<a>", 64)?;
+    let prefix = repeat(alloc, "<a>", 64)?;
     let back = repeat(alloc, "</a>", 64)?;
-    let whole = format!(in alloc; "{front}<!----><?p?>{back}")?;
-    let front = front.as_str();
+    let whole = format!(in alloc; "{prefix}<!----><?p?>{back}")?;
+    let prefix = prefix.as_str();
     assert!(rt; has_elements(alloc, whole.as_str(), 64));
     assert_eq!(rt;
         DEPTHS
             .iter()
-            .position(|row| !is_fault_behind(alloc, front, row)),
+            .position(|row| !is_fault_after(alloc, prefix, row)),
         None
     );
     Ok(())
@@ -446,9 +446,9 @@ fn many_rows(alloc: Global) -> Result<String, AllocError> {
 }
 
 fn many_nests(alloc: Global) -> Result<String, AllocError> {
-    let front = repeat(alloc, "<a>", 63)?;
+    let prefix = repeat(alloc, "<a>", 63)?;
     let back = repeat(alloc, "</a>", 63)?;
-    let nest = format!(in alloc; "{front}{back}")?;
+    let nest = format!(in alloc; "{prefix}{back}")?;
     let nests = repeat(alloc, nest.as_str(), 39_000)?;
     format!(in alloc; "<a>{nests}</a>")
 }

@@ -189,7 +189,7 @@ fn follow(alloc: Global, shape: &Shape, path: &[(Call, Option<Reply>)]) -> Optio
     Some(phase)
 }
 
-fn is_behind(phase: &Phase, row: &Row) -> bool {
+fn is_after(phase: &Phase, row: &Row) -> bool {
     let (path, state, point, permits) = row;
     let restores = path.iter().filter(|(call, _)| *call == RESTORE).count();
     phase.state == *state
@@ -207,7 +207,7 @@ fn permits(shape: &Shape, phase: &Phase, row: &Row, probes: &[Call], never: &[Ca
 
 fn is_row(alloc: Global, shape: &Shape, row: &Row, probes: &[Call], never: &[Call]) -> bool {
     match follow(alloc, shape, row.0) {
-        Some(phase) => is_behind(&phase, row) && permits(shape, &phase, row, probes, never),
+        Some(phase) => is_after(&phase, row) && permits(shape, &phase, row, probes, never),
         None => false,
     }
 }

@@ -17,7 +17,7 @@ const SET_PARAMETER: Call = Call::Set {
 // Steps after the first: one like it, from where it ended or ended early, a shorter one, and one past the stop.
 const SECOND: Call = Call::DoStep { at: 40, size: 30 };
 
-const BEHIND_EARLY: Call = Call::DoStep { at: 25, size: 30 };
+const AFTER_EARLY: Call = Call::DoStep { at: 25, size: 30 };
 
 const SHORTER: Call = Call::DoStep { at: 40, size: 20 };
 
@@ -80,7 +80,7 @@ static PROBES: [Call; 16] = [
     TERMINATE,
     FREE,
     SECOND,
-    BEHIND_EARLY,
+    AFTER_EARLY,
     SHORTER,
     LONG,
 ];
@@ -191,7 +191,7 @@ static PATHS: [Row; 28] = [
         &[STARTED, ENTERED, EXITED, (STEP, ended!(true, 25))],
         InstanceState::Step,
         25,
-        &[BEHIND_EARLY, GET, SET, SAVE, TERMINATE, FREE],
+        &[AFTER_EARLY, GET, SET, SAVE, TERMINATE, FREE],
     ),
     (
         &[

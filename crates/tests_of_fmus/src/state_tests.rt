@@ -72,10 +72,10 @@ const SAVED: &[u8] =
 fn saved_peer(
     rt: &impl Abort,
     alloc: Global,
-    behind: &[u8],
+    after: &[u8],
     failing: &[u64],
 ) -> Option<Piped<MemWire>> {
-    let mut peer = peer_on(alloc, SAVED, behind, failing)?;
+    let mut peer = peer_on(alloc, SAVED, after, failing)?;
     let is_saved = ask(rt, &mut peer, INSTANTIATE)
         && ask(
             rt,
@@ -185,7 +185,7 @@ fn is_serialized(rt: &impl Abort, alloc: Global, row: &Serialized) -> Option<boo
 }
 
 #[test]
-fn the_bytes_of_a_state_are_received_behind_its_reply(rt: HostRuntime) -> Result<(), Fail> {
+fn the_bytes_of_a_state_are_received_after_its_reply(rt: HostRuntime) -> Result<(), Fail> {
     for (i, row) in SERIALIZED.iter().enumerate() {
         assert!(rt;
             is_serialized(&rt, rt.alloc(), row) == Some(true),
@@ -246,7 +246,7 @@ fn is_deserialized(rt: &impl Abort, alloc: Global, row: &Deserialized) -> Option
 }
 
 #[test]
-fn the_bytes_of_a_state_are_sent_behind_its_call(rt: HostRuntime) -> Result<(), Fail> {
+fn the_bytes_of_a_state_are_sent_after_its_call(rt: HostRuntime) -> Result<(), Fail> {
     for (i, row) in DESERIALIZED.iter().enumerate() {
         assert!(rt;
             is_deserialized(&rt, rt.alloc(), row) == Some(true),

@@ -114,7 +114,7 @@ const ITSELF: &str =
     r#"<Elements><Component name="D" type="application/x-ssp-definition" source="a.ssd"/></Elements>"#;
 
 // Where the next document is refused, with so many more of these before it.
-fn refused_behind(alloc: Global, lists: &str, path: &str, count: usize) -> Option<Place> {
+fn refused_after(alloc: Global, lists: &str, path: &str, count: usize) -> Option<Place> {
     let mut nest = nest(alloc, lists)?;
     for _ in 0..count {
         nest = add(alloc, nest, path, lists)?;
@@ -127,7 +127,7 @@ fn refused_behind(alloc: Global, lists: &str, path: &str, count: usize) -> Optio
 
 #[test]
 fn eight_levels_are_read_below_the_outermost(rt: HostRuntime) {
-    let place = refused_behind(rt.alloc(), ITSELF, "a.ssd", 8);
+    let place = refused_after(rt.alloc(), ITSELF, "a.ssd", 8);
     assert_eq!(rt;
         place,
         Some(Place {
@@ -135,7 +135,7 @@ fn eight_levels_are_read_below_the_outermost(rt: HostRuntime) {
             node: 3
         })
     );
-    assert_eq!(rt; refused_behind(rt.alloc(), ITSELF, "a.ssd", 7), None);
+    assert_eq!(rt; refused_after(rt.alloc(), ITSELF, "a.ssd", 7), None);
 }
 
 fn many_packages(alloc: Global, count: usize) -> Option<String> {

@@ -4,7 +4,7 @@
 #[cfg(test)]
 mod description_tests;
 #[cfg(test)]
-mod front_tests;
+mod prefix_tests;
 #[cfg(test)]
 mod set_tests;
 #[cfg(test)]

@@ -7,7 +7,7 @@ use value_types::{ByReference, Dependency, Knowns, Shape, Variable};
 const COUNTER: &str =
     r#"<fmiModelDescription fmiVersion="3.0" modelName="counter" instantiationToken="{c}"><CoSimulation modelIdentifier="counter" canGetAndSetFMUState="true" canHandleVariableCommunicationStepSize="true"/><ModelVariables><Int32 name="inc" valueReference="1" causality="parameter" variability="fixed" start="2"/><Int32 name="y" valueReference="2" causality="output" variability="discrete"/></ModelVariables><ModelStructure><Output valueReference="2" dependencies=""/></ModelStructure></fmiModelDescription>"#;
 
-pub(crate) const FRONT: &str =
+pub(crate) const PREFIX: &str =
     r#"<fmiModelDescription fmiVersion="3.0" modelName="m" instantiationToken="t"><CoSimulation modelIdentifier="i" hasEventMode="true"/>"#;
 
 pub(crate) const BACK: &str = "</fmiModelDescription>";
@@ -163,7 +163,7 @@ fn the_counter_is_described(rt: HostRuntime) {
 }
 
 fn is_read_as(alloc: Global, row: &(&str, &str)) -> bool {
-    let Ok(text) = format!(in alloc; "{FRONT}{}{BACK}", row.0) else {
+    let Ok(text) = format!(in alloc; "{PREFIX}{}{BACK}", row.0) else {
         return false;
     };
     match shape_of(alloc, text.as_str()) {

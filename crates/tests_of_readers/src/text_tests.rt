@@ -1,5 +1,5 @@
 //! Texts of attributes in a model description: what each says, and the rule by which others are refused.
-use crate::shape_tests::{BACK, FRONT, shape_text};
+use crate::shape_tests::{BACK, PREFIX, shape_text};
 use doc_tree::{Refusal, Tree, read_tree};
 use fmu_description::read_description;
 use std::alloc::{AllocError, Global};
@@ -169,8 +169,8 @@ static TEXTS: [(Around, &str, Result<&str, u32>); 67] = [
 ];
 
 fn document(alloc: Global, around: Around, text: &str) -> Result<String, AllocError> {
-    let (before, behind) = around;
-    format!(in alloc; "{FRONT}{before}{text}{behind}{BACK}")
+    let (before, after) = around;
+    format!(in alloc; "{PREFIX}{before}{text}{after}{BACK}")
 }
 
 fn ends_so(alloc: Global, shape: &Shape, wanted: &str) -> bool {

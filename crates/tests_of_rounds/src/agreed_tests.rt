@@ -166,7 +166,15 @@ fn step_to<R: Abort + Threads + Sync, L: Peer>(
 {
     assert_ready(rt, slots, 0, bound);
     assert_savable(rt, slots);
-    agreed_step(rt, slots, 0, bound, 10, workers)
+    let mut unmade = StepEnd::FixedStep {
+        component: CompId(0),
+        at: 0,
+        end: bound,
+    };
+    match agreed_step(rt, slots, 0, bound, 10, workers, &mut unmade) {
+        Some(agreed) => Ok(agreed),
+        None => Err(unmade),
+    }
 }
 
 fn make<R: Abort>(rt: &R, alloc: Global, component: u32, talk: &[Exchange]) -> Slot<Script> {

@@ -261,7 +261,7 @@ fn are_orders(alloc: Global, components: &[Component], ports: &[Port]) -> bool {
 }
 
 #[test]
-fn a_port_stands_behind_its_clock_and_outside_initialization(rt: HostRuntime) -> Result<(), Fail> {
+fn a_port_stands_after_its_clock_and_outside_initialization(rt: HostRuntime) -> Result<(), Fail> {
     let alloc = rt.alloc();
     let components = vec![in alloc; clocked(alloc)?]?;
     let ports = clocked_ports(alloc)?;

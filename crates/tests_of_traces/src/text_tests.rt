@@ -1,7 +1,8 @@
-ghost use Rattle.std.specs.Prelude.{◌≡◌, ◌≤◌, ◌+◌, IfOk, OnOk, length, vec_len};
+ghost use Rattle.std.specs.Prelude.{◌≡◌, ◌≤◌, ◌<◌, IfOk, length, vec_len};
 ghost use Rattle.system_model.specs.Text.{end_text};
 ghost use Rattle.trace_text.specs.Room.{AreValues, HoldsEach};
 
+use port_values::PortValues;
 use sim_base::{CompId, Items, SourceId, Text};
 use std::alloc::{AllocError, Global};
 use system_model::{Component, EndKind, Port, Role, System};
@@ -60,7 +61,7 @@ static CASES: [Case; 4] = [
 
 // Whether the text of a case is put.
 fn is_put(alloc: Global, case: &Case) -> Result<bool, AllocError> {
-    let values = values_of(alloc, case.ports)?;
+    let mut values = values_of(alloc, case.ports)?;
     let system = system_of(alloc, case.component, case.ports)?;
     let Some(room) = room_for(&system) else {
         return Ok(false);
@@ -68,7 +69,7 @@ fn is_put(alloc: Global, case: &Case) -> Result<bool, AllocError> {
     let mut out = vec![in alloc; 0u8; room]?;
     let length = put_header(&system, 1000, 0, 20, &mut out);
     let is_header = &out[..length] == case.header.as_bytes();
-    let length = put_instant(&system, 10, 0, &values, &mut out);
+    let length = put_instant(&system, 10, 0, &mut values, &mut out);
     let is_instant = &out[..length] == case.instant.as_bytes();
     let length = put_end_in(&system, case.kind, 20, &mut out);
     Ok(is_header && is_instant && &out[..length] == case.end.as_bytes())
@@ -139,25 +140,25 @@ fn system_of(alloc: Global, name: &str, rows: &[Row]) -> Result<System, AllocErr
     })
 }
 
-fn values_of(alloc: Global, rows: &[Row]) -> Result<Vec<Option<i128>>, AllocError>
-    ensures fit { IfOk result (λ values. AreValues values.items) }
-    ensures each { IfOk result (λ values. vec_len values ≡ length rows.now) }
+fn values_of(alloc: Global, rows: &[Row]) -> Result<PortValues, AllocError>
+    ensures fit { IfOk result AreValues }
+    ensures each { IfOk result (λ values. length values ≡ length rows.now) }
 {
-    let mut values = Vec::new(alloc);
-    for (_, _, value) in rows {
-        push_value(&mut values, *value)?;
+    let mut values = PortValues::none(alloc, rows.len())?;
+    for k in 0..rows.len() {
+        put_value(&mut values, k, rows[k].2);
     }
     Ok(values)
 }
 
 // A value that is passed is known to be in the range of an `i128`.
-fn push_value(values: &mut Vec<Option<i128>>, value: Option<i128>) -> Result<(), AllocError>
-    requires { AreValues values.old.items }
-    ensures fit { AreValues values.new.items }
-    ensures more { OnOk result (vec_len values.new ≡ vec_len values.old + 1) }
+fn put_value(values: &mut PortValues, k: usize, value: Option<i128>)
+    requires place { k < length values.old }
+    requires fit { AreValues values.old }
+    ensures fit { AreValues values.new }
+    ensures places { length values.new ≡ length values.old }
 {
-    values.push(value)?;
-    Ok(())
+    values.put(k, value);
 }
 
 fn empty_shape(alloc: Global) -> Result<Shape, AllocError> {

@@ -176,12 +176,12 @@ static TAKES: [(usize, Result<usize, SourceFault>, &[u8]); 6] = [
 ];
 
 fn is_taken_as(source: &mut MemSource, at: usize) -> bool {
-    let Some((room, want, front)) = TAKES.get(at) else {
+    let Some((room, want, prefix)) = TAKES.get(at) else {
         return false;
     };
     let mut into = [b'-'; 4];
     let room = (*room).min(4);
-    source.take(&mut into[..room]) == *want && into[..room].starts_with(front)
+    source.take(&mut into[..room]) == *want && into[..room].starts_with(prefix)
 }
 
 fn source(alloc: Global) -> Result<MemSource, AllocError> {

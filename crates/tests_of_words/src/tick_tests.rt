@@ -85,6 +85,6 @@ fn resumed_thirds<R: Abort>(rt: &R, alloc: Global) -> Result<(), AllocError> {
 }
 
 #[test]
-fn a_resumed_clock_ticks_behind_the_point(rt: HostRuntime) -> Result<(), AllocError> {
+fn a_resumed_clock_ticks_after_the_point(rt: HostRuntime) -> Result<(), AllocError> {
     resumed_thirds(&rt, rt.alloc())
 }

@@ -3,3 +3,4 @@ pub mod HeapLemmas
 pub mod PointLemmas
 pub mod ScheduleLemmas
 pub mod CallerLemmas
+pub mod PendingLemmas

@@ -208,9 +208,9 @@ module _ (start stop : ℕ) (clocks : List ClockState) (events : List (Option �
   pub place_is : (k t : ℕ) → TicksAt (table_of start stop all) k t → ((clock : ℕ) × TicksAt table clock t) ⊎ ((component : ℕ) × EventAt table component t)
   place_is k t h = (elim (cases_lt k (length clocks)) [
     | inl within ↦ inl (k, ticks_out k t within h)
-    | inr behind ↦
+    | inr after ↦
         let component = k - length clocks in
-        let same : k ≡ length clocks + component = omega (arith, behind) in
+        let same : k ≡ length clocks + component = omega (arith, after) in
         inr (component, event_out component t (subst (λ p. TicksAt (table_of start stop all) p t) same h))
   ])
 
@@ -267,10 +267,10 @@ module _ (start stop : ℕ) (clocks : List ClockState) (components : ℕ) where
     | inl within ↦
         let l = len_clocks in
         entered k within ∙ sym (get_or_append_left of_clocks of_components 0 k (omega (arith, within, l))) ∙ ap (λ xs. get_or xs k 0) (sym split)
-    | inr behind ↦
+    | inr after ↦
         let l = len_clocks in
-        rest k behind lt ∙ sym (pasts start stop components (k - length clocks) (omega (arith, behind, lt, len)))
-        ∙ sym (get_or-append_right of_clocks of_components (length clocks) k 0 l behind) ∙ ap (λ xs. get_or xs k 0) (sym split)
+        rest k after lt ∙ sym (pasts start stop components (k - length clocks) (omega (arith, after, lt, len)))
+        ∙ sym (get_or-append_right of_clocks of_components (length clocks) k 0 l after) ∙ ap (λ xs. get_or xs k 0) (sym split)
   ]))
 
 -- before the first instant

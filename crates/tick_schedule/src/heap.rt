@@ -35,7 +35,8 @@ impl Model for Heap {
 impl Heap {
     /// So many Clocks, none of which ticks.
     pub(crate) fn none(alloc: Global, count: usize) -> Result<Heap, AllocError>
-        ensures { IfOk result (λ heap. heap ≡ replicate count past) }
+        ensures same { IfOk result (λ heap. heap ≡ replicate count past) }
+        ensures few { IfOk result (λ heap. length heap < 2 ^ 63) }
     {
         Ok(Heap {
             points: Points::all(alloc, PAST, count)?,

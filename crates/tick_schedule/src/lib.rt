@@ -4,6 +4,7 @@
 mod clock;
 mod heap;
 mod laws;
+mod pending;
 pub mod plain;
 mod points;
 mod schedule;
@@ -12,5 +13,6 @@ mod steps;
 
 pub use clock::{ClockState, TimeClock};
 pub use laws::resumed_ticks;
+pub use pending::Pending;
 pub use schedule::Schedule;
 pub use steps::Steps;

@@ -19,7 +19,7 @@ use Rattle.trace_check.proofs.SourceLemmas.{lines_none, lines_within, lines_zero
 
 -- a line that isn't after another, with a rule that isn't above its, comes first
 pub comes_first : (line l rule r : ℕ) → line ≤ l → rule ≤ r → (line < l) ⊎ ((line ≡ l) × (rule ≤ r))
-comes_first line l rule r order less = elim (cases_lt line l) [ inl before ↦ inl before | inr behind ↦ inr (omega (arith, order, behind), less) ]
+comes_first line l rule r order less = elim (cases_lt line l) [ inl before ↦ inl before | inr after ↦ inr (omega (arith, order, after), less) ]
 
 -- the rules of an instant's lines are 2 to 4
 pub rule_above : (system : System) (t : Trace) (last : Option (ℕ × ℕ)) (i : Instant) (o r : ℕ) → BreaksIn system t last i o r → 2 ≤ r

@@ -39,9 +39,9 @@ limits_of_sound system sound = all_by_place (λ (port : Port). HasLimits port.ro
 pub one_first : (system : System) (t : Trace) (line rule l r : ℕ) → IsFirst system t line rule → IsFirst system t l r → (line ≡ l) × (rule ≡ r)
 one_first system t line rule l r first other =
     elim (first.least l r other.breaks) [
-      | inl before ↦ elim (other.least line rule first.breaks) [ inl behind ↦ absurd (omega (arith, before, behind)) | inr back ↦ let here = back.0 in absurd (omega (arith, before, here)) ]
+      | inl before ↦ elim (other.least line rule first.breaks) [ inl after ↦ absurd (omega (arith, before, after)) | inr back ↦ let here = back.0 in absurd (omega (arith, before, here)) ]
       | inr same ↦
           let here = same.0 in
           let low = same.1 in
-          elim (other.least line rule first.breaks) [ inl behind ↦ absurd (omega (arith, here, behind)) | inr back ↦ let high = back.1 in (here, omega (arith, low, high)) ]
+          elim (other.least line rule first.breaks) [ inl after ↦ absurd (omega (arith, here, after)) | inr back ↦ let high = back.1 in (here, omega (arith, low, high)) ]
     ]

@@ -131,7 +131,7 @@ line_tells values line p v is =
 pub record HasLine (told : List TraceLine) (values : List (Option ℤ)) (p : ℕ) (v : ℤ) : Type 0 where
   pub line : ℕ
   pub is : slice_get told line ≡ Some (Value p v)
-  pub behind : lines_to values p ≡ line + 1
+  pub after : lines_to values p ≡ line + 1
 
 pub has_line : (told : List TraceLine) (values : List (Option ℤ)) (p : ℕ) (v : ℤ) → told ≡ told_values_from 0 values → value values p ≡ Some v → HasLine told values p v
 has_line told values p v same some =
@@ -142,7 +142,7 @@ has_line told values p v same some =
     record {
       line = t.line;
       is = ap (λ (xs : List TraceLine). slice_get xs t.line) same ∙ (t.is ∙ ap (λ (q : ℕ). Some (Value q v)) port);
-      behind = lines_some values p v some ∙ (ap (λ (q : ℕ). count_by is_some (take q values)) next ∙ t.count);
+      after = lines_some values p v some ∙ (ap (λ (q : ℕ). count_by is_some (take q values)) next ∙ t.count);
     }
 
 -- ---- the first input that has a value and differs
@@ -162,15 +162,15 @@ pub other_line : (system : System) (values : List (Option ℤ)) (told : List Tra
     DiffersFromSource system values p → IsOtherValue system values (k + 1)
 other_line system values told k p v same at differs =
     let own = (line_tells values k p v (ap (λ (xs : List TraceLine). slice_get xs k) (sym same) ∙ at)).1 in
-    record { input = p; differs = differs; line = sym own; behind = omega arith }
+    record { input = p; differs = differs; line = sym own; after = omega arith }
 
 line_of_some : (system : System) (values : List (Option ℤ)) (told : List TraceLine) (k p : ℕ) (o : Option ℤ) → told ≡ told_values_from 0 values → AllAgree system values told k → DiffersFromSource system values p →
     value values p ≡ o → 0 < lines_to values p → k + 1 ≤ lines_to values p
 line_of_some system values told k p None same agree differs is at = let none = lines_none values p is in absurd (omega (arith, none, at))
 line_of_some system values told k p (Some v) same agree differs is at =
     let own = has_line told values p v same is in
-    let behind = own.behind in
-    elim (cases_lt own.line k) [ inl before ↦ absurd (agree own.line p v before own.is differs) | inr later ↦ omega (arith, later, behind) ]
+    let after = own.after in
+    elim (cases_lt own.line k) [ inl before ↦ absurd (agree own.line p v before own.is differs) | inr later ↦ omega (arith, later, after) ]
 
 pub first_line : (system : System) (values : List (Option ℤ)) (told : List TraceLine) (k : ℕ) → told ≡ told_values_from 0 values → AllAgree system values told k →
     (p : ℕ) → DiffersFromSource system values p → 0 < lines_to values p → k + 1 ≤ lines_to values p

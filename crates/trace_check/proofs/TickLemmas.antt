@@ -80,9 +80,9 @@ right_of start interval shift last t n v due is_due same none (Passed passed) = 
 -- a tick was passed over exactly where the first one after the point before stands before this one
 pub passes_of : (start interval shift before m t next : ℕ) → IsTick start shift interval next → before < next → ((tick : ℕ) → IsTick start shift interval tick → before < tick → next ≤ tick) →
     IsTrue (nat_lt next t) ↔ PassesTick start interval shift (Some (before, m)) t
-passes_of start interval shift before m t next ticks behind least = (
-  (λ low. record { tick = next; ticks = ticks; behind = behind; before = ltb-true next t low }),
-  (λ passed. let near = least passed.tick passed.ticks passed.behind in lt-ltb next t (omega (arith, near, passed.before))),
+passes_of start interval shift before m t next ticks after least = (
+  (λ low. record { tick = next; ticks = ticks; after = after; before = ltb-true next t low }),
+  (λ passed. let near = least passed.tick passed.ticks passed.after in lt-ltb next t (omega (arith, near, passed.before))),
 )
 
 -- ---- the constant Clocks of the ports up to one more

@@ -21,7 +21,7 @@ use Rattle.trace_reading.specs.declared.trace.TracePort.{TracePort}
 use Rattle.trace_reading.specs.Form.{IsInstant, IsTrace, MayHave, instant_lines, kinds_of, told_values_from}
 use Rattle.trace_reading.specs.Written.{port_told, ports_told}
 use Rattle.trace_reading.proofs.CallerLemmas.{heads, tails, unsome}
-use Rattle.trace_check.specs.Instants.{AreInstantsOf, ReachesPoint, end_line_number, last_time, line_behind}
+use Rattle.trace_check.specs.Instants.{AreInstantsOf, ReachesPoint, end_line_number, last_time, line_after}
 use Rattle.trace_check.specs.Rules.{Breaks, BreaksIn, IsFirst, KeepsRules}
 use Rattle.trace_check.specs.Rules.Breaks.{AtPort, InInstant, AtEnd}
 use Rattle.trace_check.specs.Steps.{BeginsNoValue, BeginsWithValues, IsFirstIn}
@@ -37,10 +37,10 @@ at_middle : {X : Type 0} (xs ys : List X) (x : X) → slice_get (xs ++ (x ∷ ys
 at_middle [] ys x = refl
 at_middle (y ∷ xs) ys x = at_middle xs ys x
 
-at_front : {X : Type 0} (xs ys : List X) (k : ℕ) (x : X) → slice_get xs k ≡ Some x → slice_get (xs ++ ys) k ≡ Some x
-at_front [] ys k x e = absurd (none_some x e)
-at_front (y ∷ xs) ys zero x e = e
-at_front (y ∷ xs) ys (suc k) x e = at_front xs ys k x e
+at_prefix : {X : Type 0} (xs ys : List X) (k : ℕ) (x : X) → slice_get xs k ≡ Some x → slice_get (xs ++ ys) k ≡ Some x
+at_prefix [] ys k x e = absurd (none_some x e)
+at_prefix (y ∷ xs) ys zero x e = e
+at_prefix (y ∷ xs) ys (suc k) x e = at_prefix xs ys k x e
 
 -- what stands in a list with one more at its end stands in it or is that one
 data Pushed {X : Type 0} (xs : List X) (k : ℕ) (x y : X) : Type 0 where
@@ -67,7 +67,7 @@ cuts {X} (y ∷ a) j b (x ∷ c) i d e =
     let first : y ≡ x = heads y x (a ++ (j ∷ b)) (c ++ (i ∷ d)) e in
     elim (cuts a j b c i d (tails y x (a ++ (j ∷ b)) (c ++ (i ∷ d)) e)) [
       | Earlier f is ↦ Earlier f (ap (λ (z : X). z ∷ c) (sym first) ∙ ap (λ (zs : List X). y ∷ zs) is)
-      | There same_front same ↦ There (ap (λ (z : X). z ∷ a) first ∙ ap (λ (zs : List X). x ∷ zs) same_front) same
+      | There same_prefix same ↦ There (ap (λ (z : X). z ∷ a) first ∙ ap (λ (zs : List X). x ∷ zs) same_prefix) same
       | Later f is ↦ Later f (ap (λ (z : X). z ∷ a) first ∙ ap (λ (zs : List X). x ∷ zs) is)
     ]
 
@@ -86,9 +86,9 @@ no_value_first (i ∷ instants) = tt
 -- so far no line of an instant breaks a rule
 pub record Along (system : System) (t : Trace) (instants : List Instant) (rest : List TraceLine) (last : Option (ℕ × ℕ)) (is_reached : Bool) : Type 0 where
   pub before : List Instant
-  pub behind : List Instant
-  pub parts : instants ≡ before ++ behind
-  pub lines : rest ≡ flat_map instant_lines behind
+  pub after : List Instant
+  pub parts : instants ≡ before ++ after
+  pub lines : rest ≡ flat_map instant_lines after
   pub last_is : last ≡ last_time before
   pub reached : IsTrue is_reached ↔ ReachesPoint t.stop before
   pub good : (a b : List Instant) (i : Instant) (o r : ℕ) → before ≡ a ++ (i ∷ b) → BreaksIn system t (last_time a) i o r → ⊥
@@ -103,7 +103,7 @@ no_cut (y ∷ a) b x e = cc e
 pub along_none : (system : System) (t : Trace) (instants : List Instant) → AreInstantsOf t instants → Along system t instants t.lines None false
 along_none system t instants told = record {
   before = [];
-  behind = instants;
+  after = instants;
   parts = refl;
   lines = told.lines;
   last_is = refl;
@@ -115,20 +115,20 @@ along_none system t instants told = record {
 pub record Coming (system : System) (t : Trace) (instants : List Instant) (rest rows : List TraceLine) (time n : ℕ) (last : Option (ℕ × ℕ)) (is_reached : Bool) (along : Along system t instants rest last is_reached) : Type 0 where
   pub instant : Instant
   pub later : List Instant
-  pub behind : along.behind ≡ instant ∷ later
+  pub after : along.after ≡ instant ∷ later
   pub at : instant.t ≡ time
   pub number : instant.n ≡ n
   pub rows_are : rows ≡ told_values_from 0 instant.values ++ flat_map instant_lines later
 
-record ComingOf (behind : List Instant) (rows : List TraceLine) (time n : ℕ) : Type 0 where
+record ComingOf (after : List Instant) (rows : List TraceLine) (time n : ℕ) : Type 0 where
   instant : Instant
   later : List Instant
-  is : behind ≡ instant ∷ later
+  is : after ≡ instant ∷ later
   at : instant.t ≡ time
   number : instant.n ≡ n
   rows_are : rows ≡ told_values_from 0 instant.values ++ flat_map instant_lines later
 
-coming_of : (behind : List Instant) (rows : List TraceLine) (time n : ℕ) → At time n ∷ rows ≡ flat_map instant_lines behind → ComingOf behind rows time n
+coming_of : (after : List Instant) (rows : List TraceLine) (time n : ℕ) → At time n ∷ rows ≡ flat_map instant_lines after → ComingOf after rows time n
 coming_of [] rows time n e = absurd (cc e)
 coming_of (i ∷ later) rows time n e =
     let line : At time n ≡ At i.t i.n = heads (At time n) (At i.t i.n) rows (told_values_from 0 i.values ++ flat_map instant_lines later) e in
@@ -140,8 +140,8 @@ coming_of (i ∷ later) rows time n e =
 pub coming : (system : System) (t : Trace) (instants : List Instant) (rest rows : List TraceLine) (time n : ℕ) (last : Option (ℕ × ℕ)) (is_reached : Bool) (along : Along system t instants rest last is_reached) →
     rest ≡ At time n ∷ rows → Coming system t instants rest rows time n last is_reached along
 coming system t instants rest rows time n last is_reached along e =
-    let found = coming_of along.behind rows time n (sym e ∙ along.lines) in
-    record { instant = found.instant; later = found.later; behind = found.is; at = found.at; number = found.number; rows_are = found.rows_are }
+    let found = coming_of along.after rows time n (sym e ∙ along.lines) in
+    record { instant = found.instant; later = found.later; after = found.is; at = found.at; number = found.number; rows_are = found.rows_are }
 
 -- its values are one a port
 pub coming_values : (t : Trace) (before later instants : List Instant) (i : Instant) (rows : List TraceLine) → AreInstantsOf t instants → instants ≡ before ++ (i ∷ later) →
@@ -170,21 +170,21 @@ pub record Here (system : System) (t : Trace) (instants : List Instant) (rest : 
   pub good : (a b : List Instant) (j : Instant) (o r : ℕ) → before ≡ a ++ (j ∷ b) → BreaksIn system t (last_time a) j o r → ⊥
 
 -- what the reading of its values gives
-pub record Told (t : Trace) (rows behind : List TraceLine) (values : List (Option ℤ)) : Type 0 where
+pub record Told (t : Trace) (rows after : List TraceLine) (values : List (Option ℤ)) : Type 0 where
   pub values_are : (told : List (Option ℤ)) (rest : List TraceLine) → BeginsWithValues rows (length t.ports) told rest → values ≡ told
-  pub rest_is : (told : List (Option ℤ)) (rest : List TraceLine) → BeginsWithValues rows (length t.ports) told rest → behind ≡ rest
+  pub rest_is : (told : List (Option ℤ)) (rest : List TraceLine) → BeginsWithValues rows (length t.ports) told rest → after ≡ rest
 
 -- the lines after it are those of the later instants
-pub record HereThen (system : System) (t : Trace) (instants : List Instant) (rest behind : List TraceLine) (last : Option (ℕ × ℕ)) (is_reached : Bool) (i : Instant) : Type 0 where
+pub record HereThen (system : System) (t : Trace) (instants : List Instant) (rest after : List TraceLine) (last : Option (ℕ × ℕ)) (is_reached : Bool) (i : Instant) : Type 0 where
   pub here : Here system t instants rest last is_reached i
-  pub behind_is : behind ≡ flat_map instant_lines here.later
+  pub after_is : after ≡ flat_map instant_lines here.later
 
-pub here : (system : System) (t : Trace) (instants : List Instant) (rest rows behind : List TraceLine) (time n : ℕ) (last : Option (ℕ × ℕ)) (is_reached : Bool) (values : List (Option ℤ)) →
-    AreInstantsOf t instants → Along system t instants rest last is_reached → rest ≡ At time n ∷ rows → Told t rows behind values →
-    HereThen system t instants rest behind last is_reached (instant_at time n values)
-here system t instants rest rows behind time n last is_reached values told along e read =
+pub here : (system : System) (t : Trace) (instants : List Instant) (rest rows after : List TraceLine) (time n : ℕ) (last : Option (ℕ × ℕ)) (is_reached : Bool) (values : List (Option ℤ)) →
+    AreInstantsOf t instants → Along system t instants rest last is_reached → rest ≡ At time n ∷ rows → Told t rows after values →
+    HereThen system t instants rest after last is_reached (instant_at time n values)
+here system t instants rest rows after time n last is_reached values told along e read =
     let next = coming system t instants rest rows time n last is_reached along e in
-    let parts : instants ≡ along.before ++ (next.instant ∷ next.later) = along.parts ∙ ap (λ (xs : List Instant). along.before ++ xs) next.behind in
+    let parts : instants ≡ along.before ++ (next.instant ∷ next.later) = along.parts ∙ ap (λ (xs : List Instant). along.before ++ xs) next.after in
     let begins = coming_values t along.before next.later instants next.instant rows told parts next.rows_are in
     let is : next.instant ≡ instant_at time n values = instant_same next.instant (instant_at time n values) next.at next.number (sym (read.values_are next.instant.values (flat_map instant_lines next.later) begins)) in
     record {
@@ -192,12 +192,12 @@ here system t instants rest rows behind time n last is_reached values told along
         before = along.before;
         later = next.later;
         parts = parts ∙ ap (λ (j : Instant). along.before ++ (j ∷ next.later)) is;
-        lines = along.lines ∙ (ap (λ (xs : List Instant). flat_map instant_lines xs) next.behind ∙ ap (λ (j : Instant). flat_map instant_lines (j ∷ next.later)) is);
+        lines = along.lines ∙ (ap (λ (xs : List Instant). flat_map instant_lines xs) next.after ∙ ap (λ (j : Instant). flat_map instant_lines (j ∷ next.later)) is);
         last_is = along.last_is;
         reached = along.reached;
         good = along.good;
       };
-      behind_is = read.rest_is next.instant.values (flat_map instant_lines next.later) begins;
+      after_is = read.rest_is next.instant.values (flat_map instant_lines next.later) begins;
     }
 
 -- ---- an instant whose lines break no rule
@@ -206,7 +206,7 @@ reached_more : (point : ℕ) (before : List Instant) (i : Instant) → ReachesPo
 reached_more point before i reaches = record {
   place = reaches.place;
   instant = reaches.instant;
-  at = at_front before (i ∷ []) reaches.place reaches.instant reaches.at;
+  at = at_prefix before (i ∷ []) reaches.place reaches.instant reaches.at;
   there = reaches.there;
 }
 
@@ -230,8 +230,8 @@ reaches_step point before i was now old new = (
 too_long : (a b before f : List Instant) (i j : Instant) → before ++ (i ∷ []) ≡ a ++ (j ∷ b) → a ≡ before ++ (i ∷ f) → ⊥
 too_long a b before f i j e is =
     let whole : length (before ++ (i ∷ [])) ≡ length (a ++ (j ∷ b)) = ap length e in
-    let front : length a ≡ length (before ++ (i ∷ f)) = ap length is in
-    omega (arith, whole, front, length-append before (i ∷ []), length-append a (j ∷ b), length-append before (i ∷ f))
+    let prefix : length a ≡ length (before ++ (i ∷ f)) = ap length is in
+    omega (arith, whole, prefix, length-append before (i ∷ []), length-append a (j ∷ b), length-append before (i ∷ f))
 
 good_more : (system : System) (t : Trace) (before : List Instant) (last : Option (ℕ × ℕ)) (i : Instant) → last ≡ last_time before →
     ((a b : List Instant) (j : Instant) (o r : ℕ) → before ≡ a ++ (j ∷ b) → BreaksIn system t (last_time a) j o r → ⊥) → ((o r : ℕ) → BreaksIn system t last i o r → ⊥) →
@@ -239,25 +239,25 @@ good_more : (system : System) (t : Trace) (before : List Instant) (last : Option
 good_more system t before last i last_is good none a b j o r e breaks =
     elim (cuts a j b before i [] (sym e)) [
       | Earlier f is ↦ good a f j o r is breaks
-      | There same_front same ↦
+      | There same_prefix same ↦
           let P : List Instant → Type 0 = λ xs. BreaksIn system t (last_time xs) j o r in
           let Q : Instant → Type 0 = λ x. BreaksIn system t (last_time before) x o r in
           let R : Option (ℕ × ℕ) → Type 0 = λ x. BreaksIn system t x i o r in
-          none o r (subst R (sym last_is) (subst Q same (subst P same_front breaks)))
+          none o r (subst R (sym last_is) (subst Q same (subst P same_prefix breaks)))
       | Later f is ↦ too_long a b before f i j e is
     ]
 
-pub along_more : (system : System) (t : Trace) (instants : List Instant) (rest behind : List TraceLine) (time n : ℕ) (last : Option (ℕ × ℕ)) (was now : Bool) (values : List (Option ℤ)) →
-    HereThen system t instants rest behind last was (instant_at time n values) → ((o r : ℕ) → BreaksIn system t last (instant_at time n values) o r → ⊥) →
-    IsTrue now ↔ (IsTrue was ⊎ (time ≡ t.stop)) → Along system t instants behind (Some (time, n)) now
-along_more system t instants rest behind time n last was now values then none reached =
+pub along_more : (system : System) (t : Trace) (instants : List Instant) (rest after : List TraceLine) (time n : ℕ) (last : Option (ℕ × ℕ)) (was now : Bool) (values : List (Option ℤ)) →
+    HereThen system t instants rest after last was (instant_at time n values) → ((o r : ℕ) → BreaksIn system t last (instant_at time n values) o r → ⊥) →
+    IsTrue now ↔ (IsTrue was ⊎ (time ≡ t.stop)) → Along system t instants after (Some (time, n)) now
+along_more system t instants rest after time n last was now values then none reached =
     let at = then.here in
     let i : Instant = instant_at time n values in
     record {
       before = at.before ++ (i ∷ []);
-      behind = at.later;
+      after = at.later;
       parts = at.parts ∙ sym (append_assoc at.before (i ∷ []) at.later);
-      lines = then.behind_is;
+      lines = then.after_is;
       last_is = sym (last_pushed at.before i);
       reached = reaches_step t.stop at.before i was now at.reached reached;
       good = good_more system t at.before last i at.last_is at.good none;
@@ -269,9 +269,9 @@ nil_right : {X : Type 0} (xs : List X) → xs ++ [] ≡ xs
 nil_right [] = refl
 nil_right {X} (x ∷ xs) = ap (λ (ys : List X). x ∷ ys) (nil_right xs)
 
-none_behind : (behind : List Instant) → ((time n : ℕ) (rows : List TraceLine) → flat_map instant_lines behind ≡ At time n ∷ rows → ⊥) → behind ≡ []
-none_behind [] no_more = refl
-none_behind (i ∷ later) no_more = absurd (no_more i.t i.n (told_values_from 0 i.values ++ flat_map instant_lines later) refl)
+none_after : (after : List Instant) → ((time n : ℕ) (rows : List TraceLine) → flat_map instant_lines after ≡ At time n ∷ rows → ⊥) → after ≡ []
+none_after [] no_more = refl
+none_after (i ∷ later) no_more = absurd (no_more i.t i.n (told_values_from 0 i.values ++ flat_map instant_lines later) refl)
 
 -- each of the trace's instants was checked
 pub record AtLast (system : System) (t : Trace) (instants : List Instant) (rest : List TraceLine) (is_reached : Bool) : Type 0 where
@@ -282,7 +282,7 @@ pub record AtLast (system : System) (t : Trace) (instants : List Instant) (rest 
 pub at_last : (system : System) (t : Trace) (instants : List Instant) (rest : List TraceLine) (last : Option (ℕ × ℕ)) (is_reached : Bool) → Along system t instants rest last is_reached →
     ((time n : ℕ) (rows : List TraceLine) → rest ≡ At time n ∷ rows → ⊥) → AtLast system t instants rest is_reached
 at_last system t instants rest last is_reached along no_more =
-    let none = none_behind along.behind (λ time n rows e. no_more time n rows (along.lines ∙ e)) in
+    let none = none_after along.after (λ time n rows e. no_more time n rows (along.lines ∙ e)) in
     let whole : along.before ≡ instants = sym (along.parts ∙ (ap (λ (xs : List Instant). along.before ++ xs) none ∙ nil_right along.before)) in
     let P : List Instant → Type 0 = λ xs. IsTrue is_reached ↔ ReachesPoint t.stop xs in
     record {
@@ -356,7 +356,7 @@ ahead number o l o2 r rule at (inr same) = let line = same.0 in inr (omega (arit
 module _ (system : System) (t : Trace) (rest : List TraceLine) (last : Option (ℕ × ℕ)) (is_reached : Bool) (i : Instant) (number o rule : ℕ)
     (number_is : number ≡ length t.ports + 2 + (length t.lines - length rest)) (ports : TellsPorts system t)
     (all : (instants : List Instant) → AreInstantsOf t instants → Here system t instants rest last is_reached i) (first : IsFirstIn system t last i o rule) where
-  line_here : (instants : List Instant) (told : AreInstantsOf t instants) → number ≡ line_behind t (all instants told).before
+  line_here : (instants : List Instant) (told : AreInstantsOf t instants) → number ≡ line_after t (all instants told).before
   line_here instants told =
       let lines = number_of system t instants rest last is_reached i told (all instants told) in
       omega (arith, number_is, lines)
@@ -371,12 +371,12 @@ module _ (system : System) (t : Trace) (rest : List TraceLine) (last : Option (�
       let line = line_here (a ++ (j ∷ b)) told in
       elim (cuts a j b here2.before i here2.later here2.parts) [
         | Earlier e is ↦ absurd (here2.good a e j o2 r is breaks)
-        | There same_front same ↦
+        | There same_prefix same ↦
             let P : List Instant → Type 0 = λ xs. BreaksIn system t (last_time xs) j o2 r in
             let Q : Instant → Type 0 = λ x. BreaksIn system t (last_time here2.before) x o2 r in
             let R : Option (ℕ × ℕ) → Type 0 = λ x. BreaksIn system t x i o2 r in
-            let own : BreaksIn system t last i o2 r = subst R (sym here2.last_is) (subst Q same (subst P same_front breaks)) in
-            let place : line_behind t a ≡ line_behind t here2.before = ap (line_behind t) same_front in
+            let own : BreaksIn system t last i o2 r = subst R (sym here2.last_is) (subst Q same (subst P same_prefix breaks)) in
+            let place : line_after t a ≡ line_after t here2.before = ap (line_after t) same_prefix in
             ahead number o l o2 r rule (omega (arith, at, place, line)) (first.least o2 r own)
         | Later e is ↦
             let place : length (flat_map instant_lines a) ≡ length (flat_map instant_lines (here2.before ++ (i ∷ e))) = ap (λ (xs : List Instant). length (flat_map instant_lines xs)) is in
@@ -427,9 +427,9 @@ points_low kinds [] all k i at = absurd (none_some i at)
 points_low kinds (j ∷ before) all zero i at = subst (λ (x : Instant). x.t ≤ 2 ^ 62) (unsome j i at) all.0.point
 points_low kinds (j ∷ before) all (suc k) i at = points_low kinds before all.1 k i at
 
-front_all : {X : Type 0} (P : X → Type 0) (xs ys : List X) → AllByRecursion P (xs ++ ys) → AllByRecursion P xs
-front_all P [] ys all = tt
-front_all P (x ∷ xs) ys all = (all.0, front_all P xs ys all.1)
+prefix_all : {X : Type 0} (P : X → Type 0) (xs ys : List X) → AllByRecursion P (xs ++ ys) → AllByRecursion P xs
+prefix_all P [] ys all = tt
+prefix_all P (x ∷ xs) ys all = (all.0, prefix_all P xs ys all.1)
 
 low_of : (o : Option Instant) → ((i : Instant) → o ≡ Some i → i.t ≤ 2 ^ 62) → IfSome (option_map (λ (i : Instant). (i.t, i.n)) o) (λ (p : ℕ × ℕ). p.0 ≤ 2 ^ 62)
 low_of None low = tt
@@ -441,10 +441,10 @@ pub last_low : (system : System) (t : Trace) (rest : List TraceLine) (last : Opt
 last_low system t rest last is_reached form all =
     let along = all form.instants (record { each = form.each; lines = form.lines }) in
     let kinds = kinds_of t.ports in
-    let whole : AllByRecursion (IsInstant kinds) (along.before ++ along.behind) = subst (AllByRecursion (IsInstant kinds)) along.parts form.each in
-    let front = front_all (IsInstant kinds) along.before along.behind whole in
+    let whole : AllByRecursion (IsInstant kinds) (along.before ++ along.after) = subst (AllByRecursion (IsInstant kinds)) along.parts form.each in
+    let prefix = prefix_all (IsInstant kinds) along.before along.after whole in
     let P : Option (ℕ × ℕ) → Type 0 = λ o. IfSome o (λ (p : ℕ × ℕ). p.0 ≤ 2 ^ 62) in
-    subst P (sym along.last_is) (low_of (slice_get along.before (length along.before - 1)) (points_low kinds along.before front (length along.before - 1)))
+    subst P (sym along.last_is) (low_of (slice_get along.before (length along.before - 1)) (points_low kinds along.before prefix (length along.before - 1)))
 
 pub point_low : (system : System) (t : Trace) (rest : List TraceLine) (last : Option (ℕ × ℕ)) (is_reached : Bool) (i : Instant) → IsTrace t →
     ((instants : List Instant) → AreInstantsOf t instants → Here system t instants rest last is_reached i) → i.t ≤ 2 ^ 62
@@ -460,11 +460,11 @@ point_low system t rest last is_reached i form all =
 pub room : (t : Trace) (values : List (Option ℤ)) → values ≡ replicate (length t.ports) None → length values ≡ length t.ports
 room t values none = ap length none ∙ length-replicate (length t.ports) None
 
-pub told_from : (t : Trace) (rows lines behind : List TraceLine) (old values seen : List (Option ℤ)) → length old ≡ length t.ports → seen ≡ values →
+pub told_from : (t : Trace) (rows lines after : List TraceLine) (old values seen : List (Option ℤ)) → length old ≡ length t.ports → seen ≡ values →
     ((ports : ℕ) (told : List (Option ℤ)) (rest : List TraceLine) → BeginsWithValues rows ports told rest → lines ≡ told_values_from 0 told) →
-    ((ports : ℕ) (told : List (Option ℤ)) (rest : List TraceLine) → BeginsWithValues rows ports told rest → behind ≡ rest) →
-    ((all : List (Option ℤ)) → length all ≡ length old → lines ≡ told_values_from 0 all → values ≡ all) → Told t rows behind seen
-told_from t rows lines behind old values seen size same lines_are rest_is put = record {
+    ((ports : ℕ) (told : List (Option ℤ)) (rest : List TraceLine) → BeginsWithValues rows ports told rest → after ≡ rest) →
+    ((all : List (Option ℤ)) → length all ≡ length old → lines ≡ told_values_from 0 all → values ≡ all) → Told t rows after seen
+told_from t rows lines after old values seen size same lines_are rest_is put = record {
   values_are = λ told rest begins. same ∙ put told (begins.size ∙ sym size) (lines_are (length t.ports) told rest begins);
   rest_is = λ told rest begins. rest_is (length t.ports) told rest begins;
 }
@@ -475,17 +475,17 @@ pub along_within : (system : System) (t : Trace) (rest : List TraceLine) (last :
 along_within system t rest last is_reached form all =
     let told : AreInstantsOf t form.instants = record { each = form.each; lines = form.lines } in
     let along = all form.instants told in
-    let parts = flat_map-append instant_lines along.before along.behind in
-    let whole : length t.lines ≡ length (flat_map instant_lines along.before ++ flat_map instant_lines along.behind) =
+    let parts = flat_map-append instant_lines along.before along.after in
+    let whole : length t.lines ≡ length (flat_map instant_lines along.before ++ flat_map instant_lines along.after) =
     ap length (told.lines ∙ (ap (λ (xs : List Instant). flat_map instant_lines xs) along.parts ∙ parts)) in
-    let sum = length-append (flat_map instant_lines along.before) (flat_map instant_lines along.behind) in
-    let own : length rest ≡ length (flat_map instant_lines along.behind) = ap length along.lines in
+    let sum = length-append (flat_map instant_lines along.before) (flat_map instant_lines along.after) in
+    let own : length rest ≡ length (flat_map instant_lines along.after) = ap length along.lines in
     omega (arith, whole, sum, own)
 
-module _ (system : System) (t : Trace) (rest rows behind : List TraceLine) (time n : ℕ) (last : Option (ℕ × ℕ)) (was : Bool) (seen : List (Option ℤ)) (form : IsTrace t)
-    (all : (instants : List Instant) → AreInstantsOf t instants → Along system t instants rest last was) (next : rest ≡ At time n ∷ rows) (read : Told t rows behind seen) where
-  at_each : (instants : List Instant) → AreInstantsOf t instants → HereThen system t instants rest behind last was (instant_at time n seen)
-  at_each instants told = here system t instants rest rows behind time n last was seen told (all instants told) next read
+module _ (system : System) (t : Trace) (rest rows after : List TraceLine) (time n : ℕ) (last : Option (ℕ × ℕ)) (was : Bool) (seen : List (Option ℤ)) (form : IsTrace t)
+    (all : (instants : List Instant) → AreInstantsOf t instants → Along system t instants rest last was) (next : rest ≡ At time n ∷ rows) (read : Told t rows after seen) where
+  at_each : (instants : List Instant) → AreInstantsOf t instants → HereThen system t instants rest after last was (instant_at time n seen)
+  at_each instants told = here system t instants rest rows after time n last was seen told (all instants told) next read
 
   -- the lines that were read tell its values
   pub lines_tell : (lines : List TraceLine) → ((ports : ℕ) (told : List (Option ℤ)) (later : List TraceLine) → BeginsWithValues rows ports told later → lines ≡ told_values_from 0 told) →
@@ -494,7 +494,7 @@ module _ (system : System) (t : Trace) (rest rows behind : List TraceLine) (time
       let told : AreInstantsOf t form.instants = record { each = form.each; lines = form.lines } in
       let along = all form.instants told in
       let coming_next = coming system t form.instants rest rows time n last was along next in
-      let parts : form.instants ≡ along.before ++ (coming_next.instant ∷ coming_next.later) = along.parts ∙ ap (λ (xs : List Instant). along.before ++ xs) coming_next.behind in
+      let parts : form.instants ≡ along.before ++ (coming_next.instant ∷ coming_next.later) = along.parts ∙ ap (λ (xs : List Instant). along.before ++ xs) coming_next.after in
       let begins = coming_values t along.before coming_next.later form.instants coming_next.instant rows told parts coming_next.rows_are in
       lines_are (length t.ports) coming_next.instant.values (flat_map instant_lines coming_next.later) begins
       ∙ ap (told_values_from 0) (sym (read.values_are coming_next.instant.values (flat_map instant_lines coming_next.later) begins))
@@ -502,12 +502,12 @@ module _ (system : System) (t : Trace) (rest rows behind : List TraceLine) (time
   pub time_low : time ≤ 2 ^ 62
   time_low = point_low system t rest last was (instant_at time n seen) form (λ instants told. (at_each instants told).here)
 
-  pub rest_shorter : length behind < length rest
+  pub rest_shorter : length after < length rest
   rest_shorter =
       let told : AreInstantsOf t form.instants = record { each = form.each; lines = form.lines } in
       let at = at_each form.instants told in
       let now : length rest ≡ length (flat_map instant_lines (instant_at time n seen ∷ at.here.later)) = ap length at.here.lines in
-      let later : length behind ≡ length (flat_map instant_lines at.here.later) = ap length at.behind_is in
+      let later : length after ≡ length (flat_map instant_lines at.here.later) = ap length at.after_is in
       let sum = lines_here (instant_at time n seen) at.here.later in
       omega (arith, now, later, sum)
 
@@ -528,8 +528,8 @@ module _ (system : System) (t : Trace) (rest rows behind : List TraceLine) (time
       first_in_instant system t rest last was (instant_at time n seen) number o rule number_is ports (λ instants told. (at_each instants told).here) first form
 
   pub round_more : (now : Bool) → ((o r : ℕ) → BreaksIn system t last (instant_at time n seen) o r → ⊥) → IsTrue now ↔ (IsTrue was ⊎ (time ≡ t.stop)) →
-      (instants : List Instant) → AreInstantsOf t instants → Along system t instants behind (Some (time, n)) now
-  round_more now none reached instants told = along_more system t instants rest behind time n last was now seen (at_each instants told) none reached
+      (instants : List Instant) → AreInstantsOf t instants → Along system t instants after (Some (time, n)) now
+  round_more now none reached instants told = along_more system t instants rest after time n last was now seen (at_each instants told) none reached
 
 -- no instant is left
 module _ (system : System) (t : Trace) (rest : List TraceLine) (last : Option (ℕ × ℕ)) (is_reached : Bool) (form : IsTrace t)

@@ -15,8 +15,8 @@ pub record AreInstantsOf (t : Trace) (instants : List Instant) : Type 0 where
 -- ---- lines, by their numbers from 1 on
 
 -- the line after the header, the ports' lines and those of these instants
-abbrev pub line_behind : Trace → List Instant → ℕ
-line_behind t before = length t.ports + 2 + length (flat_map instant_lines before)
+abbrev pub line_after : Trace → List Instant → ℕ
+line_after t before = length t.ports + 2 + length (flat_map instant_lines before)
 
 abbrev pub end_line_number : Trace → ℕ
 end_line_number t = length t.ports + 2 + length t.lines

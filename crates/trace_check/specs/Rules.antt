@@ -5,7 +5,7 @@ use Rattle.system_model.specs.declared.plan.EndKind.TheVariants.{Stop}
 use Rattle.system_model.specs.declared.system.System.{System}
 use Rattle.trace_reading.specs.declared.trace.Trace.{Trace}
 use Rattle.trace_reading.specs.Written.{ports_told}
-use Rattle.trace_check.specs.Instants.{AreInstantsOf, IsInOrder, ReachesPoint, end_line_number, last_time, line_behind, lines_to}
+use Rattle.trace_check.specs.Instants.{AreInstantsOf, IsInOrder, ReachesPoint, end_line_number, last_time, line_after, lines_to}
 use Rattle.system_model.specs.Values.{value}
 use Rattle.trace_check.specs.Values.{DiffersFromSource}
 use Rattle.trace_check.specs.Ticks.{IsConstantClock, IsOffTick}
@@ -36,8 +36,8 @@ pub data Breaks (system : System) (t : Trace) (line rule : ℕ) : Type 0 where
   AtPort : (k : ℕ) → line ≡ k + 2 → rule ≡ 1 →
       slice_get t.ports k ≢ slice_get (ports_told system) k → Breaks system t line rule
   -- 2 to 4: the line is one of an instant
-  InInstant : (before behind : List Instant) (i : Instant) (offset : ℕ) →
-      AreInstantsOf t (before ++ (i ∷ behind)) → line ≡ line_behind t before + offset →
+  InInstant : (before after : List Instant) (i : Instant) (offset : ℕ) →
+      AreInstantsOf t (before ++ (i ∷ after)) → line ≡ line_after t before + offset →
       BreaksIn system t (last_time before) i offset rule → Breaks system t line rule
   -- 2: it is the end line of a run to its stop, which ends elsewhere
   AtEnd : (instants : List Instant) → AreInstantsOf t instants → line ≡ end_line_number t →

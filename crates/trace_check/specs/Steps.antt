@@ -45,10 +45,10 @@ BeginsNoValue (Value p v ∷ lines) = ⊥
 
 -- the lines are those of values, of which there are so many, and of what comes after them
 pub record BeginsWithValues (lines : List TraceLine) (ports : ℕ) (values : List (Option ℤ))
-    (behind : List TraceLine) : Type 0 where
+    (after : List TraceLine) : Type 0 where
   pub size : length values ≡ ports
-  pub parts : lines ≡ told_values_from 0 values ++ behind
-  pub ends : BeginsNoValue behind
+  pub parts : lines ≡ told_values_from 0 values ++ after
+  pub ends : BeginsNoValue after
 
 -- ---- the first of them that breaks a rule
 
@@ -57,7 +57,7 @@ pub record IsOtherValue (system : System) (values : List (Option ℤ)) (lines : 
   pub input : ℕ
   pub differs : DiffersFromSource system values input
   pub line : lines ≡ lines_to values input
-  pub behind : 0 < lines
+  pub after : 0 < lines
 
 pub record IsFirstIn (system : System) (t : Trace) (last : Option (ℕ × ℕ)) (i : Instant)
     (offset rule : ℕ) : Type 0 where

@@ -34,7 +34,7 @@ IsDue start interval shift t n = (n ≡ 0) × IsTick start shift interval t
 pub record TicksBetween (start interval shift from to : ℕ) : Type 0 where
   pub tick : ℕ
   pub ticks : IsTick start shift interval tick
-  pub behind : from < tick
+  pub after : from < tick
   pub before : tick < to
 
 -- it ticks between the point of the instant before and this one

@@ -63,7 +63,7 @@ fn check_instants(
     let mut is_reached = false;
     let mut rest = trace.lines.as_slice();
     while let Some((t, n, rows)) = next_at(rest) {
-        let (told, behind) = value_lines(rows);
+        let (told, after) = value_lines(rows);
         put_values(&mut values, told);
         if let Some((offset, rule)) = first_break(
             system, clocks, inputs, trace, last, t, n, told, &values,
@@ -76,7 +76,7 @@ fn check_instants(
         clear_values(&mut values, told);
         is_reached = is_reached || t == trace.stop;
         last = Some((t, n));
-        rest = behind;
+        rest = after;
     }
     if is_end_right(trace, is_reached) {
         Ok(Verdict::Yes)

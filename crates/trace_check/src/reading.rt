@@ -19,10 +19,10 @@ pub(crate) fn next_at(lines: &[TraceLine]) -> Option<(u64, u64, &[TraceLine])>
 
 /// The value lines that stand first, and what is left after them.
 pub(crate) fn value_lines(lines: &[TraceLine]) -> (&[TraceLine], &[TraceLine])
-    ensures told { (ports : ℕ) (values : List (Option ℤ)) (behind : List TraceLine) →
-        BeginsWithValues lines.now ports values behind → result.0.now ≡ told_values_from 0 values }
-    ensures rest { (ports : ℕ) (values : List (Option ℤ)) (behind : List TraceLine) →
-        BeginsWithValues lines.now ports values behind → result.1.now ≡ behind }
+    ensures told { (ports : ℕ) (values : List (Option ℤ)) (after : List TraceLine) →
+        BeginsWithValues lines.now ports values after → result.0.now ≡ told_values_from 0 values }
+    ensures rest { (ports : ℕ) (values : List (Option ℤ)) (after : List TraceLine) →
+        BeginsWithValues lines.now ports values after → result.1.now ≡ after }
 {
     for (k, line) in lines.iter().enumerate() {
         if let TraceLine::At { .. } = line {

@@ -22,10 +22,10 @@ AreFields-more (f ∷ forms) (v ∷ values) form value fields field (head, rest,
 -- the same after a text
 pub AddsFields-more : (forms : List Form) (values : List (Option ℤ)) (form : Form) (value : Option ℤ) (old mid new : List ℕ) → AddsFields forms values old mid →
     AddsField form value mid new → AddsFields (forms ++ (form ∷ [])) (values ++ (value ∷ [])) old new
-AddsFields-more forms values form value old mid new (fields, each, text) (field, it, behind) = (
+AddsFields-more forms values form value old mid new (fields, each, text) (field, it, after) = (
   fields ++ (44 ∷ field),
   AreFields-more forms values form value fields field each it,
-  behind ∙ ap (λ l. l ++ (44 ∷ field)) text ∙ append_assoc old fields (44 ∷ field),
+  after ∙ ap (λ l. l ++ (44 ∷ field)) text ∙ append_assoc old fields (44 ∷ field),
 )
 
 -- the field of the next port

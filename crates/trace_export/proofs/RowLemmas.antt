@@ -94,11 +94,11 @@ before_replaced (a ∷ rest) i k e =
     ap (λ (b : Bool). if b then last_before (rest ++ (i ∷ [])) k else a ∷ last_before (rest ++ (i ∷ [])) k) (same_next a.t rest i k)
     ∙ ap (λ (x : List Instant). if follows_at a.t (rest ++ (i ∷ [])) then x else a ∷ x) (before_replaced rest i k e)
 
-before_behind : (earlier : List Instant) (i k : Instant) → (i.t == k.t) ≡ false → last_before (earlier ++ (i ∷ [])) k ≡ last_before earlier i ++ (i ∷ [])
-before_behind [] i k e = ap (λ (b : Bool). if b then [] else (i ∷ [])) e
-before_behind (a ∷ rest) i k e =
+before_after : (earlier : List Instant) (i k : Instant) → (i.t == k.t) ≡ false → last_before (earlier ++ (i ∷ [])) k ≡ last_before earlier i ++ (i ∷ [])
+before_after [] i k e = ap (λ (b : Bool). if b then [] else (i ∷ [])) e
+before_after (a ∷ rest) i k e =
     ap (λ (b : Bool). if b then last_before (rest ++ (i ∷ [])) k else a ∷ last_before (rest ++ (i ∷ [])) k) (same_next a.t rest i k)
-    ∙ (ap (λ (x : List Instant). if follows_at a.t (rest ++ (i ∷ [])) then x else a ∷ x) (before_behind rest i k e)
+    ∙ (ap (λ (x : List Instant). if follows_at a.t (rest ++ (i ∷ [])) then x else a ∷ x) (before_after rest i k e)
     ∙ if_append (follows_at a.t (rest ++ (i ∷ []))) a i (last_before rest i))
 
 last_whole : (earlier : List Instant) (i : Instant) → last_at_points (earlier ++ (i ∷ [])) ≡ last_before earlier i ++ (i ∷ [])
@@ -115,9 +115,9 @@ replaced : (last : Bool) (earlier : List Instant) (i k : Instant) → (last && (
 replaced true earlier i k e = before_replaced earlier i k e
 replaced false earlier i k e = absurd (cc e)
 
-behind : (last : Bool) (earlier : List Instant) (i k : Instant) → (last && (i.t == k.t)) ≡ false → shown_before last (earlier ++ (i ∷ [])) k ≡ shown_before last earlier i ++ (i ∷ [])
-behind true earlier i k e = before_behind earlier i k e
-behind false earlier i k e = refl
+after : (last : Bool) (earlier : List Instant) (i k : Instant) → (last && (i.t == k.t)) ≡ false → shown_before last (earlier ++ (i ∷ [])) k ≡ shown_before last earlier i ++ (i ∷ [])
+after true earlier i k e = before_after earlier i k e
+after false earlier i k e = refl
 
 -- ---- the first instant, the next and the last
 
@@ -160,7 +160,7 @@ next_row remaining old new forms last point bytes before row text moment out mor
       stands = subst P (rows_more (has.earlier ++ (has.instant ∷ [])) (instant_of moment)) (goes (rows (flat_map instant_lines (has.earlier ++ (has.instant ∷ [])))) has.stands);
       at = refl;
       table = has.table ++ (row ∷ []);
-      each = subst Q (sym (behind last has.earlier has.instant (instant_of moment) (sym is))) (zip_more forms (shown_before last has.earlier has.instant) has.table has.instant row has.each has.waits);
+      each = subst Q (sym (after last has.earlier has.instant (instant_of moment) (sym is))) (zip_more forms (shown_before last has.earlier has.instant) has.table has.instant row has.each has.waits);
       waits = it;
       written_is = passed (before ++ concat has.table) has.written_is
           ∙ ap (λ (x : List ℕ). Some x) (append_assoc before (concat has.table) row ∙ ap (λ (x : List ℕ). before ++ x) (sym (concat_more has.table row)));

@@ -110,12 +110,12 @@ fn compare_instants<A: BufRead, B: BufRead>(
             return Ok(compare_ends(first, second, out)?);
         }
         let is_before = has_first && (!has_second || (a.t, a.n) < (b.t, b.n));
-        let is_behind = has_second && (!has_first || (b.t, b.n) < (a.t, a.n));
+        let is_after = has_second && (!has_first || (b.t, b.n) < (a.t, a.n));
         if is_before {
             append_only("first", &a, out)?;
             return Ok(false);
         }
-        if is_behind {
+        if is_after {
             append_only("second", &b, out)?;
             return Ok(false);
         }

@@ -132,8 +132,8 @@ fn place_of(header: &Header, t: u64) -> usize {
     if span == 0 {
         return 0;
     }
-    let behind = t.saturating_sub(header.start).min(span);
-    (u128::from(behind) * 719 / u128::from(span)) as usize
+    let after = t.saturating_sub(header.start).min(span);
+    (u128::from(after) * 719 / u128::from(span)) as usize
 }
 
 // ---- the picture
@@ -354,8 +354,8 @@ fn append_axis(
     let span = header.stop.saturating_sub(header.start);
     let mut label = Vec::new(alloc);
     for tick in 0..TICKS + 1 {
-        let behind = (u128::from(span) * u128::from(tick) / 4) as u64;
-        let t = header.start.saturating_add(behind);
+        let after = (u128::from(span) * u128::from(tick) / 4) as u64;
+        let t = header.start.saturating_add(after);
         label.clear();
         append_seconds(t, resolution, &mut label)?;
         let x = LEFT.saturating_add(place_of(header, t) as u64);

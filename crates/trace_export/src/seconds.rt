@@ -100,10 +100,10 @@ fn append_point(digits: u64, places: usize, out: &mut Vec<u8>) -> Result<(), All
         return out.extend_from_slice(text);
     }
     if text.len() > places {
-        let (whole, behind) = text.split_at(text.len() - places);
+        let (whole, after) = text.split_at(text.len() - places);
         out.extend_from_slice(whole)?;
         out.push(b'.')?;
-        return out.extend_from_slice(behind);
+        return out.extend_from_slice(after);
     }
     out.extend_from_slice(b"0.")?;
     for _ in text.len()..places {

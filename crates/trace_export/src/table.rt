@@ -166,7 +166,7 @@ fn append_fields(
     ensures { OnOk result (AddsFields forms.now values.now out.old.items out.new.items) }
 {
     'fields: for (port, form) in forms.iter().enumerate() {
-        append_behind_comma(
+        append_after_comma(
             Cell {
                 form: *form,
                 value: values[port],
@@ -177,7 +177,7 @@ fn append_fields(
     Ok(())
 }
 
-fn append_behind_comma(cell: Cell, out: &mut Vec<u8>) -> Result<(), AllocError>
+fn append_after_comma(cell: Cell, out: &mut Vec<u8>) -> Result<(), AllocError>
     ensures { OnOk result (AddsField cell.form cell.value out.old.items out.new.items) }
 {
     out.push(b',')?;

@@ -25,8 +25,8 @@ use Rattle.trace_check.specs.Ticks.{IsConstant, IsConstantClock}
 use Rattle.trace_check.specs.Values.{DiffersFromSource}
 use Rattle.system_loading.specs.Assembly.{HaveSameParts}
 use Rattle.system_files.specs.declared.loaded.Loaded.{Loaded}
-use Rattle.system_files.specs.declared.loading.LoadEnd.{LoadEnd}
-use Rattle.system_files.specs.declared.loading.LoadEnd.TheVariants as end
+use Rattle.system_files.specs.declared.loading.LoadError.{LoadError}
+use Rattle.system_files.specs.declared.loading.LoadError.TheVariants as end
 use Rattle.system_files.specs.declared.named.FileFault.TheVariants.{Unread, Missing, TooBig, Broken}
 use Rattle.system_files.specs.Files.{Absent, AreSteady, Faulty, Flaw, HasFile, Holds, LacksFile, Long}
 use Rattle.system_files.specs.Loads.{EndsLoading, Loads}
@@ -35,7 +35,7 @@ use Rattle.system_files.specs.Order as order
 use Rattle.system_files.specs.Steps.{EndsUnread, LeavesFile, TakesFile}
 use Rattle.system_files.proofs.AskLemmas.{asked_then}
 use Rattle.trace_judging.specs.Judging.{Agree, AllFiles, ByRules, Gives, HoldsTrace, IsVerdict, Judged, Judgement, Judges, Lacks, LacksVerdict, NoRule, NoSystem, NoTrace, Nothing, OfSystem, OfTrace, OutOfForm, Question, SomeFiles, TakesTrace, TheTrace, search_for}
-use Rattle.trace_judging.specs.Steps.{BehindSystem, JudgesTrace, LacksTraceVerdict, Unloaded}
+use Rattle.trace_judging.specs.Steps.{AfterSystem, JudgesTrace, LacksTraceVerdict, Unloaded}
 
 -- ---- the laws of texts
 
@@ -133,7 +133,7 @@ module _ (s u : System) (same : HaveSameParts s u) (t : Trace) where
 
   pub breaks_there : (line rule : ℕ) → Breaks s t line rule → Breaks u t line rule
   breaks_there line rule (AtPort k at r other) = AtPort k at r (λ e. other (e ∙ ap (λ (ports : List TracePort). slice_get ports k) (sym told_there)))
-  breaks_there line rule (InInstant before behind i offset are at b) = InInstant before behind i offset are at (breaks_in (last_time before) i offset rule b)
+  breaks_there line rule (InInstant before after i offset are at b) = InInstant before after i offset are at (breaks_in (last_time before) i offset rule b)
   breaks_there line rule (AtEnd instants are at r kind off) = AtEnd instants are at r kind off
 
 parts_back : (s u : System) → HaveSameParts s u → HaveSameParts u s
@@ -268,19 +268,19 @@ module _ (laws : LawsOfTexts) (q : Question) (old new : FolderView) where
       asks = asked_then old mid new takes.reads j.loads.reads (q.file ∷ []) j.loads.asked takes.asks j.loads.asks;
     }
 
-    ends_lacking : (ended : LoadEnd) → EndsLoading (search_for q t) ended mid new → LacksVerdict q ended old new
+    ends_lacking : (ended : LoadError) → EndsLoading (search_for q t) ended mid new → LacksVerdict q ended old new
     ends_lacking (end.File file Unread) f = OfSystem t mid takes f
     ends_lacking (end.File file Missing) f = unloaded_judged file.path Absent f
     ends_lacking (end.File file TooBig) f = unloaded_judged file.path Long f
     ends_lacking (end.File file (Broken rule place ports)) f = unloaded_judged file.path (Faulty rule place ports) f
     ends_lacking end.Memory some = SomeFiles t mid takes some
 
-    pub lacks_verdict : (ended : LoadEnd) → LacksTraceVerdict (search_for q t) ended mid new → LacksVerdict q ended old new
+    pub lacks_verdict : (ended : LoadError) → LacksTraceVerdict (search_for q t) ended mid new → LacksVerdict q ended old new
     lacks_verdict ended (Unloaded ends) = ends_lacking ended ends
-    lacks_verdict ended (BehindSystem loaded e loads) = subst (λ (x : LoadEnd). LacksVerdict q x old new) (sym e) (AllFiles t loaded mid takes loads)
+    lacks_verdict ended (AfterSystem loaded e loads) = subst (λ (x : LoadError). LacksVerdict q x old new) (sym e) (AllFiles t loaded mid takes loads)
 
   -- the file of the trace wasn't read
-  pub unread_lacking : (ended : LoadEnd) → EndsUnread q.file ended old new → LacksVerdict q ended old new
+  pub unread_lacking : (ended : LoadError) → EndsUnread q.file ended old new → LacksVerdict q ended old new
   unread_lacking (end.File file Unread) f = OfTrace f.0 (subst (λ (p : List ℕ). new ≡ with_read old p (Err r.Failed)) (sym f.0) f.1)
   unread_lacking (end.File file Missing) f = subst (λ (p : List ℕ). Judged q (Lacks p Absent) old new) (sym f.0) (lacks_judged Absent f.1)
   unread_lacking (end.File file TooBig) f = subst (λ (p : List ℕ). Judged q (Lacks p Long) old new) (sym f.0) (lacks_judged Long f.1)

@@ -14,8 +14,8 @@ use Rattle.trace_check.specs.declared.verdict.Verdict.{Verdict}
 use Rattle.trace_check.specs.declared.verdict.Verdict.TheVariants.{Yes, No}
 use Rattle.trace_check.specs.Rules.{IsFirst, KeepsRules}
 use Rattle.system_files.specs.declared.loaded.Loaded.{Loaded}
-use Rattle.system_files.specs.declared.loading.LoadEnd.{LoadEnd}
-use Rattle.system_files.specs.declared.loading.LoadEnd.TheVariants as end
+use Rattle.system_files.specs.declared.loading.LoadError.{LoadError}
+use Rattle.system_files.specs.declared.loading.LoadError.TheVariants as end
 use Rattle.system_files.specs.declared.named.FileFault.TheVariants.{Unread, Missing, TooBig, Broken}
 use Rattle.system_files.specs.declared.subject.Subject.TheVariants as what
 use Rattle.system_files.specs.Files.{Absent, AreSteady, Faulty, Flaw, HasFile, LacksFile, Long}
@@ -117,7 +117,7 @@ pub data ReadsFew (q : Question) (old new : FolderView) : Type 0 where
       Loads (search_for q t) (Found loaded) mid new → ReadsFew q old new
 
 -- why there is no verdict
-abbrev pub LacksVerdict : Question → LoadEnd → FolderView → FolderView → Type 0
+abbrev pub LacksVerdict : Question → LoadError → FolderView → FolderView → Type 0
 LacksVerdict q (end.File file Unread) old new = FailsReading q file.path old new
 LacksVerdict q (end.File file Missing) old new = Judged q (Lacks file.path Absent) old new
 LacksVerdict q (end.File file TooBig) old new = Judged q (Lacks file.path Long) old new

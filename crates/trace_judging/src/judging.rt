@@ -6,7 +6,7 @@ ghost use Rattle.trace_judging.specs.Steps.{JudgesTrace, LacksTraceVerdict};
 
 use sim_base::Folder;
 use std::alloc::Global;
-use system_files::{LoadEnd, Subject, load, read_file};
+use system_files::{LoadError, Subject, load, read_file};
 use trace_check::{Verdict, check, laws_of_checks};
 use trace_reading::{Trace, TraceFault, read_trace, texts_of_traces};
 
@@ -18,7 +18,7 @@ pub fn judge<F: Folder>(
     directory: &str,
     file: &str,
     folder: &mut F,
-) -> Result<Verdict, LoadEnd>
+) -> Result<Verdict, LoadError>
     ensures ok { IfOk result
         (λ verdict. Judged (record { directory = directory.now; file = file.now }) (Gives verdict)
         (F.view folder.old) (F.view folder.new)) }
@@ -28,10 +28,10 @@ pub fn judge<F: Folder>(
 {
     texts_of_traces();
     match read_file(alloc, file, folder) {
-        Ok(bytes) => match read_trace(alloc, &bytes) {
+        Ok(bytes) => match read_trace(alloc, bytes.as_slice()) {
             Ok(trace) => judge_trace(alloc, directory, &trace, folder),
             Err(TraceFault::Line(line)) => Ok(Verdict::No { line, rule: 1 }),
-            Err(TraceFault::Memory) => Err(LoadEnd::Memory),
+            Err(TraceFault::Memory) => Err(LoadError::Memory),
         },
         Err(end) => Err(end),
     }
@@ -43,7 +43,7 @@ fn judge_trace<F: Folder>(
     directory: &str,
     trace: &Trace,
     folder: &mut F,
-) -> Result<Verdict, LoadEnd>
+) -> Result<Verdict, LoadError>
     requires form { IsTrace trace.now }
     requires lines { length trace.now.ports + length trace.now.lines + 2 < 2 ^ 64 }
     ensures ok { IfOk result
@@ -58,7 +58,7 @@ fn judge_trace<F: Folder>(
             laws_of_checks();
             match check(alloc, &loaded.system, trace) {
                 Ok(verdict) => Ok(verdict),
-                Err(_) => Err(LoadEnd::Memory),
+                Err(_) => Err(LoadError::Memory),
             }
         }
         Err(end) => Err(end),

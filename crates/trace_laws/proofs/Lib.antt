@@ -3,7 +3,7 @@ pub mod Steps
 pub mod Timers
 pub mod Clocks
 pub mod Lines
-pub mod Along
+pub mod RunOrder
 pub mod Rules
 pub mod Parts
 pub mod Pieces

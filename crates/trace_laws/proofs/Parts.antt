@@ -46,7 +46,7 @@ module _ (one other : System) (components : one.components ≡ other.components)
 
   pub breaks_there : (t : Trace) (line rule : ℕ) → Breaks other t line rule → Breaks one t line rule
   breaks_there t line rule (AtPort k at rule_is differs) = AtPort k at rule_is (λ same. differs (same ∙ ap (λ (ps : List TracePort). slice_get ps k) told_same))
-  breaks_there t line rule (InInstant before behind i offset told at breaks) = InInstant before behind i offset told at (breaks_in t _ i offset rule breaks)
+  breaks_there t line rule (InInstant before after i offset told at breaks) = InInstant before after i offset told at (breaks_in t _ i offset rule breaks)
   breaks_there t line rule (AtEnd instants told at rule_is stop wrong) = AtEnd instants told at rule_is stop wrong
 
 pub of_parts : IsOfParts

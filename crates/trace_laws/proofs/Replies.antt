@@ -31,14 +31,14 @@ refused false e = cc e
 abbrev pub IsBetween : ℕ → ℕ → ℕ → Type 0
 IsBetween t b x = (t < x) × (x ≤ b)
 
-front_two : (a b c d : Bool) → (a && b && c && d) ≡ true → (a ≡ true) × (b ≡ true)
-front_two true true c d e = (refl, refl)
-front_two true false c d e = absurd (true_false (sym e))
-front_two false b c d e = absurd (true_false (sym e))
+prefix_two : (a b c d : Bool) → (a && b && c && d) ≡ true → (a ≡ true) × (b ≡ true)
+prefix_two true true c d e = (refl, refl)
+prefix_two true false c d e = absurd (true_false (sym e))
+prefix_two false b c d e = absurd (true_false (sym e))
 
 within_step : (shape : Shape) (at size end : ℕ) (early : Bool) → is_step_end shape at size early end ≡ true → IsBetween at (at + size) end
 within_step shape at size end early e =
-    let two = front_two (nat_lt at end) (nat_le end (at + size)) _ _ e in
+    let two = prefix_two (nat_lt at end) (nat_le end (at + size)) _ _ e in
     (ltb-true at end two.0, leb-true end (at + size) two.1)
 
 -- it ends above its beginning, and at most where it was asked to

@@ -28,7 +28,7 @@ use Rattle.trace_check.specs.Rules.BreaksIn.{OutOfOrder, OffSource, OffTick}
 use Rattle.trace_laws.specs.Laws.{IsTraceOf, RunsWell}
 use Rattle.trace_laws.proofs.Timers.{IsPeriodicPort}
 use Rattle.trace_laws.proofs.Lines.{same_instants}
-use Rattle.trace_laws.proofs.Along.{Comes, Stands, first_comes, first_stands, in_form, leads_off, leads_on, leads_out}
+use Rattle.trace_laws.proofs.RunOrder.{Comes, Stands, first_comes, first_stands, in_form, leads_off, leads_on, leads_out}
 
 -- ---- one instant
 
@@ -79,15 +79,15 @@ keeps_in r s V last at comes solves = record {
 -- ---- all instants
 
 -- what is said of each instant and the time of the one before it
-abbrev pub AllBehind : (Option (ℕ × ℕ) → Instant → Type 0) → Option (ℕ × ℕ) → List Instant → Type 0
-AllBehind P last [] = Unit {0}
-AllBehind P last (i ∷ is) = P last i × AllBehind P (Some (i.t, i.n)) is
+abbrev pub AllAfter : (Option (ℕ × ℕ) → Instant → Type 0) → Option (ℕ × ℕ) → List Instant → Type 0
+AllAfter P last [] = Unit {0}
+AllAfter P last (i ∷ is) = P last i × AllAfter P (Some (i.t, i.n)) is
 
 abbrev last_or : Option (ℕ × ℕ) → List Instant → Option (ℕ × ℕ)
 last_or last [] = last
 last_or last (i ∷ is) = last_or (Some (i.t, i.n)) is
 
-at_cut : (P : Option (ℕ × ℕ) → Instant → Type 0) (last : Option (ℕ × ℕ)) (a b : List Instant) (i : Instant) → AllBehind P last (a ++ (i ∷ b)) → P (last_or last a) i
+at_cut : (P : Option (ℕ × ℕ) → Instant → Type 0) (last : Option (ℕ × ℕ)) (a b : List Instant) (i : Instant) → AllAfter P last (a ++ (i ∷ b)) → P (last_or last a) i
 at_cut P last [] b i all = all.0
 at_cut P last (j ∷ a) b i all = at_cut P (Some (j.t, j.n)) a b i all.1
 
@@ -106,7 +106,7 @@ last_is (i ∷ is) =
 
 -- the instants and the end, after the instant at last
 pub record Told (r : Run) (last : Option (ℕ × ℕ)) (is : List Instant) (kind : EndKind) (end : ℕ) : Type 0 where
-  pub keep : AllBehind (KeepsIn r) last is
+  pub keep : AllAfter (KeepsIn r) last is
   pub form : AllByRecursion (IsInstant (kinds_of (ports_told r.system))) is
   pub low : end ≤ r.plan.stop
   pub stops : kind ≡ Stop → (end ≡ r.plan.stop) × ReachesPoint r.plan.stop is
@@ -164,7 +164,7 @@ keeps_told : (r : Run) (is : List Instant) (kind : EndKind) (end : ℕ) → Told
 keeps_told r is kind end all line rule (AtPort k at rule_is differs) = differs refl
 keeps_told r is kind end all line rule (InInstant a b i offset lines at breaks) =
     let same : a ++ (i ∷ b) ≡ is = same_instants (kinds_of (ports_told r.system)) (a ++ (i ∷ b)) is lines.each all.form (sym lines.lines) in
-    let keep : AllBehind (KeepsIn r) None (a ++ (i ∷ b)) = subst (AllBehind (KeepsIn r) None) (sym same) all.keep in
+    let keep : AllAfter (KeepsIn r) None (a ++ (i ∷ b)) = subst (AllAfter (KeepsIn r) None) (sym same) all.keep in
     let here : KeepsIn r (last_time a) i = subst (λ (last : Option (ℕ × ℕ)). KeepsIn r last i) (sym (last_is a)) (at_cut (KeepsIn r) None a b i keep) in
     breaks_none r is kind end (last_time a) i offset rule here breaks
 keeps_told r is kind end all line rule (AtEnd instants lines at rule_is stop wrong) =

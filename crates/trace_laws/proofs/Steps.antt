@@ -97,7 +97,7 @@ module _ (r : Run) (z : Situation) (behave : (i : ℕ) → BehavesInStep r z i) 
       record {
         later = between.0;
         within = omega (arith, between.1, stop);
-        passes_none = λ p tick timer at ticks behind.
-            let low : step.bound ≤ tick = step.is_bound.least tick behind (AtTick (p, timer, at, ticks)) in
+        passes_none = λ p tick timer at ticks after.
+            let low : step.bound ≤ tick = step.is_bound.least tick after (AtTick (p, timer, at, ticks)) in
             omega (arith, between.1, low);
       }

@@ -12,7 +12,7 @@ use Rattle.trace_reading.specs.declared.item.Item.{Item}
 use Rattle.trace_reading.specs.declared.item.Item.TheVariants.{Row, End}
 use Rattle.trace_reading.specs.declared.item.Place.{Place}
 use Rattle.trace_reading.specs.declared.item.Place.TheVariants.{Between, Within, Ended}
-use Rattle.trace_reading.specs.Walk.{walk, place_behind, is_next, is_closed, fits_at, clocks_before}
+use Rattle.trace_reading.specs.Walk.{walk, place_after, is_next, is_closed, fits_at, clocks_before}
 use Rattle.trace_reading.proofs.ListLemmas.{both, one_more}
 use Rattle.trace_reading.proofs.BodyLemmas.{none_left}
 use Rattle.trace_reading.proofs.FaultLemmas.{stepped}
@@ -61,7 +61,7 @@ walk_on kinds place last end [] more good rest =
     let same : Some place ≡ Some last = good in
     ap (λ (o : Option Place). option_and_then (λ (p : Place). walk kinds p more) o) same ∙ rest
 walk_on kinds place last end (b ∷ bs) more good rest =
-    let s = stepped kinds (place_behind kinds place b) bs last good in
+    let s = stepped kinds (place_after kinds place b) bs last good in
     ap (λ (o : Option Place). option_and_then (λ (p : Place). walk kinds p (bs ++ more)) o) s.step ∙ walk_on kinds s.next last end bs more s.rest rest
 
 -- what was walked begins a walk to an end

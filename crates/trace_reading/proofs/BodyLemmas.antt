@@ -104,10 +104,10 @@ pub record Open (kinds : List PortType) (kind : EndKind) (point next : ℕ) (ite
   pub lines : items ≡ rows (told_values_from next values) ++ later
 
 -- what lies after a place, where the walk gets to the end
-abbrev Behind : List PortType → EndKind → ℕ → Place → List Item → Type 0
-Behind kinds kind point Between items = Body kinds kind point items
-Behind kinds kind point (Within next) items = Open kinds kind point next items
-Behind kinds kind point (Ended k t) items = (items ≡ []) × (Ended k t ≡ Ended kind point)
+abbrev After : List PortType → EndKind → ℕ → Place → List Item → Type 0
+After kinds kind point Between items = Body kinds kind point items
+After kinds kind point (Within next) items = Open kinds kind point next items
+After kinds kind point (Ended k t) items = (items ≡ []) × (Ended k t ≡ Ended kind point)
 
 begin_instant : (kinds : List PortType) (kind : EndKind) (point t n : ℕ) (items : List Item) → is_start t n ≡ true → Open kinds kind point 0 items → Body kinds kind point (Row (At t n) ∷ items)
 begin_instant kinds kind point t n items start left =
@@ -167,8 +167,8 @@ back kinds kind point (suc d) k items low few left =
     let counts = ap (λ (m : ℕ). clocks_before kinds m) up in
     let first = more_clocks kinds k port.kind port.at in
     let others = no_fewer kinds (k + 1) d (omega (arith, low)) in
-    let behind_it = back kinds kind point d (k + 1) items (omega (arith, low)) (omega (arith, few, counts, first)) (subst P up left) in
-    one_back kinds kind point k items port (same_count kinds k port.kind port.at (omega (arith, few, counts, others))) behind_it
+    let after_it = back kinds kind point d (k + 1) items (omega (arith, low)) (omega (arith, few, counts, first)) (subst P up left) in
+    one_back kinds kind point k items port (same_count kinds k port.kind port.at (omega (arith, few, counts, others))) after_it
 
 nothing : (kinds : List PortType) (kind : EndKind) (point next : ℕ) (items : List Item) → length kinds ≤ next → Body kinds kind point items → Open kinds kind point next items
 nothing kinds kind point next items past body =
@@ -209,32 +209,32 @@ more_value kinds kind point next port value items test left =
     let R : ℕ → Type 0 = λ m. Open kinds kind point m (Row (Value port value) ∷ items) in
     back kinds kind point (port - next) next (Row (Value port value) ∷ items) (omega (arith, up, within)) (omega (arith, counts, ap (λ (m : ℕ). clocks_before kinds m) up)) (subst R (sym up) at_port)
 
-behind : (kinds : List PortType) (kind : EndKind) (point : ℕ) (place : Place) (items : List Item) → walk kinds place items ≡ Some (Ended kind point) → Behind kinds kind point place items
-behind kinds kind point Between [] w = absurd (cc w)
-behind kinds kind point (Within next) [] w = absurd (cc w)
-behind kinds kind point (Ended k t) [] w = (refl, unsome (Ended k t) (Ended kind point) w)
-behind kinds kind point Between (Row (At t n) ∷ items) w =
+after : (kinds : List PortType) (kind : EndKind) (point : ℕ) (place : Place) (items : List Item) → walk kinds place items ≡ Some (Ended kind point) → After kinds kind point place items
+after kinds kind point Between [] w = absurd (cc w)
+after kinds kind point (Within next) [] w = absurd (cc w)
+after kinds kind point (Ended k t) [] w = (refl, unsome (Ended k t) (Ended kind point) w)
+after kinds kind point Between (Row (At t n) ∷ items) w =
     let step = went kinds (is_start t n) (Within 0) items (Ended kind point) w in
-    begin_instant kinds kind point t n items step.0 (behind kinds kind point (Within 0) items step.1)
-behind kinds kind point (Within next) (Row (At t n) ∷ items) w =
+    begin_instant kinds kind point t n items step.0 (after kinds kind point (Within 0) items step.1)
+after kinds kind point (Within next) (Row (At t n) ∷ items) w =
     let step = went kinds (is_closed kinds (Within next) && is_start t n) (Within 0) items (Ended kind point) w in
     let tests = parts (is_closed kinds (Within next)) (is_start t n) step.0 in
-    close kinds kind point next (Row (At t n) ∷ items) tests.0 (begin_instant kinds kind point t n items tests.1 (behind kinds kind point (Within 0) items step.1))
-behind kinds kind point (Ended k t) (Row (At u n) ∷ items) w = absurd (cc w)
-behind kinds kind point Between (Row (Value port value) ∷ items) w = absurd (cc w)
-behind kinds kind point (Within next) (Row (Value port value) ∷ items) w =
+    close kinds kind point next (Row (At t n) ∷ items) tests.0 (begin_instant kinds kind point t n items tests.1 (after kinds kind point (Within 0) items step.1))
+after kinds kind point (Ended k t) (Row (At u n) ∷ items) w = absurd (cc w)
+after kinds kind point Between (Row (Value port value) ∷ items) w = absurd (cc w)
+after kinds kind point (Within next) (Row (Value port value) ∷ items) w =
     let step = went kinds (is_next kinds next port value) (Within (port + 1)) items (Ended kind point) w in
-    more_value kinds kind point next port value items step.0 (behind kinds kind point (Within (port + 1)) items step.1)
-behind kinds kind point (Ended k t) (Row (Value port value) ∷ items) w = absurd (cc w)
-behind kinds kind point Between (End k t ∷ items) w =
+    more_value kinds kind point next port value items step.0 (after kinds kind point (Within (port + 1)) items step.1)
+after kinds kind point (Ended k t) (Row (Value port value) ∷ items) w = absurd (cc w)
+after kinds kind point Between (End k t ∷ items) w =
     let step = went kinds (nat_le t (2 ^ 62)) (Ended k t) items (Ended kind point) w in
-    end_body kinds kind k point t items step.0 (behind kinds kind point (Ended k t) items step.1)
-behind kinds kind point (Within next) (End k t ∷ items) w =
+    end_body kinds kind k point t items step.0 (after kinds kind point (Ended k t) items step.1)
+after kinds kind point (Within next) (End k t ∷ items) w =
     let step = went kinds (is_closed kinds (Within next) && nat_le t (2 ^ 62)) (Ended k t) items (Ended kind point) w in
     let tests = parts (is_closed kinds (Within next)) (nat_le t (2 ^ 62)) step.0 in
-    close kinds kind point next (End k t ∷ items) tests.0 (end_body kinds kind k point t items tests.1 (behind kinds kind point (Ended k t) items step.1))
-behind kinds kind point (Ended k t) (End k2 t2 ∷ items) w = absurd (cc w)
+    close kinds kind point next (End k t ∷ items) tests.0 (end_body kinds kind k point t items tests.1 (after kinds kind point (Ended k t) items step.1))
+after kinds kind point (Ended k t) (End k2 t2 ∷ items) w = absurd (cc w)
 
 -- what is walked to its end is in form
 pub sound : (kinds : List PortType) (kind : EndKind) (point : ℕ) (items : List Item) → walk kinds Between items ≡ Some (Ended kind point) → Body kinds kind point items
-sound kinds kind point items w = behind kinds kind point Between items w
+sound kinds kind point items w = after kinds kind point Between items w

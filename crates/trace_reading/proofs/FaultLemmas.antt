@@ -12,7 +12,7 @@ use Rattle.trace_reading.specs.declared.item.Item.{Item}
 use Rattle.trace_reading.specs.declared.item.Item.TheVariants.{Row, End}
 use Rattle.trace_reading.specs.declared.item.Place.{Place}
 use Rattle.trace_reading.specs.Lines.{IsShort, Lacks}
-use Rattle.trace_reading.specs.Walk.{walk, place_behind, item_line, IsShortItem}
+use Rattle.trace_reading.specs.Walk.{walk, place_after, item_line, IsShortItem}
 use Rattle.trace_reading.proofs.ListLemmas.{heads, tails, unsome}
 use Rattle.trace_reading.proofs.LineLemmas.{lacks_decimal, one_cut, begins_with_digit}
 
@@ -93,30 +93,30 @@ stepped kinds None items end e = absurd (cc e)
 stepped kinds (Some p) items end e = record { next = p; step = refl; rest = e }
 
 -- no walk to an end begins with these lines
-pub stuck : (kinds : List PortType) (place last end : Place) (before all : List Item) (line : List ℕ) (more : List (List ℕ)) → ((p q : Place) (item : Item) → place_behind kinds p item ≡ Some q → IsShortItem item) → walk kinds place before ≡ Some last → ((item : Item) → IsShortItem item → line ≡ item_line item → place_behind kinds last item ≡ None) → walk kinds place all ≡ Some end → map item_line all ≡ map item_line before ++ (line ∷ more) → ⊥
+pub stuck : (kinds : List PortType) (place last end : Place) (before all : List Item) (line : List ℕ) (more : List (List ℕ)) → ((p q : Place) (item : Item) → place_after kinds p item ≡ Some q → IsShortItem item) → walk kinds place before ≡ Some last → ((item : Item) → IsShortItem item → line ≡ item_line item → place_after kinds last item ≡ None) → walk kinds place all ≡ Some end → map item_line all ≡ map item_line before ++ (line ∷ more) → ⊥
 stuck kinds place last end [] [] line more short good wrong whole e = cc e
 stuck kinds place last end [] (x ∷ xs) line more short good wrong whole e =
-    let x_step = stepped kinds (place_behind kinds place x) xs end whole in
+    let x_step = stepped kinds (place_after kinds place x) xs end whole in
     let at : place ≡ last = unsome place last good in
     let none = wrong x (short place x_step.next x x_step.step) (sym (heads (item_line x) line (map item_line xs) more e)) in
-    not_both (place_behind kinds place x) x_step.next (ap (λ (p : Place). place_behind kinds p x) at ∙ none) x_step.step
+    not_both (place_after kinds place x) x_step.next (ap (λ (p : Place). place_after kinds p x) at ∙ none) x_step.step
 stuck kinds place last end (b ∷ bs) [] line more short good wrong whole e = cc e
 stuck kinds place last end (b ∷ bs) (x ∷ xs) line more short good wrong whole e =
-    let b_step = stepped kinds (place_behind kinds place b) bs last good in
-    let x_step = stepped kinds (place_behind kinds place x) xs end whole in
+    let b_step = stepped kinds (place_after kinds place b) bs last good in
+    let x_step = stepped kinds (place_after kinds place x) xs end whole in
     let same : x ≡ b = one_item x b (short place x_step.next x x_step.step) (short place b_step.next b b_step.step) (heads (item_line x) (item_line b) (map item_line xs) (map item_line bs ++ (line ∷ more)) e) in
-    let places : x_step.next ≡ b_step.next = unsome x_step.next b_step.next (sym x_step.step ∙ ap (λ (i : Item). place_behind kinds place i) same ∙ b_step.step) in
+    let places : x_step.next ≡ b_step.next = unsome x_step.next b_step.next (sym x_step.step ∙ ap (λ (i : Item). place_after kinds place i) same ∙ b_step.step) in
     stuck kinds b_step.next last end bs xs line more short b_step.rest wrong (ap (λ (p : Place). walk kinds p xs) (sym places) ∙ x_step.rest) (tails (item_line x) (item_line b) (map item_line xs) (map item_line bs ++ (line ∷ more)) e)
 
 -- the items of some lines are the same
-pub same_items : (ms bs : List Item) → (kinds : List PortType) (place end end2 : Place) → ((p q : Place) (item : Item) → place_behind kinds p item ≡ Some q → IsShortItem item) → walk kinds place ms ≡ Some end → walk kinds place bs ≡ Some end2 → map item_line ms ≡ map item_line bs → ms ≡ bs
+pub same_items : (ms bs : List Item) → (kinds : List PortType) (place end end2 : Place) → ((p q : Place) (item : Item) → place_after kinds p item ≡ Some q → IsShortItem item) → walk kinds place ms ≡ Some end → walk kinds place bs ≡ Some end2 → map item_line ms ≡ map item_line bs → ms ≡ bs
 same_items [] [] kinds place end end2 short wa wb e = refl
 same_items [] (b ∷ bs) kinds place end end2 short wa wb e = absurd (cc e)
 same_items (a ∷ ms) [] kinds place end end2 short wa wb e = absurd (cc e)
 same_items (a ∷ ms) (b ∷ bs) kinds place end end2 short wa wb e =
-    let a_step = stepped kinds (place_behind kinds place a) ms end wa in
-    let b_step = stepped kinds (place_behind kinds place b) bs end2 wb in
+    let a_step = stepped kinds (place_after kinds place a) ms end wa in
+    let b_step = stepped kinds (place_after kinds place b) bs end2 wb in
     let same : a ≡ b = one_item a b (short place a_step.next a a_step.step) (short place b_step.next b b_step.step) (heads (item_line a) (item_line b) (map item_line ms) (map item_line bs) e) in
-    let places : b_step.next ≡ a_step.next = unsome b_step.next a_step.next (sym b_step.step ∙ ap (λ (i : Item). place_behind kinds place i) (sym same) ∙ a_step.step) in
+    let places : b_step.next ≡ a_step.next = unsome b_step.next a_step.next (sym b_step.step ∙ ap (λ (i : Item). place_after kinds place i) (sym same) ∙ a_step.step) in
     let later = same_items ms bs kinds a_step.next end end2 short a_step.rest (ap (λ (p : Place). walk kinds p bs) (sym places) ∙ b_step.rest) (tails (item_line a) (item_line b) (map item_line ms) (map item_line bs) e) in
     cc (same, later)

@@ -19,29 +19,29 @@ record Onward (before : List (List ℕ)) (after : List ℕ) (longer : List (List
   free : Lacks 10 line
 
 -- of two prefixes of a text by whole lines one is the other, or goes on after it
-data Fronts (a : List (List ℕ)) (x : List ℕ) (b : List (List ℕ)) (y : List ℕ) : Type 0 where
-  Same : a ≡ b → Fronts a x b y
-  Before : Onward a x b → Fronts a x b y
-  Behind : Onward b y a → Fronts a x b y
+data Prefixes (a : List (List ℕ)) (x : List ℕ) (b : List (List ℕ)) (y : List ℕ) : Type 0 where
+  Same : a ≡ b → Prefixes a x b y
+  Before : Onward a x b → Prefixes a x b y
+  After : Onward b y a → Prefixes a x b y
 
-text_behind : (b : List ℕ) (bs : List (List ℕ)) (y : List ℕ) → lines_text (b ∷ bs) ++ y ≡ b ++ (10 ∷ (lines_text bs ++ y))
-text_behind b bs y = append_assoc b (10 ∷ lines_text bs) y
+text_after : (b : List ℕ) (bs : List (List ℕ)) (y : List ℕ) → lines_text (b ∷ bs) ++ y ≡ b ++ (10 ∷ (lines_text bs ++ y))
+text_after b bs y = append_assoc b (10 ∷ lines_text bs) y
 
 with_line : (c : List ℕ) (a : List (List ℕ)) (x : List ℕ) (b : List (List ℕ)) → Onward a x b → Onward (c ∷ a) x (c ∷ b)
 with_line c a x b o = record { line = o.line; more = o.more; rest = o.rest; lines = ap (λ (ls : List (List ℕ)). c ∷ ls) o.lines; cut = o.cut; free = o.free }
 
-one_more : (a b : List ℕ) (ms : List (List ℕ)) (x : List ℕ) (bs : List (List ℕ)) (y : List ℕ) → a ≡ b → Fronts ms x bs y → Fronts (a ∷ ms) x (b ∷ bs) y
+one_more : (a b : List ℕ) (ms : List (List ℕ)) (x : List ℕ) (bs : List (List ℕ)) (y : List ℕ) → a ≡ b → Prefixes ms x bs y → Prefixes (a ∷ ms) x (b ∷ bs) y
 one_more a b ms x bs y e (Same s) = Same (cc (e, s))
 one_more a b ms x bs y e (Before o) = Before (subst (λ (c : List ℕ). Onward (a ∷ ms) x (c ∷ bs)) e (with_line a ms x bs o))
-one_more a b ms x bs y e (Behind o) = Behind (subst (λ (c : List ℕ). Onward (b ∷ bs) y (c ∷ ms)) (sym e) (with_line b bs y ms o))
+one_more a b ms x bs y e (After o) = After (subst (λ (c : List ℕ). Onward (b ∷ bs) y (c ∷ ms)) (sym e) (with_line b bs y ms o))
 
-fronts : (ms : List (List ℕ)) (x : List ℕ) (bs : List (List ℕ)) (y : List ℕ) → AllByRecursion (Lacks 10) ms → AllByRecursion (Lacks 10) bs → lines_text ms ++ x ≡ lines_text bs ++ y → Fronts ms x bs y
-fronts [] x [] y fa fb e = Same refl
-fronts [] x (b ∷ bs) y fa fb e = Before (record { line = b; more = bs; rest = lines_text bs ++ y; lines = refl; cut = e ∙ text_behind b bs y; free = fb.0 })
-fronts (a ∷ ms) x [] y fa fb e = Behind (record { line = a; more = ms; rest = lines_text ms ++ x; lines = refl; cut = sym e ∙ text_behind a ms x; free = fa.0 })
-fronts (a ∷ ms) x (b ∷ bs) y fa fb e =
-    let same = one_cut 10 a b (lines_text ms ++ x) (lines_text bs ++ y) fa.0 fb.0 (sym (text_behind a ms x) ∙ e ∙ text_behind b bs y) in
-    one_more a b ms x bs y same.0 (fronts ms x bs y fa.1 fb.1 same.1)
+prefixes : (ms : List (List ℕ)) (x : List ℕ) (bs : List (List ℕ)) (y : List ℕ) → AllByRecursion (Lacks 10) ms → AllByRecursion (Lacks 10) bs → lines_text ms ++ x ≡ lines_text bs ++ y → Prefixes ms x bs y
+prefixes [] x [] y fa fb e = Same refl
+prefixes [] x (b ∷ bs) y fa fb e = Before (record { line = b; more = bs; rest = lines_text bs ++ y; lines = refl; cut = e ∙ text_after b bs y; free = fb.0 })
+prefixes (a ∷ ms) x [] y fa fb e = After (record { line = a; more = ms; rest = lines_text ms ++ x; lines = refl; cut = sym e ∙ text_after a ms x; free = fa.0 })
+prefixes (a ∷ ms) x (b ∷ bs) y fa fb e =
+    let same = one_cut 10 a b (lines_text ms ++ x) (lines_text bs ++ y) fa.0 fb.0 (sym (text_after a ms x) ∙ e ∙ text_after b bs y) in
+    one_more a b ms x bs y same.0 (prefixes ms x bs y fa.1 fb.1 same.1)
 
 has_it : (xs ys : List ℕ) → Lacks 10 (xs ++ (10 ∷ ys)) → ⊥
 has_it [] ys free = free.0 refl
@@ -66,9 +66,9 @@ same_length : (n m : ℕ) (a b : List (List ℕ)) → n ≡ length a + 1 → m �
 same_length n m a b x y e = x ∙ ap (λ (ls : List (List ℕ)). length ls + 1) e ∙ sym y
 
 pub one_fault : (bytes : List ℕ) (n m : ℕ) → IsFirstFault bytes n → IsFirstFault bytes m → n ≡ m
-one_fault bytes n m f g = by (fronts f.before f.after g.before g.after (begins_free f.before f.good) (begins_free g.before g.good) (sym f.parts ∙ g.parts))
+one_fault bytes n m f g = by (prefixes f.before f.after g.before g.after (begins_free f.before f.good) (begins_free g.before g.good) (sym f.parts ∙ g.parts))
   where
-    by : Fronts f.before f.after g.before g.after → n ≡ m
+    by : Prefixes f.before f.after g.before g.after → n ≡ m
     by (Same s) = same_length n m f.before g.before f.number g.number s
     by (Before o) = absurd (no_longer f.before f.after g.before f.wrong g.good o)
-    by (Behind o) = absurd (no_longer g.before g.after f.before g.wrong f.good o)
+    by (After o) = absurd (no_longer g.before g.after f.before g.wrong f.good o)

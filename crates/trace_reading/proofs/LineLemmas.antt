@@ -36,16 +36,16 @@ pub none_too : {T : Type 0} (o : Option T) (P Q : Type 0) → (P → Q) → IfNo
 none_too None P Q f h = f h
 none_too (Some x) P Q f h = tt
 
-lacks_not : (byte : ℕ) (front rest : List ℕ) → Lacks byte (front ++ (byte ∷ rest)) → ⊥
+lacks_not : (byte : ℕ) (prefix rest : List ℕ) → Lacks byte (prefix ++ (byte ∷ rest)) → ⊥
 lacks_not byte [] rest h = h.0 refl
 lacks_not byte (c ∷ cs) rest h = lacks_not byte cs rest h.1
 
-pub cut_found : {T : Type 0} (o : Option T) (before behind : T → List ℕ) (byte : ℕ) (bytes front rest : List ℕ) → IfSome o (λ p. bytes ≡ before p ++ (byte ∷ behind p)) → IfSome o (λ p. Lacks byte (before p)) → IfNone o (Lacks byte bytes) → Lacks byte front → bytes ≡ front ++ (byte ∷ rest) → IsSomeAnd o (λ p. (before p ≡ front) × (behind p ≡ rest))
-cut_found None before behind byte bytes front rest parts first none free e =
-    let all : Lacks byte (front ++ (byte ∷ rest)) = rw (sym e) none in
-    absurd (lacks_not byte front rest all)
-cut_found (Some p) before behind byte bytes front rest parts first none free e =
-    one_cut byte (before p) front (behind p) rest first free (sym parts ∙ e)
+pub cut_found : {T : Type 0} (o : Option T) (before after : T → List ℕ) (byte : ℕ) (bytes prefix rest : List ℕ) → IfSome o (λ p. bytes ≡ before p ++ (byte ∷ after p)) → IfSome o (λ p. Lacks byte (before p)) → IfNone o (Lacks byte bytes) → Lacks byte prefix → bytes ≡ prefix ++ (byte ∷ rest) → IsSomeAnd o (λ p. (before p ≡ prefix) × (after p ≡ rest))
+cut_found None before after byte bytes prefix rest parts first none free e =
+    let all : Lacks byte (prefix ++ (byte ∷ rest)) = rw (sym e) none in
+    absurd (lacks_not byte prefix rest all)
+cut_found (Some p) before after byte bytes prefix rest parts first none free e =
+    one_cut byte (before p) prefix (after p) rest first free (sym parts ∙ e)
 
 first_not : (ds xs ys : List ℕ) (c : ℕ) → 0 < length ds → AllDigits 10 ds → 57 < c → ds ++ xs ≡ c ∷ ys → ⊥
 first_not [] xs ys c some all low e = omega (arith, some)

@@ -7,13 +7,13 @@ use Rattle.std.proofs.lemmas.Grind.{common_steps}
 use Rattle.sim_base.specs.Escape.{escaped, escaped_byte, is_escaped, hex_digit}
 
 -- what is left of a whole name after its prefix, and what is left of its text
-pub record Left (whole front rest : List ℕ) : Type 0 where
+pub record Left (whole prefix rest : List ℕ) : Type 0 where
   pub more : List ℕ
   pub bytes : AllByRecursion (λ (b : ℕ). b < 256) more
-  pub name : whole ≡ front ++ more
+  pub name : whole ≡ prefix ++ more
   pub text : rest ≡ escaped more
 
-pub push_escaped : (front : List ℕ) (byte : ℕ) (rest : List ℕ) → escaped (front ++ (byte ∷ [])) ++ rest ≡ escaped front ++ (escaped_byte byte ++ rest)
+pub push_escaped : (prefix : List ℕ) (byte : ℕ) (rest : List ℕ) → escaped (prefix ++ (byte ∷ [])) ++ rest ≡ escaped prefix ++ (escaped_byte byte ++ rest)
 push_escaped [] byte rest = append_assoc (escaped_byte byte) [] rest
 push_escaped (b ∷ bs) byte rest =
     append_assoc (escaped_byte b) (escaped (bs ++ (byte ∷ []))) rest
@@ -27,23 +27,23 @@ append_nil (x ∷ xs) = ap (λ (ys : List ℕ). x ∷ ys) (append_nil xs)
 escaped_not_empty : (byte : ℕ) (xs : List ℕ) → length (escaped_byte byte ++ xs) ≡ 0 → ⊥
 escaped_not_empty byte xs e = grind (arith, common_steps)
 
-ended : (whole front rest more : List ℕ) → whole ≡ front ++ more → rest ≡ escaped more → length rest ≡ 0 → front ≡ whole
-ended whole front rest [] name text empty = sym (name ∙ append_nil front)
-ended whole front rest (m ∷ ms) name text empty = absurd (escaped_not_empty m (escaped ms) (ap (λ (xs : List ℕ). length xs) (sym text) ∙ empty))
+ended : (whole prefix rest more : List ℕ) → whole ≡ prefix ++ more → rest ≡ escaped more → length rest ≡ 0 → prefix ≡ whole
+ended whole prefix rest [] name text empty = sym (name ∙ append_nil prefix)
+ended whole prefix rest (m ∷ ms) name text empty = absurd (escaped_not_empty m (escaped ms) (ap (λ (xs : List ℕ). length xs) (sym text) ∙ empty))
 
 -- the text of a name is empty where the name is
-pub none_left : (whole front rest : List ℕ) → Left whole front rest → length rest ≡ 0 → front ≡ whole
-none_left whole front rest left empty = ended whole front rest left.more left.name left.text empty
+pub none_left : (whole prefix rest : List ℕ) → Left whole prefix rest → length rest ≡ 0 → prefix ≡ whole
+none_left whole prefix rest left empty = ended whole prefix rest left.more left.name left.text empty
 
 pub for_left : (P : Type 0) (rest more : List ℕ) → AllByRecursion (λ (b : ℕ). b < 256) more → rest ≡ escaped more → 0 < length rest → ((m : ℕ) (ms : List ℕ) → m < 256 → AllByRecursion (λ (b : ℕ). b < 256) ms → more ≡ m ∷ ms → rest ≡ escaped_byte m ++ escaped ms → P) → P
 for_left P rest [] all text some step = absurd (omega (arith, some, ap (λ (xs : List ℕ). length xs) text))
 for_left P rest (m ∷ ms) all text some step = step m ms all.0 all.1 refl text
 
-pub one_less : (whole front rest behind more now : List ℕ) (byte m : ℕ) (ms : List ℕ) → AllByRecursion (λ (b : ℕ). b < 256) ms → whole ≡ front ++ more → more ≡ m ∷ ms → byte ≡ m → behind ≡ escaped ms → now ≡ front ++ (byte ∷ []) → Left whole now behind
-one_less whole front rest behind more now byte m ms all name is same text pushed = record {
+pub one_less : (whole prefix rest after more now : List ℕ) (byte m : ℕ) (ms : List ℕ) → AllByRecursion (λ (b : ℕ). b < 256) ms → whole ≡ prefix ++ more → more ≡ m ∷ ms → byte ≡ m → after ≡ escaped ms → now ≡ prefix ++ (byte ∷ []) → Left whole now after
+one_less whole prefix rest after more now byte m ms all name is same text pushed = record {
   more = ms;
   bytes = all;
-  name = name ∙ ap (λ (xs : List ℕ). front ++ xs) (is ∙ ap (λ (b : ℕ). b ∷ ms) (sym same)) ∙ sym (append_assoc front (byte ∷ []) ms) ∙ ap (λ (xs : List ℕ). xs ++ ms) (sym pushed);
+  name = name ∙ ap (λ (xs : List ℕ). prefix ++ xs) (is ∙ ap (λ (b : ℕ). b ∷ ms) (sym same)) ∙ sym (append_assoc prefix (byte ∷ []) ms) ∙ ap (λ (xs : List ℕ). xs ++ ms) (sym pushed);
   text = text;
 }
 

@@ -96,8 +96,8 @@ one_type a b e = sym (kept a) ∙ ap type_back e ∙ kept b
 
 -- ---- ports
 
-behind_word : (xs ys : List ℕ) → 112 ∷ 111 ∷ 114 ∷ 116 ∷ 32 ∷ xs ≡ 112 ∷ 111 ∷ 114 ∷ 116 ∷ 32 ∷ ys → xs ≡ ys
-behind_word xs ys e = cc e
+after_word : (xs ys : List ℕ) → 112 ∷ 111 ∷ 114 ∷ 116 ∷ 32 ∷ xs ≡ 112 ∷ 111 ∷ 114 ∷ 116 ∷ 32 ∷ ys → xs ≡ ys
+after_word xs ys e = cc e
 
 abbrev port_of : PortType → List ℕ → List ℕ → TracePort
 port_of kind component variable = record { kind = kind; component = component; variable = variable }
@@ -109,7 +109,7 @@ same_port a b c d v w kinds components variables =
 -- a line of the k-th port is that of one port
 pub one_port : (k : ℕ) (p q : TracePort) → k < 2 ^ 64 → line_of_port k p ≡ line_of_port k q → p ≡ q
 one_port k p q low e =
-    let rest = behind_word (decimal k ++ (32 ∷ (type_name p.kind ++ (32 ∷ (escaped p.component ++ (32 ∷ escaped p.variable)))))) (decimal k ++ (32 ∷ (type_name q.kind ++ (32 ∷ (escaped q.component ++ (32 ∷ escaped q.variable)))))) e in
+    let rest = after_word (decimal k ++ (32 ∷ (type_name p.kind ++ (32 ∷ (escaped p.component ++ (32 ∷ escaped p.variable)))))) (decimal k ++ (32 ∷ (type_name q.kind ++ (32 ∷ (escaped q.component ++ (32 ∷ escaped q.variable)))))) e in
     let digits = lacks_decimal 32 k (omega arith) low in
     let fields = one_cut 32 (decimal k) (decimal k) (type_name p.kind ++ (32 ∷ (escaped p.component ++ (32 ∷ escaped p.variable)))) (type_name q.kind ++ (32 ∷ (escaped q.component ++ (32 ∷ escaped q.variable)))) digits digits rest in
     let types = one_cut 32 (type_name p.kind) (type_name q.kind) (escaped p.component ++ (32 ∷ escaped p.variable)) (escaped q.component ++ (32 ∷ escaped q.variable)) (lacks_type_32 p.kind) (lacks_type_32 q.kind) fields.1 in

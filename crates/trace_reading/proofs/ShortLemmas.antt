@@ -8,7 +8,7 @@ use Rattle.trace_reading.specs.declared.item.Item.{Item}
 use Rattle.trace_reading.specs.declared.item.Item.TheVariants.{Row, End}
 use Rattle.trace_reading.specs.declared.item.Place.{Place}
 use Rattle.trace_reading.specs.declared.item.Place.TheVariants.{Between, Within, Ended}
-use Rattle.trace_reading.specs.Walk.{place_behind, is_next, is_closed, is_start, fits_at, clocks_before, IsShortItem}
+use Rattle.trace_reading.specs.Walk.{place_after, is_next, is_closed, is_start, fits_at, clocks_before, IsShortItem}
 use Rattle.trace_reading.specs.Lines.{IsShort}
 use Rattle.trace_reading.proofs.ListLemmas.{parts}
 use Rattle.trace_reading.proofs.FitLemmas.{fitting_at, fits_short}
@@ -31,7 +31,7 @@ value_short kinds next port value few e =
     (omega (arith, few, slice_get_within kinds port there.kind there.at), fits_short there.kind value there.fits)
 
 -- what has a place is short
-pub short_item : (kinds : List PortType) → length kinds < 2 ^ 64 → (p q : Place) (item : Item) → place_behind kinds p item ≡ Some q → IsShortItem item
+pub short_item : (kinds : List PortType) → length kinds < 2 ^ 64 → (p q : Place) (item : Item) → place_after kinds p item ≡ Some q → IsShortItem item
 short_item kinds few p q (Row (At t n)) e = begin_short (is_closed kinds p) t n (tested (is_closed kinds p && is_start t n) (Within 0) q e)
 short_item kinds few p q (End kind t) e =
     let tests = parts (is_closed kinds p) (nat_le t (2 ^ 62)) (tested (is_closed kinds p && nat_le t (2 ^ 62)) (Ended kind t) q e) in

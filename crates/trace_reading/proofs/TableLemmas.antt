@@ -28,15 +28,15 @@ ports_push k (q ∷ ports) p =
     let up : (k + 1) + length ports ≡ k + suc (length ports) = omega arith in
     ap (λ (ls : List (List ℕ)). line_of_port k q ∷ ls) (ports_push (k + 1) ports p ∙ ap (λ (n : ℕ). lines_of_ports (k + 1) ports ++ (line_of_port n p ∷ [])) up)
 
-pub more_ports : (text rest behind : List ℕ) (ports more : List TracePort) (p : TracePort) → text ≡ lines_text (lines_of_ports 0 ports) ++ rest → rest ≡ line_of_port (length ports) p ++ (10 ∷ behind) → more ≡ ports ++ (p ∷ []) → text ≡ lines_text (lines_of_ports 0 more) ++ behind
-more_ports text rest behind ports more p parts cut pushed =
+pub more_ports : (text rest after : List ℕ) (ports more : List TracePort) (p : TracePort) → text ≡ lines_text (lines_of_ports 0 ports) ++ rest → rest ≡ line_of_port (length ports) p ++ (10 ∷ after) → more ≡ ports ++ (p ∷ []) → text ≡ lines_text (lines_of_ports 0 more) ++ after
+more_ports text rest after ports more p parts cut pushed =
     let number : length ports ≡ 0 + length ports = omega arith in
     parts
     ∙ ap (λ (xs : List ℕ). lines_text (lines_of_ports 0 ports) ++ xs) cut
-    ∙ sym (text_push (lines_of_ports 0 ports) (line_of_port (length ports) p) behind)
-    ∙ ap (λ (n : ℕ). lines_text (lines_of_ports 0 ports ++ (line_of_port n p ∷ [])) ++ behind) number
-    ∙ ap (λ (ls : List (List ℕ)). lines_text ls ++ behind) (sym (ports_push 0 ports p))
-    ∙ ap (λ (ps : List TracePort). lines_text (lines_of_ports 0 ps) ++ behind) (sym pushed)
+    ∙ sym (text_push (lines_of_ports 0 ports) (line_of_port (length ports) p) after)
+    ∙ ap (λ (n : ℕ). lines_text (lines_of_ports 0 ports ++ (line_of_port n p ∷ [])) ++ after) number
+    ∙ ap (λ (ls : List (List ℕ)). lines_text ls ++ after) (sym (ports_push 0 ports p))
+    ∙ ap (λ (ps : List TracePort). lines_text (lines_of_ports 0 ps) ++ after) (sym pushed)
 
 named_push : (ports : List TracePort) (p : TracePort) → AllByRecursion IsNamed ports → IsNamed p → AllByRecursion IsNamed (ports ++ (p ∷ []))
 named_push [] p all named = (named, tt)

@@ -17,7 +17,7 @@ use Rattle.trace_reading.specs.declared.item.Item.TheVariants.{Row, End}
 use Rattle.trace_reading.specs.declared.item.Place.{Place}
 use Rattle.trace_reading.specs.Form.{IsRange, lines_of_ports}
 use Rattle.trace_reading.specs.Lines.{Lacks, IsShort, line_of_port}
-use Rattle.trace_reading.specs.Walk.{walk, place_behind, item_line, IsShortItem}
+use Rattle.trace_reading.specs.Walk.{walk, place_after, item_line, IsShortItem}
 use Rattle.trace_reading.proofs.LineLemmas.{lacks_decimal, one_cut}
 use Rattle.trace_reading.proofs.FaultLemmas.{stepped}
 use Rattle.trace_reading.proofs.ShortLemmas.{short_item}
@@ -121,7 +121,7 @@ is_line (End kind t) short = (λ e. omega (arith, e), (λ e. omega (arith, e), (
 pub are_lines : (kinds : List PortType) → length kinds < 2 ^ 64 → (place last : Place) (items : List Item) → walk kinds place items ≡ Some last → AllByRecursion (Lacks 10) (map item_line items)
 are_lines kinds few place last [] good = tt
 are_lines kinds few place last (i ∷ is) good =
-    let s = stepped kinds (place_behind kinds place i) is last good in
+    let s = stepped kinds (place_after kinds place i) is last good in
     (is_line i (short_item kinds few place s.next i s.step), are_lines kinds few s.next last is s.rest)
 
 pub all_append : (xs ys : List (List ℕ)) → AllByRecursion (Lacks 10) xs → AllByRecursion (Lacks 10) ys → AllByRecursion (Lacks 10) (xs ++ ys)
@@ -133,19 +133,19 @@ not_empty [] ys b e = cc e
 not_empty (x ∷ xs) ys b e = cc e
 
 -- the lines of a text that begins with some lines and one more begin with these
-pub record Front (whole before : List (List ℕ)) (line : List ℕ) : Type 0 where
+pub record Prefix (whole before : List (List ℕ)) (line : List ℕ) : Type 0 where
   pub more : List (List ℕ)
   pub parts : whole ≡ before ++ (line ∷ more)
 
-pub lines_front : (whole before : List (List ℕ)) (line rest : List ℕ) → AllByRecursion (Lacks 10) whole → AllByRecursion (Lacks 10) before → Lacks 10 line → lines_text whole ≡ lines_text before ++ (line ++ (10 ∷ rest)) → Front whole before line
-lines_front [] [] line rest aw ab al e = absurd (not_empty line rest 10 e)
-lines_front (x ∷ xs) [] line rest aw ab al e =
+pub lines_prefix : (whole before : List (List ℕ)) (line rest : List ℕ) → AllByRecursion (Lacks 10) whole → AllByRecursion (Lacks 10) before → Lacks 10 line → lines_text whole ≡ lines_text before ++ (line ++ (10 ∷ rest)) → Prefix whole before line
+lines_prefix [] [] line rest aw ab al e = absurd (not_empty line rest 10 e)
+lines_prefix (x ∷ xs) [] line rest aw ab al e =
     let both = one_cut 10 x line (lines_text xs) rest aw.0 al e in
     record { more = xs; parts = ap (λ (l : List ℕ). l ∷ xs) both.0 }
-lines_front [] (y ∷ ys) line rest aw ab al e = absurd (not_empty y (lines_text ys ++ (line ++ (10 ∷ rest))) 10 (e ∙ append_assoc y (10 ∷ lines_text ys) (line ++ (10 ∷ rest))))
-lines_front (x ∷ xs) (y ∷ ys) line rest aw ab al e =
+lines_prefix [] (y ∷ ys) line rest aw ab al e = absurd (not_empty y (lines_text ys ++ (line ++ (10 ∷ rest))) 10 (e ∙ append_assoc y (10 ∷ lines_text ys) (line ++ (10 ∷ rest))))
+lines_prefix (x ∷ xs) (y ∷ ys) line rest aw ab al e =
     let both = one_cut 10 x y (lines_text xs) (lines_text ys ++ (line ++ (10 ∷ rest))) aw.0 ab.0 (e ∙ append_assoc y (10 ∷ lines_text ys) (line ++ (10 ∷ rest))) in
-    let later = lines_front xs ys line rest aw.1 ab.1 al both.1 in
+    let later = lines_prefix xs ys line rest aw.1 ab.1 al both.1 in
     record { more = later.more; parts = ap (λ (l : List ℕ). l ∷ xs) both.0 ∙ ap (λ (ls : List (List ℕ)). y ∷ ls) later.parts }
 
 -- a text has one list of lines
@@ -158,7 +158,7 @@ one_list (a ∷ ms) (b ∷ bs) fa fb e =
     let later = one_list ms bs fa.1 fb.1 both.1 in
     cc (both.0, later)
 
-pub lacks_not : (byte : ℕ) (front rest : List ℕ) → Lacks byte (front ++ (byte ∷ rest)) → ⊥
+pub lacks_not : (byte : ℕ) (prefix rest : List ℕ) → Lacks byte (prefix ++ (byte ∷ rest)) → ⊥
 lacks_not byte [] rest h = h.0 refl
 lacks_not byte (c ∷ cs) rest h = lacks_not byte cs rest h.1
 

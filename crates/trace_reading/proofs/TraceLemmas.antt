@@ -19,15 +19,15 @@ use Rattle.trace_reading.specs.Form.{IsRange, IsNamed, IsTrace, IsTextOf, kinds_
 use Rattle.trace_reading.specs.Faults.{Begins, IsFirstFault, Wrong}
 use Rattle.trace_reading.specs.Faults.Wrong.{NoText, Unended}
 use Rattle.trace_reading.specs.Parts.{StandBefore}
-use Rattle.trace_reading.specs.Walk.{walk, place_behind, item_line, items_of, IsShortItem, IsFirstFaultOf, IsRows, WrongBehind}
-use Rattle.trace_reading.specs.Walk.WrongBehind.{NoItem, NoEnd}
+use Rattle.trace_reading.specs.Walk.{walk, place_after, item_line, items_of, IsShortItem, IsFirstFaultOf, IsRows, WrongAfter}
+use Rattle.trace_reading.specs.Walk.WrongAfter.{NoItem, NoEnd}
 use Rattle.trace_reading.proofs.ListLemmas.{heads, tails, unsome}
 use Rattle.trace_reading.proofs.LineLemmas.{lacks_decimal, one_cut}
 use Rattle.trace_reading.proofs.BodyLemmas.{complete, sound, body_items_are}
 use Rattle.trace_reading.proofs.FaultLemmas.{stuck, stepped, same_items}
 use Rattle.trace_reading.proofs.ShortLemmas.{short_item}
 use Rattle.trace_reading.proofs.BeginLemmas.{goes_on}
-use Rattle.trace_reading.proofs.TextLemmas.{is_header_line, are_port_lines, are_lines, all_append, lines_front, one_list, ends_there}
+use Rattle.trace_reading.proofs.TextLemmas.{is_header_line, are_port_lines, are_lines, all_append, lines_prefix, one_list, ends_there}
 use Rattle.trace_reading.proofs.PortLemmas.{one_port, no_port}
 
 -- ---- lines after the ports
@@ -40,7 +40,7 @@ lines_items (line ∷ lines) kind point = ap (λ (ls : List (List ℕ)). line_te
 pub shorts : (kinds : List PortType) → length kinds < 2 ^ 64 → (place end : Place) (items : List Item) → walk kinds place items ≡ Some end → AllByRecursion IsShortItem items
 shorts kinds few place end [] w = tt
 shorts kinds few place end (i ∷ is) w =
-    let s = stepped kinds (place_behind kinds place i) is end w in
+    let s = stepped kinds (place_after kinds place i) is end w in
     (short_item kinds few place s.next i s.step, shorts kinds few s.next end is s.rest)
 
 few_kinds : (ports : List TracePort) → length ports < 2 ^ 64 → length (kinds_of ports) < 2 ^ 64
@@ -72,17 +72,17 @@ same_parts k (p ∷ ps) (q ∷ qs) ms bs few sa sb e =
     (cc (first, others), later.1)
 
 -- the same, where a line follows that is no line of the next port
-pub same_front : (k m : ℕ) (ps qs : List TracePort) (ms bs : List Item) (line : List ℕ) (more : List (List ℕ)) → k + length qs ≡ m → m < 2 ^ 64 → AllByRecursion IsNamed ps → ((port : TracePort) → IsNamed port → bs ≡ [] → line ≡ line_of_port m port → ⊥) → AllByRecursion IsShortItem ms → AllByRecursion IsShortItem bs → lines_of_ports k ps ++ map item_line ms ≡ lines_of_ports k qs ++ (map item_line bs ++ (line ∷ more)) → (ps ≡ qs) × (map item_line ms ≡ map item_line bs ++ (line ∷ more))
-same_front k m [] [] ms bs line more at few named last sa sb e = (refl, e)
-same_front k m [] (q ∷ qs) ms bs line more at few named last sa sb e = absurd (no_line ms k q (lines_of_ports (k + 1) qs ++ (map item_line bs ++ (line ∷ more))) sa e)
-same_front k m (p ∷ ps) [] ms [] line more at few named last sa sb e =
+pub same_prefix : (k m : ℕ) (ps qs : List TracePort) (ms bs : List Item) (line : List ℕ) (more : List (List ℕ)) → k + length qs ≡ m → m < 2 ^ 64 → AllByRecursion IsNamed ps → ((port : TracePort) → IsNamed port → bs ≡ [] → line ≡ line_of_port m port → ⊥) → AllByRecursion IsShortItem ms → AllByRecursion IsShortItem bs → lines_of_ports k ps ++ map item_line ms ≡ lines_of_ports k qs ++ (map item_line bs ++ (line ∷ more)) → (ps ≡ qs) × (map item_line ms ≡ map item_line bs ++ (line ∷ more))
+same_prefix k m [] [] ms bs line more at few named last sa sb e = (refl, e)
+same_prefix k m [] (q ∷ qs) ms bs line more at few named last sa sb e = absurd (no_line ms k q (lines_of_ports (k + 1) qs ++ (map item_line bs ++ (line ∷ more))) sa e)
+same_prefix k m (p ∷ ps) [] ms [] line more at few named last sa sb e =
     let number : k ≡ m = omega (arith, at) in
     absurd (last p named.0 refl (sym (heads (line_of_port k p) line (lines_of_ports (k + 1) ps ++ map item_line ms) more e) ∙ ap (λ (j : ℕ). line_of_port j p) number))
-same_front k m (p ∷ ps) [] ms (b ∷ bs) line more at few named last sa sb e =
+same_prefix k m (p ∷ ps) [] ms (b ∷ bs) line more at few named last sa sb e =
     absurd (no_port b k p sb.0 (sym (heads (line_of_port k p) (item_line b) (lines_of_ports (k + 1) ps ++ map item_line ms) (map item_line bs ++ (line ∷ more)) e)))
-same_front k m (p ∷ ps) (q ∷ qs) ms bs line more at few named last sa sb e =
+same_prefix k m (p ∷ ps) (q ∷ qs) ms bs line more at few named last sa sb e =
     let first = one_port k p q (omega (arith, at, few)) (heads (line_of_port k p) (line_of_port k q) (lines_of_ports (k + 1) ps ++ map item_line ms) (lines_of_ports (k + 1) qs ++ (map item_line bs ++ (line ∷ more))) e) in
-    let later = same_front (k + 1) m ps qs ms bs line more (omega (arith, at)) few named.1 last sa sb (tails (line_of_port k p) (line_of_port k q) (lines_of_ports (k + 1) ps ++ map item_line ms) (lines_of_ports (k + 1) qs ++ (map item_line bs ++ (line ∷ more))) e) in
+    let later = same_prefix (k + 1) m ps qs ms bs line more (omega (arith, at)) few named.1 last sa sb (tails (line_of_port k p) (line_of_port k q) (lines_of_ports (k + 1) ps ++ map item_line ms) (lines_of_ports (k + 1) qs ++ (map item_line bs ++ (line ∷ more))) e) in
     let others = later.0 in
     (cc (first, others), later.1)
 
@@ -93,15 +93,15 @@ pub record SameHeader (r s e r2 s2 e2 : ℕ) : Type 0 where
   pub start : s ≡ s2
   pub stop : e ≡ e2
 
-behind_word : (xs ys : List ℕ) → 116 ∷ 114 ∷ 97 ∷ 99 ∷ 101 ∷ 32 ∷ 49 ∷ 32 ∷ xs ≡ 116 ∷ 114 ∷ 97 ∷ 99 ∷ 101 ∷ 32 ∷ 49 ∷ 32 ∷ ys → xs ≡ ys
-behind_word xs ys e = cc e
+after_word : (xs ys : List ℕ) → 116 ∷ 114 ∷ 97 ∷ 99 ∷ 101 ∷ 32 ∷ 49 ∷ 32 ∷ xs ≡ 116 ∷ 114 ∷ 97 ∷ 99 ∷ 101 ∷ 32 ∷ 49 ∷ 32 ∷ ys → xs ≡ ys
+after_word xs ys e = cc e
 
 digits : (n : ℕ) → n ≤ 2 ^ 62 → Lacks 32 (decimal n)
 digits n low = lacks_decimal 32 n (omega arith) (omega (arith, low))
 
 one_header : (r s e r2 s2 e2 : ℕ) → IsRange r s e → IsRange r2 s2 e2 → header_line r s e ≡ header_line r2 s2 e2 → SameHeader r s e r2 s2 e2
 one_header r s e r2 s2 e2 f g same =
-    let rest = behind_word (decimal r ++ (32 ∷ (decimal s ++ (32 ∷ decimal e)))) (decimal r2 ++ (32 ∷ (decimal s2 ++ (32 ∷ decimal e2)))) same in
+    let rest = after_word (decimal r ++ (32 ∷ (decimal s ++ (32 ∷ decimal e)))) (decimal r2 ++ (32 ∷ (decimal s2 ++ (32 ∷ decimal e2)))) same in
     let first = one_cut 32 (decimal r) (decimal r2) (decimal s ++ (32 ∷ decimal e)) (decimal s2 ++ (32 ∷ decimal e2)) (digits r f.within) (digits r2 g.within) rest in
     let second = one_cut 32 (decimal s) (decimal s2) (decimal e) (decimal e2) (digits s (omega (arith, f.order, f.end))) (digits s2 (omega (arith, g.order, g.end))) first.1 in
     record {
@@ -173,19 +173,19 @@ one_trace bytes t u f g = one_trace_of t u f.form g.form (one_list (lines_of t) 
 
 -- ---- a fault
 
-front_free : (before more : List (List ℕ)) → AllByRecursion (Lacks 10) (before ++ more) → AllByRecursion (Lacks 10) before
-front_free [] more all = tt
-front_free (b ∷ bs) more all = (all.0, front_free bs more all.1)
+prefix_free : (before more : List (List ℕ)) → AllByRecursion (Lacks 10) (before ++ more) → AllByRecursion (Lacks 10) before
+prefix_free [] more all = tt
+prefix_free (b ∷ bs) more all = (all.0, prefix_free bs more all.1)
 
 pub begins_free : (lines : List (List ℕ)) → Begins lines → AllByRecursion (Lacks 10) lines
 begins_free lines b =
     let P : List (List ℕ) → Type 0 = λ ls. AllByRecursion (Lacks 10) ls in
-    front_free lines b.more (subst P b.parts (lines_free b.trace b.form))
+    prefix_free lines b.more (subst P b.parts (lines_free b.trace b.form))
 
 wrong_text : (bytes : List ℕ) (before : List (List ℕ)) (after : List ℕ) (t : Trace) → bytes ≡ lines_text before ++ after → Begins before → Wrong before after → IsTextOf bytes t → ⊥
 wrong_text bytes before after t parts good (NoText line rest cut free none) text =
-    let front = lines_front (lines_of t) before line rest (lines_free t text.form) (begins_free before good) free (sym text.text ∙ parts ∙ ap (λ (xs : List ℕ). lines_text before ++ xs) cut) in
-    none (record { trace = t; form = text.form; more = front.more; parts = front.parts ∙ sym (append_assoc before (line ∷ []) front.more) })
+    let prefix = lines_prefix (lines_of t) before line rest (lines_free t text.form) (begins_free before good) free (sym text.text ∙ parts ∙ ap (λ (xs : List ℕ). lines_text before ++ xs) cut) in
+    none (record { trace = t; form = text.form; more = prefix.more; parts = prefix.parts ∙ sym (append_assoc before (line ∷ []) prefix.more) })
 wrong_text bytes before after t parts good (Unended free none) text =
     none t (record { form = text.form; text = sym parts ∙ text.text })
 
@@ -254,16 +254,16 @@ append_nil (x ∷ xs) = ap (λ (ys : List ℕ). x ∷ ys) (append_nil xs)
 -- the parts that were read, one after the other
 pub record Read (bytes : List ℕ) (r s e : ℕ) (ports : List TracePort) (rest : List ℕ) : Type 0 where
   pub range : IsRange r s e
-  pub behind_header : List ℕ
-  pub header : bytes ≡ header_line r s e ++ (10 ∷ behind_header)
-  pub ports_there : StandBefore behind_header ports rest
+  pub after_header : List ℕ
+  pub header : bytes ≡ header_line r s e ++ (10 ∷ after_header)
+  pub ports_there : StandBefore after_header ports rest
 
 text_append : (ms bs : List (List ℕ)) → lines_text (ms ++ bs) ≡ lines_text ms ++ lines_text bs
 text_append [] bs = refl
 text_append (a ∷ ms) bs = ap (λ (xs : List ℕ). a ++ (10 ∷ xs)) (text_append ms bs) ∙ sym (append_assoc a (10 ∷ lines_text ms) (lines_text bs))
 
-text_behind : (bytes : List ℕ) (r s e : ℕ) (ports : List TracePort) (rest after : List ℕ) (items : List Item) → Read bytes r s e ports rest → rest ≡ lines_text (map item_line items) ++ after → bytes ≡ lines_text (header_line r s e ∷ (lines_of_ports 0 ports ++ map item_line items)) ++ after
-text_behind bytes r s e ports rest after items read parts =
+text_after : (bytes : List ℕ) (r s e : ℕ) (ports : List TracePort) (rest after : List ℕ) (items : List Item) → Read bytes r s e ports rest → rest ≡ lines_text (map item_line items) ++ after → bytes ≡ lines_text (header_line r s e ∷ (lines_of_ports 0 ports ++ map item_line items)) ++ after
+text_after bytes r s e ports rest after items read parts =
     read.header
     ∙ ap (λ (xs : List ℕ). header_line r s e ++ (10 ∷ xs)) (
     read.ports_there.parts
@@ -281,7 +281,7 @@ whole_text bytes r s e ports rest lines kind point read rows =
     let t : Trace = record { resolution = r; start = s; stop = e; ports = ports; lines = lines; kind = kind; point = point } in
     record {
       form = record { range = read.range; few = read.ports_there.few; named = read.ports_there.named; instants = body.instants; each = body.form.each; lines = same.lines; point = body.form.low };
-      text = text_behind bytes r s e ports rest [] (items_of lines kind point) read (rows.parts ∙ sym (append_nil (lines_text (map item_line (items_of lines kind point)))))
+      text = text_after bytes r s e ports rest [] (items_of lines kind point) read (rows.parts ∙ sym (append_nil (lines_text (map item_line (items_of lines kind point)))))
           ∙ append_nil (lines_text (header_line r s e ∷ (lines_of_ports 0 ports ++ map item_line (items_of lines kind point))))
           ∙ ap lines_text (sym (lines_are t));
     }
@@ -305,7 +305,7 @@ begins_read r s e ports before place range named few good =
     }
 
 -- no trace begins with the lines up to the fault
-no_more : (r s e : ℕ) (ports : List TracePort) (before : List Item) (place : Place) (line : List ℕ) → length ports < 2 ^ 64 → walk (kinds_of ports) Between before ≡ Some place → ((port : TracePort) → IsNamed port → before ≡ [] → line ≡ line_of_port (length ports) port → ⊥) → ((item : Item) → IsShortItem item → line ≡ item_line item → place_behind (kinds_of ports) place item ≡ None) → Begins ((header_line r s e ∷ (lines_of_ports 0 ports ++ map item_line before)) ++ (line ∷ [])) → ⊥
+no_more : (r s e : ℕ) (ports : List TracePort) (before : List Item) (place : Place) (line : List ℕ) → length ports < 2 ^ 64 → walk (kinds_of ports) Between before ≡ Some place → ((port : TracePort) → IsNamed port → before ≡ [] → line ≡ line_of_port (length ports) port → ⊥) → ((item : Item) → IsShortItem item → line ≡ item_line item → place_after (kinds_of ports) place item ≡ None) → Begins ((header_line r s e ∷ (lines_of_ports 0 ports ++ map item_line before)) ++ (line ∷ [])) → ⊥
 no_more r s e ports before place line few good last wrong b =
     let t = b.trace in
     let form = b.form in
@@ -319,9 +319,9 @@ no_more r s e ports before place line few good last wrong b =
     let all = items_of t.lines t.kind t.point in
     let all_short = shorts (kinds_of t.ports) (few_kinds t.ports form.few) Between (Ended t.kind t.point) all (walked t form) in
     let before_short = shorts (kinds_of ports) (few_kinds ports few) Between place before good in
-    let front = same_front 0 (length ports) t.ports ports all before line b.more (omega arith) few form.named last all_short before_short tail in
-    let all_walked = ap (λ (ps : List TracePort). walk (kinds_of ps) Between all) (sym front.0) ∙ walked t form in
-    stuck (kinds_of ports) Between place (Ended t.kind t.point) before all line b.more (short_item (kinds_of ports) (few_kinds ports few)) good wrong all_walked front.1
+    let prefix = same_prefix 0 (length ports) t.ports ports all before line b.more (omega arith) few form.named last all_short before_short tail in
+    let all_walked = ap (λ (ps : List TracePort). walk (kinds_of ps) Between all) (sym prefix.0) ∙ walked t form in
+    stuck (kinds_of ports) Between place (Ended t.kind t.point) before all line b.more (short_item (kinds_of ports) (few_kinds ports few)) good wrong all_walked prefix.1
 
 -- the lines before the fault are no whole text
 no_end : (r s e : ℕ) (ports : List TracePort) (before : List Item) (place : Place) (t : Trace) → length ports < 2 ^ 64 → walk (kinds_of ports) Between before ≡ Some place → IsTrace t → lines_of t ≡ header_line r s e ∷ (lines_of_ports 0 ports ++ map item_line before) → place ≡ Ended t.kind t.point
@@ -339,7 +339,7 @@ length_port_lines : (k : ℕ) (ports : List TracePort) → length (lines_of_port
 length_port_lines k [] = refl
 length_port_lines k (p ∷ ports) = ap suc (length_port_lines (k + 1) ports)
 
-wrong_line : (bytes : List ℕ) (r s e : ℕ) (ports : List TracePort) (rest : List ℕ) (before : List Item) (after : List ℕ) (place : Place) → Read bytes r s e ports rest → rest ≡ lines_text (map item_line before) ++ after → walk (kinds_of ports) Between before ≡ Some place → Begins (header_line r s e ∷ (lines_of_ports 0 ports ++ map item_line before)) → WrongBehind (kinds_of ports) place after → Wrong (header_line r s e ∷ (lines_of_ports 0 ports ++ map item_line before)) after
+wrong_line : (bytes : List ℕ) (r s e : ℕ) (ports : List TracePort) (rest : List ℕ) (before : List Item) (after : List ℕ) (place : Place) → Read bytes r s e ports rest → rest ≡ lines_text (map item_line before) ++ after → walk (kinds_of ports) Between before ≡ Some place → Begins (header_line r s e ∷ (lines_of_ports 0 ports ++ map item_line before)) → WrongAfter (kinds_of ports) place after → Wrong (header_line r s e ∷ (lines_of_ports 0 ports ++ map item_line before)) after
 wrong_line bytes r s e ports rest before after place read parts good start (NoItem line more cut free none) =
     NoText line more cut free (no_more r s e ports before place line read.ports_there.few good
     (λ port named empty is. read.ports_there.last port more named
@@ -358,7 +358,7 @@ line_fault bytes r s e ports rest n read fault =
     record {
       before = header_line r s e ∷ (lines_of_ports 0 ports ++ map item_line fault.before);
       after = fault.after;
-      parts = text_behind bytes r s e ports rest fault.after fault.before read fault.parts;
+      parts = text_after bytes r s e ports rest fault.after fault.before read fault.parts;
       good = start;
       number = omega (arith, fault.number, sizes, length_port_lines 0 ports, length-map fault.before item_line);
       wrong = wrong_line bytes r s e ports rest fault.before fault.after fault.place read fault.parts fault.good start fault.wrong;

@@ -71,20 +71,20 @@ abbrev pub is_start : ℕ → ℕ → Bool
 is_start t n = nat_le t (2 ^ 62) && nat_lt n 10000
 
 -- where the reading stands after the line; none where the line may not stand there
-abbrev pub place_behind : List PortType → Place → Item → Option Place
-place_behind kinds place (Row (At t n)) =
+abbrev pub place_after : List PortType → Place → Item → Option Place
+place_after kinds place (Row (At t n)) =
     if is_closed kinds place && is_start t n then Some (Within 0) else None
-place_behind kinds place (End kind t) =
+place_after kinds place (End kind t) =
     if is_closed kinds place && nat_le t (2 ^ 62) then Some (Ended kind t) else None
-place_behind kinds Between (Row (Value port value)) = None
-place_behind kinds (Within next) (Row (Value port value)) =
+place_after kinds Between (Row (Value port value)) = None
+place_after kinds (Within next) (Row (Value port value)) =
     if is_next kinds next port value then Some (Within (port + 1)) else None
-place_behind kinds (Ended kind t) (Row (Value port value)) = None
+place_after kinds (Ended kind t) (Row (Value port value)) = None
 
 abbrev pub walk : List PortType → Place → List Item → Option Place
 walk kinds place [] = Some place
 walk kinds place (item ∷ items) =
-    option_and_then (λ (p : Place). walk kinds p items) (place_behind kinds place item)
+    option_and_then (λ (p : Place). walk kinds p items) (place_after kinds place item)
 
 -- ---- what the reading has done so far
 
@@ -102,12 +102,12 @@ rows_with lines (End kind t) = lines
 -- ---- the first line that may not stand where it does
 
 -- after the lines of the items: a line that no item has which may stand there; or no line feed more, where no end line came or bytes are left
-pub data WrongBehind (kinds : List PortType) (place : Place) (after : List ℕ) : Type 0 where
+pub data WrongAfter (kinds : List PortType) (place : Place) (after : List ℕ) : Type 0 where
   NoItem : (line rest : List ℕ) → after ≡ line ++ (10 ∷ rest) → Lacks 10 line →
       ((item : Item) → IsShortItem item → line ≡ item_line item →
-      place_behind kinds place item ≡ None) → WrongBehind kinds place after
+      place_after kinds place item ≡ None) → WrongAfter kinds place after
   NoEnd : Lacks 10 after → ((kind : EndKind) (t : ℕ) → place ≡ Ended kind t → after ≡ [] → ⊥) →
-      WrongBehind kinds place after
+      WrongAfter kinds place after
 
 pub record IsFirstFaultOf (kinds : List PortType) (bytes : List ℕ) (n : ℕ) : Type 0 where
   pub before : List Item
@@ -116,7 +116,7 @@ pub record IsFirstFaultOf (kinds : List PortType) (bytes : List ℕ) (n : ℕ) :
   pub parts : bytes ≡ lines_text (map item_line before) ++ after
   pub good : walk kinds Between before ≡ Some place
   pub number : n ≡ length before + 1
-  pub wrong : WrongBehind kinds place after
+  pub wrong : WrongAfter kinds place after
 
 -- the text is that of these lines and this end, each where it may stand
 pub record IsRows (kinds : List PortType) (text : List ℕ) (lines : List TraceLine) (kind : EndKind)

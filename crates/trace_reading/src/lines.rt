@@ -6,7 +6,7 @@ ghost use Rattle.trace_reading.specs.declared.item.Item.{Item};
 ghost use Rattle.trace_reading.specs.Walk.{item_line, IsShortItem};
 ghost use Rattle.trace_reading.specs.Lines.{IsShort, Lacks};
 
-use crate::cut::{behind, split_once};
+use crate::cut::{after, split_once};
 use crate::item::Item;
 use crate::numbers::{number, value};
 use crate::trace::TraceLine;
@@ -28,7 +28,7 @@ pub(crate) fn read_header(line: &[u8]) -> Option<(u64, u64, u64)>
     ensures found { IfSome result (λ p. line.now ≡ header_line p.0 p.1 p.2) }
     ensures exact { (resolution start stop : ℕ) → resolution < 2 ^ 64 → start < 2 ^ 64 → stop < 2 ^ 64 → line.now ≡ header_line resolution start stop → result ≡ Some (resolution, start, stop) }
 {
-    let rest = behind(line, b"trace 1 ")?;
+    let rest = after(line, b"trace 1 ")?;
     let (resolution, rest) = number_before(rest)?;
     let (start, rest) = number_before(rest)?;
     Some((resolution, start, number(rest)?))
@@ -42,7 +42,7 @@ pub(crate) fn read_port_fields(line: &[u8]) -> Option<(u64, PortType, &[u8], &[u
         IsSomeAnd result (λ p. (p.0 ≡ k) × (p.1 ≡ kind) × (p.2.now ≡ component) ×
         (p.3.now ≡ variable)) }
 {
-    let rest = behind(line, b"port ")?;
+    let rest = after(line, b"port ")?;
     let (k, rest) = number_before(rest)?;
     let (kind, rest) = type_before(rest)?;
     let (component, variable) = split_once(rest, b' ')?;
@@ -84,7 +84,7 @@ fn read_at(line: &[u8]) -> Option<(u64, u64)>
     ensures found { IfSome result (λ p. line.now ≡ at_line p.0 p.1) }
     ensures exact { (t n : ℕ) → t < 2 ^ 64 → n < 2 ^ 64 → line.now ≡ at_line t n → result ≡ Some (t, n) }
 {
-    let rest = behind(line, b"at ")?;
+    let rest = after(line, b"at ")?;
     let (t, rest) = number_before(rest)?;
     Some((t, number(rest)?))
 }
@@ -103,7 +103,7 @@ fn read_end(line: &[u8]) -> Option<(EndKind, u64)>
     ensures found { IfSome result (λ p. line.now ≡ end_line p.0 p.1) }
     ensures exact { (kind : EndKind) (t : ℕ) → t < 2 ^ 64 → line.now ≡ end_line kind t → result ≡ Some (kind, t) }
 {
-    let rest = behind(line, b"end ")?;
+    let rest = after(line, b"end ")?;
     let (word, rest) = split_once(rest, b' ')?;
     Some((kind_of(word)?, number(rest)?))
 }

@@ -1,7 +1,7 @@
 ghost use Rattle.std.specs.Prelude.{◌≡◌, ◌≢◌, ℕ, ◌<◌, List, [], ◌++◌, Ok, None, IfSome, IfOk, IsSomeAnd};
 ghost use Rattle.sim_base.specs.Escape.{escaped, escaped_byte, hex_digit};
 
-use crate::cut::behind;
+use crate::cut::after;
 use sim_base::escaped_byte;
 use std::alloc::{AllocError, Global};
 
@@ -13,7 +13,7 @@ fn byte_before(word: &[u8]) -> Option<(u8, &[u8])>
 {
     let byte = guess_byte(word);
     let escaped = escaped_byte(byte);
-    let rest = behind(word, escaped.as_slice())?;
+    let rest = after(word, escaped.as_slice())?;
     Some((byte, rest))
 }
 
@@ -48,11 +48,11 @@ pub fn name(alloc: Global, word: &[u8]) -> Result<Option<Vec<u8>>, AllocError>
     let mut bytes = Vec::new(alloc);
     let mut rest = word;
     while !rest.is_empty() {
-        let Some((byte, behind)) = byte_before(rest) else {
+        let Some((byte, after)) = byte_before(rest) else {
             return Ok(None);
         };
         bytes.push(byte)?;
-        rest = behind;
+        rest = after;
     }
     if bytes.is_empty() {
         Ok(None)

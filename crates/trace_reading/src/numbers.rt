@@ -3,7 +3,7 @@ ghost use Rattle.std.specs.Str.{IsAscii};
 ghost use Rattle.std.specs.Fmt.{signed_decimal};
 ghost use Rattle.trace_reading.specs.Lines.{IsShort};
 
-use crate::cut::behind;
+use crate::cut::after;
 use itoa::Buffer;
 
 /// The number that the bytes write without leading zeros, where 64 bits hold it.
@@ -43,7 +43,7 @@ pub(crate) fn value(bytes: &[u8]) -> Option<i128>
     ensures found { IfSome result (λ v. bytes.now ≡ signed_decimal v) }
     ensures exact { (v : ℤ) → IsShort v → bytes.now ≡ signed_decimal v → result ≡ Some v }
 {
-    match behind(bytes, b"-") {
+    match after(bytes, b"-") {
         Some(digits) => negative_number(digits),
         None => natural_number(bytes),
     }

@@ -19,9 +19,9 @@ pub(crate) fn read_ports(alloc: Global, text: &[u8]) -> Result<(Vec<TracePort>, 
 {
     let mut ports = Vec::new(alloc);
     let mut rest = text;
-    while let Some((port, behind)) = port_before(alloc, ports.len() as u64, rest)? {
+    while let Some((port, after)) = port_before(alloc, ports.len() as u64, rest)? {
         ports.push(port)?;
-        rest = behind;
+        rest = after;
     }
     Ok((ports, rest))
 }
@@ -37,11 +37,11 @@ fn port_before(
     ensures none { (port : TracePort) (rest : List ℕ) → IsNamed port →
         text.now ≡ line_of_port number port ++ (10 ∷ rest) → result ≡ Ok None → ⊥ }
 {
-    let Some((line, behind)) = split_once(text, b'\n') else {
+    let Some((line, after)) = split_once(text, b'\n') else {
         return Ok(None);
     };
     match read_port_line(alloc, number, line)? {
-        Some(port) => Ok(Some((port, behind))),
+        Some(port) => Ok(Some((port, after))),
         None => Ok(None),
     }
 }

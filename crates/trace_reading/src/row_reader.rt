@@ -2,12 +2,12 @@ ghost use Rattle.std.specs.Prelude.{◌≡◌, IfNone, IfOk, IfSome, Some, None}
 ghost use Rattle.trace_reading.specs.declared.item.Item.{Item};
 ghost use Rattle.trace_reading.specs.declared.item.Place.TheVariants.{Between};
 ghost use Rattle.trace_reading.specs.Form.{kinds_of};
-ghost use Rattle.trace_reading.specs.Walk.{item_line, place_behind, IsClockTable, IsShortItem};
+ghost use Rattle.trace_reading.specs.Walk.{item_line, place_after, IsClockTable, IsShortItem};
 
 use crate::item::{Item, Place};
 use crate::lines::read_item;
 use crate::ports::clock_table;
-use crate::rows::place_behind;
+use crate::rows::place_after;
 use crate::trace::TracePort;
 use sim_base::Items;
 use std::alloc::{AllocError, Global};
@@ -41,14 +41,14 @@ impl RowReader {
     pub fn read(&mut self, line: &[u8]) -> Option<Item>
         ensures found { IfSome result (λ item. line.now ≡ item_line item) }
         ensures place { IfSome result
-            (λ item. place_behind (kinds_of self.old.ports) self.old.place item ≡ Some self.new.place) }
+            (λ item. place_after (kinds_of self.old.ports) self.old.place item ≡ Some self.new.place) }
         ensures none { IfNone result ((item : Item) → IsShortItem item → line.now ≡ item_line item →
-            place_behind (kinds_of self.old.ports) self.old.place item ≡ None) }
+            place_after (kinds_of self.old.ports) self.old.place item ≡ None) }
         ensures ports { self.new.ports ≡ self.old.ports }
         ensures stays { IfNone result (self.new.place ≡ self.old.place) }
     {
         let item = read_item(line)?;
-        let place = place_behind(self.ports.as_slice(), &self.clocks, self.place, item)?;
+        let place = place_after(self.ports.as_slice(), &self.clocks, self.place, item)?;
         self.place = place;
         Some(item)
     }

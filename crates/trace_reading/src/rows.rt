@@ -3,7 +3,7 @@ ghost use Rattle.system_model.specs.declared.plan.EndKind.{EndKind};
 ghost use Rattle.trace_reading.specs.declared.fault.TraceFault.TheVariants.{Line};
 ghost use Rattle.trace_reading.specs.Form.{kinds_of};
 ghost use Rattle.system_model.specs.Text.{lines_text};
-ghost use Rattle.trace_reading.specs.Walk.{clocks_before, fits_at, is_closed, is_next, is_start, items_in, place_behind, rows_with, IsClockTable, IsFirstFaultOf, IsRows};
+ghost use Rattle.trace_reading.specs.Walk.{clocks_before, fits_at, is_closed, is_next, is_start, items_in, place_after, rows_with, IsClockTable, IsFirstFaultOf, IsRows};
 
 use crate::cut::split_once;
 use crate::fault::TraceFault;
@@ -39,16 +39,16 @@ pub(crate) fn read_rows(
     let mut lines = Vec::with_capacity(alloc, count_lines(text))?;
     let mut place = Place::Between;
     let mut rest = text;
-    while let Some((line, behind)) = split_once(rest, b'\n') {
+    while let Some((line, after)) = split_once(rest, b'\n') {
         let Some(item) = read_item(line) else {
             return Err(TraceFault::Line(next_number(&lines, place)));
         };
-        let Some(next) = place_behind(ports, clocks, place, item) else {
+        let Some(next) = place_after(ports, clocks, place, item) else {
             return Err(TraceFault::Line(next_number(&lines, place)));
         };
         push_row(&mut lines, item)?;
         place = next;
-        rest = behind;
+        rest = after;
     }
     match ending(place, rest) {
         Some((kind, point)) => Ok(Rows { lines, kind, point }),
@@ -104,14 +104,14 @@ fn next_number(lines: &Vec<TraceLine>, place: Place) -> u64
 }
 
 // Where the reading stands after the line; none where the line may not stand there.
-pub(crate) fn place_behind(
+pub(crate) fn place_after(
     ports: &[TracePort],
     clocks: &[usize],
     place: Place,
     item: Item,
 ) -> Option<Place>
     requires { IsClockTable (kinds_of ports.now) clocks.now }
-    ensures { result ≡ place_behind (kinds_of ports.now) place item }
+    ensures { result ≡ place_after (kinds_of ports.now) place item }
 {
     match item {
         Item::Row(TraceLine::At { t, n }) => {

@@ -26,8 +26,8 @@ read_whole bytes header ports lines ahead kind t left number read is none =
       parts = read.parts ∙ ap (λ (rest : List ℕ). lines_text (map item_line (rows lines ++ (item_ahead ahead ∷ []))) ++ rest) none ∙ append-nil (lines_text (map item_line (rows lines ++ (item_ahead ahead ∷ [])))) ∙ ap (λ (is : List Item). lines_text (map item_line is)) items;
       good = ap (λ (is : List Item). walk (kinds_of ports) Between is) (sym items) ∙ read.good ∙ ap (λ (a : Ahead). Some (place_ahead a)) is;
     } in
-    let front : Read bytes header.resolution header.start header.stop ports read.body = record { range = read.range; behind_header = read.behind; header = read.first; ports_there = read.ports_there } in
-    whole_text bytes header.resolution header.start header.stop ports read.body lines kind t front whole
+    let prefix : Read bytes header.resolution header.start header.stop ports read.body = record { range = read.range; after_header = read.after; header = read.first; ports_there = read.ports_there } in
+    whole_text bytes header.resolution header.start header.stop ports read.body lines kind t prefix whole
 
 pub stands_whole : {B : Type 0} (remaining : B → Option (List ℕ)) (stream : TraceStream B) (bytes : List ℕ) (lines : List TraceLine) (kind : EndKind) (t : ℕ) → Stands remaining stream bytes (rows lines) → stream.ahead ≡ Finish kind t →
     IsTextOf bytes (record { resolution = stream.header.resolution; start = stream.header.start; stop = stream.header.stop; ports = stream.rows.ports; lines = lines; kind = kind; point = t })

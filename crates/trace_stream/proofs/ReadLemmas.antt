@@ -9,7 +9,7 @@ use Rattle.trace_reading.specs.declared.item.Item.TheVariants.{Row, End}
 use Rattle.trace_reading.specs.declared.item.Place.{Place}
 use Rattle.trace_reading.specs.declared.item.Place.TheVariants.{Between, Ended}
 use Rattle.trace_reading.specs.Form.{kinds_of}
-use Rattle.trace_reading.specs.Walk.{place_behind}
+use Rattle.trace_reading.specs.Walk.{place_after}
 use Rattle.trace_stream.specs.declared.steps.Ahead.{Ahead}
 use Rattle.trace_stream.specs.declared.steps.Ahead.TheVariants.{Begin, Finish}
 use Rattle.trace_stream.specs.Cut.{next_number}
@@ -30,9 +30,9 @@ pub start_reading : (bytes : List ℕ) (header : Header) (ports : List TracePort
 start_reading bytes header ports before ahead t n place left number read places is =
     record { items = before ++ (Row (At t n) ∷ []); next = 0; at = places ∙ ap place_ahead is; read = begun bytes header ports before ahead t n place left number read places is }
 
-pub reading_more : (bytes : List ℕ) (header : Header) (ports : List TracePort) (port : ℕ) (v : ℤ) (place next : Place) (old new : Option (List ℕ)) (number number2 : ℕ) → IsReading bytes header ports place old number → place_behind (kinds_of ports) place (Row (Value port v)) ≡ Some next → ((items : List Item) → HasRead bytes header ports items place old number → HasRead bytes header ports (items ++ (Row (Value port v) ∷ [])) next new number2) → IsReading bytes header ports next new number2
+pub reading_more : (bytes : List ℕ) (header : Header) (ports : List TracePort) (port : ℕ) (v : ℤ) (place next : Place) (old new : Option (List ℕ)) (number number2 : ℕ) → IsReading bytes header ports place old number → place_after (kinds_of ports) place (Row (Value port v)) ≡ Some next → ((items : List Item) → HasRead bytes header ports items place old number → HasRead bytes header ports (items ++ (Row (Value port v) ∷ [])) next new number2) → IsReading bytes header ports next new number2
 reading_more bytes header ports port v place next old new number number2 reading step reads =
-    let here = ap (λ (p : Place). place_behind (kinds_of ports) p (Row (Value port v))) (sym reading.at) ∙ step in
+    let here = ap (λ (p : Place). place_after (kinds_of ports) p (Row (Value port v))) (sym reading.at) ∙ step in
     let goes = value_step (kinds_of ports) reading.next port v next here in
     record { items = reading.items ++ (Row (Value port v) ∷ []); next = port + 1; at = goes.at; read = reads reading.items reading.read }
 
@@ -40,14 +40,14 @@ pub reading_fault : (bytes : List ℕ) (header : Header) (ports : List TracePort
 reading_fault bytes header ports place left number n reading fault =
     fault reading.items reading.read (λ kind t e. let at = reading.at in absurd (cc (at, e)))
 
-pub finish_fault : (bytes : List ℕ) (header : Header) (ports : List TracePort) (items : List Item) (place next : Place) (item : Item) (kind : EndKind) (t : ℕ) (left : Option (List ℕ)) (number n : ℕ) → HasRead bytes header ports items next left number → place_behind (kinds_of ports) place item ≡ Some next → item ≡ End kind t → n ≡ next_number number → ((rest : List ℕ) → left ≡ Some rest → rest ≡ [] → ⊥) → IsFaultAt bytes n
+pub finish_fault : (bytes : List ℕ) (header : Header) (ports : List TracePort) (items : List Item) (place next : Place) (item : Item) (kind : EndKind) (t : ℕ) (left : Option (List ℕ)) (number n : ℕ) → HasRead bytes header ports items next left number → place_after (kinds_of ports) place item ≡ Some next → item ≡ End kind t → n ≡ next_number number → ((rest : List ℕ) → left ≡ Some rest → rest ≡ [] → ⊥) → IsFaultAt bytes n
 finish_fault bytes header ports items place next item kind t left number n read step is numbers some =
-    let at : next ≡ Ended kind t = ahead_place (kinds_of ports) place (Finish kind t) next (ap (λ (i : Item). place_behind (kinds_of ports) place i) (sym is) ∙ step) in
+    let at : next ≡ Ended kind t = ahead_place (kinds_of ports) place (Finish kind t) next (ap (λ (i : Item). place_after (kinds_of ports) place i) (sym is) ∙ step) in
     let P : Place → Type 0 = λ p. HasRead bytes header ports items p left number in
     let Q : ℕ → Type 0 = λ k. IsFaultAt bytes k in
     subst Q (sym numbers) (rest_fault bytes header ports items kind t left number (subst P at read) some)
 
-pub ahead_fault : (bytes : List ℕ) (header : Header) (ports : List TracePort) (item : Item) (next : Place) (left : Option (List ℕ)) (number n : ℕ) → HasRead bytes header ports (item ∷ []) next left number → place_behind (kinds_of ports) Between item ≡ Some next → IsWrongAhead item n number left → IsFaultAt bytes n
+pub ahead_fault : (bytes : List ℕ) (header : Header) (ports : List TracePort) (item : Item) (next : Place) (left : Option (List ℕ)) (number n : ℕ) → HasRead bytes header ports (item ∷ []) next left number → place_after (kinds_of ports) Between item ≡ Some next → IsWrongAhead item n number left → IsFaultAt bytes n
 ahead_fault bytes header ports (Row (At t k)) next left number n read step wrong = absurd wrong
 ahead_fault bytes header ports (Row (Value port v)) next left number n read step wrong = absurd (no_value_first (kinds_of ports) port v next step)
 ahead_fault bytes header ports (End kind t) next left number n read step wrong =

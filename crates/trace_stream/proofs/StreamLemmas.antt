@@ -16,11 +16,11 @@ use Rattle.trace_reading.specs.declared.item.Place.TheVariants.{Between, Ended}
 use Rattle.trace_reading.specs.Form.{IsNamed, IsRange, kinds_of}
 use Rattle.trace_reading.specs.Lines.{Lacks, line_of_port}
 use Rattle.system_model.specs.Text.{header_line}
-use Rattle.trace_reading.specs.Walk.{item_line, place_behind, IsShortItem, IsFirstFaultOf, WrongBehind}
-use Rattle.trace_reading.specs.Walk.WrongBehind.{NoItem, NoEnd}
+use Rattle.trace_reading.specs.Walk.{item_line, place_after, IsShortItem, IsFirstFaultOf, WrongAfter}
+use Rattle.trace_reading.specs.Walk.WrongAfter.{NoItem, NoEnd}
 use Rattle.trace_reading.proofs.CallerLemmas.{unsome, one_cut, is_header_line, is_port_line, lacks_not, more_ports, more_named, more_text, more_walk, header_fault, line_fault, Read}
 use Rattle.trace_stream.specs.Cut.{next_number, IsCut, HasNoLine, TakesLine}
-use Rattle.trace_stream.specs.Reading.{HasPorts, HasRead, IsBehindPorts, IsFaultAt, IsOpen}
+use Rattle.trace_stream.specs.Reading.{HasPorts, HasRead, IsAfterPorts, IsFaultAt, IsOpen}
 
 -- ---- cutting a line off
 
@@ -46,15 +46,15 @@ pub cut_or_not : (bytes : List ℕ) → CutOrNot bytes
 cut_or_not [] = Whole tt refl
 cut_or_not (b ∷ bytes) = one_byte (b == 10) b bytes refl (cut_or_not bytes)
 
-same_front : (xs ys : List ℕ) → xs ++ (10 ∷ []) ≡ ys ++ (10 ∷ []) → Lacks 10 ys → xs ≡ ys
-same_front [] [] e free = refl
-same_front [] (y ∷ ys) e free = absurd (free.0 (cc e))
-same_front (x ∷ []) [] e free = absurd (cc e)
-same_front (x ∷ (z ∷ xs)) [] e free = absurd (cc e)
-same_front (x ∷ xs) (y ∷ ys) e free =
+same_prefix : (xs ys : List ℕ) → xs ++ (10 ∷ []) ≡ ys ++ (10 ∷ []) → Lacks 10 ys → xs ≡ ys
+same_prefix [] [] e free = refl
+same_prefix [] (y ∷ ys) e free = absurd (free.0 (cc e))
+same_prefix (x ∷ []) [] e free = absurd (cc e)
+same_prefix (x ∷ (z ∷ xs)) [] e free = absurd (cc e)
+same_prefix (x ∷ xs) (y ∷ ys) e free =
     let heads : x ≡ y = cc e in
     let tails : xs ++ (10 ∷ []) ≡ ys ++ (10 ∷ []) = cc e in
-    let later = same_front xs ys tails free.1 in
+    let later = same_prefix xs ys tails free.1 in
     cc (heads, later)
 
 -- the bytes through the first line feed, without their last one
@@ -65,7 +65,7 @@ line_cut bytes line left taken is =
           let P : List ℕ → Type 0 = λ xs. Lacks 10 xs in
           absurd (lacks_not 10 line [] (subst P (sym same ∙ taken) free))
       | Cut other free whole parts ↦
-          let one = same_front line other (sym taken ∙ whole) free in
+          let one = same_prefix line other (sym taken ∙ whole) free in
           let P : List ℕ → Type 0 = λ xs. Lacks 10 xs in
           record {
             rest = drop_through 10 bytes;
@@ -92,7 +92,7 @@ pub no_line : (bytes line : List ℕ) (last : ℕ) → take_through 10 bytes ≡
 no_line bytes line last taken other =
     elim (cut_or_not bytes) [
       | Whole free same ↦ free
-      | Cut front free whole parts ↦ absurd (other (last_same line front last (sym taken ∙ whole)))
+      | Cut prefix free whole parts ↦ absurd (other (last_same line prefix last (sym taken ∙ whole)))
     ]
 
 -- none was there
@@ -100,7 +100,7 @@ pub nothing_there : (bytes : List ℕ) → take_through 10 bytes ≡ [] → Lack
 nothing_there bytes none =
     elim (cut_or_not bytes) [
       | Whole free same ↦ free
-      | Cut front free whole parts ↦ absurd (not_nothing front (sym none ∙ whole))
+      | Cut prefix free whole parts ↦ absurd (not_nothing prefix (sym none ∙ whole))
     ]
 
 empty_is : (line : List ℕ) → length line ≡ 0 → line ≡ []
@@ -125,10 +125,10 @@ port_read bytes header ports more port line old new number read takes is named p
     let size : length more ≡ length ports + 1 = omega (arith, ap (λ (ps : List TracePort). length ps) pushed, length-append ports (port ∷ [])) in
     record {
       range = read.range;
-      behind = read.behind;
+      after = read.after;
       first = read.first;
       rest = cut.rest;
-      parts = more_ports read.behind read.rest cut.rest ports more port read.parts (cut.parts ∙ ap (λ (xs : List ℕ). xs ++ (10 ∷ cut.rest)) is) pushed;
+      parts = more_ports read.after read.rest cut.rest ports more port read.parts (cut.parts ∙ ap (λ (xs : List ℕ). xs ++ (10 ∷ cut.rest)) is) pushed;
       named = more_named ports more port read.named named pushed;
       left_is = cut.left_is;
       count = next_count number (1 + length ports) read.count ∙ ap (λ (k : ℕ). min k (2 ^ 64 - 1)) (let up : 1 + length ports + 1 ≡ 1 + length more = omega (arith, size) in up);
@@ -138,7 +138,7 @@ port_read bytes header ports more port line old new number read takes is named p
 ports_end : (bytes : List ℕ) (header : Header) (ports : List TracePort) (left : Option (List ℕ)) (number : ℕ) (read : HasPorts bytes header ports left number) → length ports < 2 ^ 64 → ((port : TracePort) (more : List ℕ) → IsNamed port → read.rest ≡ line_of_port (length ports) port ++ (10 ∷ more) → ⊥) → HasRead bytes header ports [] Between (Some read.rest) number
 ports_end bytes header ports left number read few last = record {
   range = read.range;
-  behind = read.behind;
+  after = read.after;
   first = read.first;
   body = read.rest;
   ports_there = record { parts = read.parts; named = read.named; few = few; last = last };
@@ -149,8 +149,8 @@ ports_end bytes header ports left number read few last = record {
   count = read.count ∙ ap (λ (k : ℕ). min k (2 ^ 64 - 1)) (let same : 1 + length ports ≡ 1 + length ports + 0 = omega arith in same);
 }
 
-pub behind_ports : (bytes : List ℕ) (header : Header) (ports : List TracePort) (line : List ℕ) (old new : Option (List ℕ)) (number : ℕ) → length ports < 2 ^ 64 → HasPorts bytes header ports old number → TakesLine old new line → ((port : TracePort) → IsNamed port → line ≡ line_of_port (length ports) port → ⊥) → IsBehindPorts bytes header ports line new (next_number number)
-behind_ports bytes header ports line old new number few read takes none =
+pub after_ports : (bytes : List ℕ) (header : Header) (ports : List TracePort) (line : List ℕ) (old new : Option (List ℕ)) (number : ℕ) → length ports < 2 ^ 64 → HasPorts bytes header ports old number → TakesLine old new line → ((port : TracePort) → IsNamed port → line ≡ line_of_port (length ports) port → ⊥) → IsAfterPorts bytes header ports line new (next_number number)
+after_ports bytes header ports line old new number few read takes none =
     let cut = takes read.rest read.left_is in
     record {
       body = read.rest;
@@ -164,13 +164,13 @@ behind_ports bytes header ports line old new number few read takes none =
 
 -- ---- lines after the ports
 
-pub line_read : (bytes : List ℕ) (header : Header) (ports : List TracePort) (items : List Item) (place next : Place) (old new : Option (List ℕ)) (number : ℕ) (line : List ℕ) (item : Item) → HasRead bytes header ports items place old number → TakesLine old new line → line ≡ item_line item → place_behind (kinds_of ports) place item ≡ Some next → HasRead bytes header ports (items ++ (item ∷ [])) next new (next_number number)
+pub line_read : (bytes : List ℕ) (header : Header) (ports : List TracePort) (items : List Item) (place next : Place) (old new : Option (List ℕ)) (number : ℕ) (line : List ℕ) (item : Item) → HasRead bytes header ports items place old number → TakesLine old new line → line ≡ item_line item → place_after (kinds_of ports) place item ≡ Some next → HasRead bytes header ports (items ++ (item ∷ [])) next new (next_number number)
 line_read bytes header ports items place next old new number line item read takes is step =
     let cut = takes read.rest read.left_is in
     let size : 1 + length ports + length items + 1 ≡ 1 + length ports + length (items ++ (item ∷ [])) = omega (arith, length-append items (item ∷ [])) in
     record {
       range = read.range;
-      behind = read.behind;
+      after = read.after;
       first = read.first;
       body = read.body;
       ports_there = read.ports_there;
@@ -185,9 +185,9 @@ line_read bytes header ports items place next old new number line item read take
 
 as_read : (bytes : List ℕ) (header : Header) (ports : List TracePort) (items : List Item) (place : Place) (left : Option (List ℕ)) (number : ℕ) (read : HasRead bytes header ports items place left number) → Read bytes header.resolution header.start header.stop ports read.body
 as_read bytes header ports items place left number read =
-    record { range = read.range; behind_header = read.behind; header = read.first; ports_there = read.ports_there }
+    record { range = read.range; after_header = read.after; header = read.first; ports_there = read.ports_there }
 
-wrong_fault : (bytes : List ℕ) (header : Header) (ports : List TracePort) (items : List Item) (place : Place) (left : Option (List ℕ)) (number : ℕ) (read : HasRead bytes header ports items place left number) → WrongBehind (kinds_of ports) place read.rest → IsFaultAt bytes (next_number number)
+wrong_fault : (bytes : List ℕ) (header : Header) (ports : List TracePort) (items : List Item) (place : Place) (left : Option (List ℕ)) (number : ℕ) (read : HasRead bytes header ports items place left number) → WrongAfter (kinds_of ports) place read.rest → IsFaultAt bytes (next_number number)
 wrong_fault bytes header ports items place left number read wrong =
     let first : IsFirstFaultOf (kinds_of ports) read.body (length items + 1) = record { before = items; after = read.rest; place = place; parts = read.parts; good = read.good; number = refl; wrong = wrong } in
     let size : 1 + length ports + length items + 1 ≡ 1 + length ports + (length items + 1) = omega arith in
@@ -197,7 +197,7 @@ wrong_fault bytes header ports items place left number read wrong =
       number = next_count number (1 + length ports + length items) read.count ∙ ap (λ (k : ℕ). min k (2 ^ 64 - 1)) size;
     }
 
-pub item_fault : (bytes : List ℕ) (header : Header) (ports : List TracePort) (items : List Item) (place : Place) (old new : Option (List ℕ)) (number : ℕ) (line : List ℕ) → HasRead bytes header ports items place old number → TakesLine old new line → ((item : Item) → IsShortItem item → line ≡ item_line item → place_behind (kinds_of ports) place item ≡ None) → IsFaultAt bytes (next_number number)
+pub item_fault : (bytes : List ℕ) (header : Header) (ports : List TracePort) (items : List Item) (place : Place) (old new : Option (List ℕ)) (number : ℕ) (line : List ℕ) → HasRead bytes header ports items place old number → TakesLine old new line → ((item : Item) → IsShortItem item → line ≡ item_line item → place_after (kinds_of ports) place item ≡ None) → IsFaultAt bytes (next_number number)
 item_fault bytes header ports items place old new number line read takes none =
     let cut = takes read.rest read.left_is in
     wrong_fault bytes header ports items place old number read (NoItem line cut.rest cut.parts cut.free none)
@@ -206,7 +206,7 @@ pub end_fault : (bytes : List ℕ) (header : Header) (ports : List TracePort) (i
 end_fault bytes header ports items place left number read none open_there =
     wrong_fault bytes header ports items place left number read (NoEnd (none read.rest read.left_is) (λ kind t at empty. open_there kind t at))
 
-none_fits : (kinds : List PortType) (kind : EndKind) (t : ℕ) (item : Item) → place_behind kinds (Ended kind t) item ≡ None
+none_fits : (kinds : List PortType) (kind : EndKind) (t : ℕ) (item : Item) → place_after kinds (Ended kind t) item ≡ None
 none_fits kinds kind t (Row (At u n)) = refl
 none_fits kinds kind t (Row (Value port value)) = refl
 none_fits kinds kind t (End k u) = refl
@@ -249,7 +249,7 @@ header_read bytes line header old new number is takes line_is range zero =
     let cut = takes bytes is in
     record {
       range = range;
-      behind = cut.rest;
+      after = cut.rest;
       first = cut.parts ∙ ap (λ (xs : List ℕ). xs ++ (10 ∷ cut.rest)) line_is;
       rest = cut.rest;
       parts = refl;
@@ -268,7 +268,7 @@ read_same bytes header ports items more place next old new number same read item
     subst P items_are (subst Q places (subst R lefts (subst S numbers read)))
 
 -- the fault of a first line, after the ports
-pub first_fault : (bytes : List ℕ) (header : Header) (ports : List TracePort) (line : List ℕ) (left : Option (List ℕ)) (number : ℕ) → IsBehindPorts bytes header ports line left number → ((item : Item) → IsShortItem item → line ≡ item_line item → place_behind (kinds_of ports) Between item ≡ None) → IsFaultAt bytes number
+pub first_fault : (bytes : List ℕ) (header : Header) (ports : List TracePort) (line : List ℕ) (left : Option (List ℕ)) (number : ℕ) → IsAfterPorts bytes header ports line left number → ((item : Item) → IsShortItem item → line ≡ item_line item → place_after (kinds_of ports) Between item ≡ None) → IsFaultAt bytes number
 first_fault bytes header ports line left number at none =
     let P : ℕ → Type 0 = λ k. IsFaultAt bytes k in
     let takes : TakesLine (Some at.body) left line = λ body is.
@@ -277,7 +277,7 @@ first_fault bytes header ports line left number at none =
     subst P (sym at.count) (item_fault bytes header ports [] Between (Some at.body) left at.before line at.read takes none)
 
 -- the first line, after the ports
-pub first_read : (bytes : List ℕ) (header : Header) (ports : List TracePort) (line : List ℕ) (left : Option (List ℕ)) (number : ℕ) (item : Item) (next : Place) → IsBehindPorts bytes header ports line left number → line ≡ item_line item → place_behind (kinds_of ports) Between item ≡ Some next → HasRead bytes header ports (item ∷ []) next left number
+pub first_read : (bytes : List ℕ) (header : Header) (ports : List TracePort) (line : List ℕ) (left : Option (List ℕ)) (number : ℕ) (item : Item) (next : Place) → IsAfterPorts bytes header ports line left number → line ≡ item_line item → place_after (kinds_of ports) Between item ≡ Some next → HasRead bytes header ports (item ∷ []) next left number
 first_read bytes header ports line left number item next at is step =
     let P : ℕ → Type 0 = λ k. HasRead bytes header ports (item ∷ []) next left k in
     let takes : TakesLine (Some at.body) left line = λ body same.

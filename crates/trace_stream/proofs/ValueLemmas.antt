@@ -16,7 +16,7 @@ use Rattle.trace_reading.specs.declared.item.Place.{Place}
 use Rattle.trace_reading.specs.declared.item.Place.TheVariants.{Between, Within, Ended}
 use Rattle.system_model.specs.Text.{Instant}
 use Rattle.trace_reading.specs.Form.{instant_lines, kinds_of, told_values_from}
-use Rattle.trace_reading.specs.Walk.{place_behind, is_closed, is_next, is_start, fits_at, clocks_before}
+use Rattle.trace_reading.specs.Walk.{place_after, is_closed, is_next, is_start, fits_at, clocks_before}
 use Rattle.trace_stream.specs.declared.steps.Ahead.{Ahead}
 use Rattle.trace_stream.specs.declared.steps.Ahead.TheVariants.{Begin, Finish}
 use Rattle.trace_stream.specs.Reading.{item_ahead, place_ahead, HasRead, IsWithin}
@@ -40,35 +40,35 @@ none_told k (suc m) ys =
     none_told (k + 1) m ys ∙ ap (λ (n : ℕ). told_values_from n ys) up
 
 -- ports without a value after the others have no lines
-pub values_end : (front : List (Option ℤ)) (empty : ℕ) → told_values_from 0 (front ++ replicate empty None) ≡ told_values_from 0 front
-values_end front empty =
-    values_append 0 front (replicate empty None)
-    ∙ ap (λ (ls : List TraceLine). told_values_from 0 front ++ ls) (
-    ap (λ (vs : List (Option ℤ)). told_values_from (0 + length front) vs) (sym (append-nil (replicate empty None)))
-    ∙ none_told (0 + length front) empty [])
-    ∙ append-nil (told_values_from 0 front)
+pub values_end : (prefix : List (Option ℤ)) (empty : ℕ) → told_values_from 0 (prefix ++ replicate empty None) ≡ told_values_from 0 prefix
+values_end prefix empty =
+    values_append 0 prefix (replicate empty None)
+    ∙ ap (λ (ls : List TraceLine). told_values_from 0 prefix ++ ls) (
+    ap (λ (vs : List (Option ℤ)). told_values_from (0 + length prefix) vs) (sym (append-nil (replicate empty None)))
+    ∙ none_told (0 + length prefix) empty [])
+    ∙ append-nil (told_values_from 0 prefix)
 
 -- one port more that has a value
-values_more : (front : List (Option ℤ)) (gap port : ℕ) (v : ℤ) → length front + gap ≡ port → told_values_from 0 (front ++ (replicate gap None ++ (Some v ∷ []))) ≡ told_values_from 0 front ++ (Value port v ∷ [])
-values_more front gap port v at =
-    let there : (0 + length front) + gap ≡ port = omega (arith, at) in
-    values_append 0 front (replicate gap None ++ (Some v ∷ []))
-    ∙ ap (λ (ls : List TraceLine). told_values_from 0 front ++ ls) (none_told (0 + length front) gap (Some v ∷ []) ∙ ap (λ (n : ℕ). Value n v ∷ []) there)
+values_more : (prefix : List (Option ℤ)) (gap port : ℕ) (v : ℤ) → length prefix + gap ≡ port → told_values_from 0 (prefix ++ (replicate gap None ++ (Some v ∷ []))) ≡ told_values_from 0 prefix ++ (Value port v ∷ [])
+values_more prefix gap port v at =
+    let there : (0 + length prefix) + gap ≡ port = omega (arith, at) in
+    values_append 0 prefix (replicate gap None ++ (Some v ∷ []))
+    ∙ ap (λ (ls : List TraceLine). told_values_from 0 prefix ++ ls) (none_told (0 + length prefix) gap (Some v ∷ []) ∙ ap (λ (n : ℕ). Value n v ∷ []) there)
 
 -- ---- values
 
-put_value : (front : List (Option ℤ)) (empty gap port : ℕ) (v : ℤ) → length front + gap ≡ port → gap < empty → set (front ++ replicate empty None) port (Some v) ≡ (front ++ (replicate gap None ++ (Some v ∷ []))) ++ replicate (empty - suc gap) None
-put_value front empty gap port v at low =
-    let there : port - length front ≡ gap = omega (arith, at) in
+put_value : (prefix : List (Option ℤ)) (empty gap port : ℕ) (v : ℤ) → length prefix + gap ≡ port → gap < empty → set (prefix ++ replicate empty None) port (Some v) ≡ (prefix ++ (replicate gap None ++ (Some v ∷ []))) ++ replicate (empty - suc gap) None
+put_value prefix empty gap port v at low =
+    let there : port - length prefix ≡ gap = omega (arith, at) in
     let within : gap < length (replicate {A = Option ℤ} empty None) = omega (arith, low, length-replicate {A = Option ℤ} empty None) in
-    set-append_right front (replicate empty None) (length front) port (Some v) refl (omega (arith, at))
-    ∙ ap (λ (n : ℕ). front ++ set (replicate empty None) n (Some v)) there
-    ∙ ap (λ (vs : List (Option ℤ)). front ++ vs) (
+    set-append_right prefix (replicate empty None) (length prefix) port (Some v) refl (omega (arith, at))
+    ∙ ap (λ (n : ℕ). prefix ++ set (replicate empty None) n (Some v)) there
+    ∙ ap (λ (vs : List (Option ℤ)). prefix ++ vs) (
     set_split (replicate empty None) gap (Some v) within
     ∙ ap (λ (vs : List (Option ℤ)). vs ++ (Some v ∷ drop (suc gap) (replicate empty None))) (take-replicate gap empty None (omega (arith, low)))
     ∙ ap (λ (vs : List (Option ℤ)). replicate gap None ++ (Some v ∷ vs)) (drop-replicate (suc gap) empty None)
     ∙ sym (append_assoc (replicate gap None) (Some v ∷ []) (replicate (empty - suc gap) None)))
-    ∙ sym (append_assoc front (replicate gap None ++ (Some v ∷ [])) (replicate (empty - suc gap) None))
+    ∙ sym (append_assoc prefix (replicate gap None ++ (Some v ∷ [])) (replicate (empty - suc gap) None))
 
 -- ---- where a line may stand
 
@@ -89,18 +89,18 @@ pub record IsStep (kinds : List PortType) (next port : ℕ) (place : Place) : Ty
   pub within : port < length kinds
   pub at : place ≡ Within (port + 1)
 
-pub value_step : (kinds : List PortType) (next port : ℕ) (v : ℤ) (q : Place) → place_behind kinds (Within next) (Row (Value port v)) ≡ Some q → IsStep kinds next port q
+pub value_step : (kinds : List PortType) (next port : ℕ) (v : ℤ) (q : Place) → place_after kinds (Within next) (Row (Value port v)) ≡ Some q → IsStep kinds next port q
 value_step kinds next port v q e =
     let step = by_test (is_next kinds next port v) (Within (port + 1)) q e in
     let first = both_of (nat_le next port) (fits_at kinds port v && clocks_before kinds next == clocks_before kinds port) step.0 in
     let second = both_of (fits_at kinds port v) (clocks_before kinds next == clocks_before kinds port) first.1 in
     record { order = leb-true next port first.0; within = port_within kinds port v (slice_get kinds port) refl second.0; at = step.1 }
 
-pub no_value_first : (kinds : List PortType) (port : ℕ) (v : ℤ) (q : Place) → place_behind kinds Between (Row (Value port v)) ≡ Some q → ⊥
+pub no_value_first : (kinds : List PortType) (port : ℕ) (v : ℤ) (q : Place) → place_after kinds Between (Row (Value port v)) ≡ Some q → ⊥
 no_value_first kinds port v q e = cc e
 
 -- after the line ahead
-pub ahead_place : (kinds : List PortType) (place : Place) (ahead : Ahead) (q : Place) → place_behind kinds place (item_ahead ahead) ≡ Some q → q ≡ place_ahead ahead
+pub ahead_place : (kinds : List PortType) (place : Place) (ahead : Ahead) (q : Place) → place_after kinds place (item_ahead ahead) ≡ Some q → q ≡ place_ahead ahead
 ahead_place kinds Between (Begin t n) q e = (by_test (is_closed kinds Between && is_start t n) (Within 0) q e).1
 ahead_place kinds (Within k) (Begin t n) q e = (by_test (is_closed kinds (Within k) && is_start t n) (Within 0) q e).1
 ahead_place kinds (Ended kind u) (Begin t n) q e = absurd (cc e)
@@ -118,41 +118,41 @@ rows_more before lines line =
 pub within_start : (bytes : List ℕ) (header : Header) (ports : List TracePort) (before : List Item) (values : List (Option ℤ)) (empty : ℕ) (place : Place) (left : Option (List ℕ)) (number : ℕ) → HasRead bytes header ports before place left number → place ≡ Within 0 → values ≡ replicate empty None → IsWithin bytes header ports before values place left number
 within_start bytes header ports before values empty place left number read at none =
     let P : List Item → Type 0 = λ items. HasRead bytes header ports items place left number in
-    record { front = []; empty = empty; values_are = none; at = at; read = subst P (sym (append-nil before)) read }
+    record { prefix = []; empty = empty; values_are = none; at = at; read = subst P (sym (append-nil before)) read }
 
-pub within_more : (bytes : List ℕ) (header : Header) (ports : List TracePort) (before : List Item) (values more : List (Option ℤ)) (port : ℕ) (v : ℤ) (place next : Place) (old new : Option (List ℕ)) (number number2 : ℕ) → IsWithin bytes header ports before values place old number → length values ≡ length ports → place_behind (kinds_of ports) place (Row (Value port v)) ≡ Some next → ((items : List Item) → HasRead bytes header ports items place old number → HasRead bytes header ports (items ++ (Row (Value port v) ∷ [])) next new number2) → more ≡ set values port (Some v) → IsWithin bytes header ports before more next new number2
+pub within_more : (bytes : List ℕ) (header : Header) (ports : List TracePort) (before : List Item) (values more : List (Option ℤ)) (port : ℕ) (v : ℤ) (place next : Place) (old new : Option (List ℕ)) (number number2 : ℕ) → IsWithin bytes header ports before values place old number → length values ≡ length ports → place_after (kinds_of ports) place (Row (Value port v)) ≡ Some next → ((items : List Item) → HasRead bytes header ports items place old number → HasRead bytes header ports (items ++ (Row (Value port v) ∷ [])) next new number2) → more ≡ set values port (Some v) → IsWithin bytes header ports before more next new number2
 within_more bytes header ports before values more port v place next old new number number2 within size step reads put =
     let kinds = kinds_of ports in
-    let here : place_behind kinds (Within (length within.front)) (Row (Value port v)) ≡ Some next = ap (λ (p : Place). place_behind kinds p (Row (Value port v))) (sym within.at) ∙ step in
-    let goes = value_step kinds (length within.front) port v next here in
-    let gap : ℕ = port - length within.front in
-    let at : length within.front + gap ≡ port = omega (arith, goes.order) in
-    let sizes : length values ≡ length within.front + within.empty = ap (λ (vs : List (Option ℤ)). length vs) within.values_are ∙ length-append within.front (replicate within.empty None) ∙ ap (λ (n : ℕ). length within.front + n) (length-replicate {A = Option ℤ} within.empty None) in
+    let here : place_after kinds (Within (length within.prefix)) (Row (Value port v)) ≡ Some next = ap (λ (p : Place). place_after kinds p (Row (Value port v))) (sym within.at) ∙ step in
+    let goes = value_step kinds (length within.prefix) port v next here in
+    let gap : ℕ = port - length within.prefix in
+    let at : length within.prefix + gap ≡ port = omega (arith, goes.order) in
+    let sizes : length values ≡ length within.prefix + within.empty = ap (λ (vs : List (Option ℤ)). length vs) within.values_are ∙ length-append within.prefix (replicate within.empty None) ∙ ap (λ (n : ℕ). length within.prefix + n) (length-replicate {A = Option ℤ} within.empty None) in
     let low : gap < within.empty = omega (arith, at, sizes, size, goes.within, length-map ports (λ (p : TracePort). p.kind)) in
-    let front = within.front ++ (replicate gap None ++ (Some v ∷ [])) in
+    let prefix = within.prefix ++ (replicate gap None ++ (Some v ∷ [])) in
     let tail : length (replicate {A = Option ℤ} gap None ++ (Some v ∷ [])) ≡ gap + 1 = omega (arith, length-append (replicate {A = Option ℤ} gap None) (Some v ∷ []), length-replicate {A = Option ℤ} gap None) in
-    let count : port + 1 ≡ length front = omega (arith, at, tail, length-append within.front (replicate gap None ++ (Some v ∷ []))) in
+    let count : port + 1 ≡ length prefix = omega (arith, at, tail, length-append within.prefix (replicate gap None ++ (Some v ∷ []))) in
     let P : List Item → Type 0 = λ items. HasRead bytes header ports items next new number2 in
-    let lines : told_values_from 0 within.front ++ (Value port v ∷ []) ≡ told_values_from 0 front = sym (values_more within.front gap port v at) in
+    let lines : told_values_from 0 within.prefix ++ (Value port v ∷ []) ≡ told_values_from 0 prefix = sym (values_more within.prefix gap port v at) in
     record {
-      front = front;
+      prefix = prefix;
       empty = within.empty - suc gap;
-      values_are = put ∙ ap (λ (vs : List (Option ℤ)). set vs port (Some v)) within.values_are ∙ put_value within.front within.empty gap port v at low;
+      values_are = put ∙ ap (λ (vs : List (Option ℤ)). set vs port (Some v)) within.values_are ∙ put_value within.prefix within.empty gap port v at low;
       at = goes.at ∙ ap (λ (k : ℕ). Within k) count;
-      read = subst P (rows_more before (told_values_from 0 within.front) (Value port v) ∙ ap (λ (ls : List TraceLine). before ++ rows ls) lines) (reads (before ++ rows (told_values_from 0 within.front)) within.read);
+      read = subst P (rows_more before (told_values_from 0 within.prefix) (Value port v) ∙ ap (λ (ls : List TraceLine). before ++ rows ls) lines) (reads (before ++ rows (told_values_from 0 within.prefix)) within.read);
     }
 
 -- ---- after an instant
 
-instant_told : (before : List Item) (i : Instant) (front : List (Option ℤ)) (empty : ℕ) → i.values ≡ front ++ replicate empty None → (before ++ (Row (At i.t i.n) ∷ [])) ++ rows (told_values_from 0 front) ≡ before ++ rows (instant_lines i)
-instant_told before i front empty is =
-    append_assoc before (Row (At i.t i.n) ∷ []) (rows (told_values_from 0 front))
-    ∙ ap (λ (ls : List TraceLine). before ++ (Row (At i.t i.n) ∷ rows ls)) (sym (ap (λ (vs : List (Option ℤ)). told_values_from 0 vs) is ∙ values_end front empty))
+instant_told : (before : List Item) (i : Instant) (prefix : List (Option ℤ)) (empty : ℕ) → i.values ≡ prefix ++ replicate empty None → (before ++ (Row (At i.t i.n) ∷ [])) ++ rows (told_values_from 0 prefix) ≡ before ++ rows (instant_lines i)
+instant_told before i prefix empty is =
+    append_assoc before (Row (At i.t i.n) ∷ []) (rows (told_values_from 0 prefix))
+    ∙ ap (λ (ls : List TraceLine). before ++ (Row (At i.t i.n) ∷ rows ls)) (sym (ap (λ (vs : List (Option ℤ)). told_values_from 0 vs) is ∙ values_end prefix empty))
 
 -- the instant's lines were read, and the line ahead
-pub instant_read : (bytes : List ℕ) (header : Header) (ports : List TracePort) (before : List Item) (i : Instant) (place next : Place) (ahead : Ahead) (old new : Option (List ℕ)) (number number2 : ℕ) → IsWithin bytes header ports (before ++ (Row (At i.t i.n) ∷ [])) i.values place old number → ((items : List Item) → HasRead bytes header ports items place old number → HasRead bytes header ports (items ++ (item_ahead ahead ∷ [])) next new number2) → place_behind (kinds_of ports) place (item_ahead ahead) ≡ Some next → HasRead bytes header ports ((before ++ rows (instant_lines i)) ++ (item_ahead ahead ∷ [])) (place_ahead ahead) new number2
+pub instant_read : (bytes : List ℕ) (header : Header) (ports : List TracePort) (before : List Item) (i : Instant) (place next : Place) (ahead : Ahead) (old new : Option (List ℕ)) (number number2 : ℕ) → IsWithin bytes header ports (before ++ (Row (At i.t i.n) ∷ [])) i.values place old number → ((items : List Item) → HasRead bytes header ports items place old number → HasRead bytes header ports (items ++ (item_ahead ahead ∷ [])) next new number2) → place_after (kinds_of ports) place (item_ahead ahead) ≡ Some next → HasRead bytes header ports ((before ++ rows (instant_lines i)) ++ (item_ahead ahead ∷ [])) (place_ahead ahead) new number2
 instant_read bytes header ports before i place next ahead old new number number2 within reads step =
     let P : List Item → Type 0 = λ items. HasRead bytes header ports (items ++ (item_ahead ahead ∷ [])) (place_ahead ahead) new number2 in
-    let Q : Place → Type 0 = λ p. HasRead bytes header ports (((before ++ (Row (At i.t i.n) ∷ [])) ++ rows (told_values_from 0 within.front)) ++ (item_ahead ahead ∷ [])) p new number2 in
-    subst P (instant_told before i within.front within.empty within.values_are)
-    (subst Q (ahead_place (kinds_of ports) place ahead next step) (reads ((before ++ (Row (At i.t i.n) ∷ [])) ++ rows (told_values_from 0 within.front)) within.read))
+    let Q : Place → Type 0 = λ p. HasRead bytes header ports (((before ++ (Row (At i.t i.n) ∷ [])) ++ rows (told_values_from 0 within.prefix)) ++ (item_ahead ahead ∷ [])) p new number2 in
+    subst P (instant_told before i within.prefix within.empty within.values_are)
+    (subst Q (ahead_place (kinds_of ports) place ahead next step) (reads ((before ++ (Row (At i.t i.n) ∷ [])) ++ rows (told_values_from 0 within.prefix)) within.read))

@@ -63,10 +63,10 @@ IsWrongAhead (End kind t) line number left =
 pub record HasPorts (bytes : List ℕ) (header : Header) (ports : List TracePort)
     (left : Option (List ℕ)) (number : ℕ) : Type 0 where
   pub range : IsRange header.resolution header.start header.stop
-  pub behind : List ℕ
-  pub first : bytes ≡ header_line header.resolution header.start header.stop ++ (10 ∷ behind)
+  pub after : List ℕ
+  pub first : bytes ≡ header_line header.resolution header.start header.stop ++ (10 ∷ after)
   pub rest : List ℕ
-  pub parts : behind ≡ lines_text (lines_of_ports 0 ports) ++ rest
+  pub parts : after ≡ lines_text (lines_of_ports 0 ports) ++ rest
   pub named : AllByRecursion IsNamed ports
   pub left_is : left ≡ Some rest
   pub count : number ≡ min (1 + length ports) (2 ^ 64 - 1)
@@ -75,10 +75,10 @@ pub record HasPorts (bytes : List ℕ) (header : Header) (ports : List TracePort
 pub record HasRead (bytes : List ℕ) (header : Header) (ports : List TracePort) (items : List Item)
     (place : Place) (left : Option (List ℕ)) (number : ℕ) : Type 0 where
   pub range : IsRange header.resolution header.start header.stop
-  pub behind : List ℕ
-  pub first : bytes ≡ header_line header.resolution header.start header.stop ++ (10 ∷ behind)
+  pub after : List ℕ
+  pub first : bytes ≡ header_line header.resolution header.start header.stop ++ (10 ∷ after)
   pub body : List ℕ
-  pub ports_there : StandBefore behind ports body
+  pub ports_there : StandBefore after ports body
   pub rest : List ℕ
   pub parts : body ≡ lines_text (map item_line items) ++ rest
   pub good : walk (kinds_of ports) Between items ≡ Some place
@@ -86,7 +86,7 @@ pub record HasRead (bytes : List ℕ) (header : Header) (ports : List TracePort)
   pub count : number ≡ min (1 + length ports + length items) (2 ^ 64 - 1)
 
 -- the header and all ports, and one line more, which isn't looked at
-pub record IsBehindPorts (bytes : List ℕ) (header : Header) (ports : List TracePort)
+pub record IsAfterPorts (bytes : List ℕ) (header : Header) (ports : List TracePort)
     (line : List ℕ) (left : Option (List ℕ)) (number : ℕ) : Type 0 where
   pub body : List ℕ
   pub before : ℕ
@@ -97,12 +97,12 @@ pub record IsBehindPorts (bytes : List ℕ) (header : Header) (ports : List Trac
 -- within an instant: the values of the first ports, and after them none
 pub record IsWithin (bytes : List ℕ) (header : Header) (ports : List TracePort) (before : List Item)
     (values : List (Option ℤ)) (place : Place) (left : Option (List ℕ)) (number : ℕ) : Type 0 where
-  pub front : List (Option ℤ)
+  pub prefix : List (Option ℤ)
   pub empty : ℕ
-  pub values_are : values ≡ front ++ replicate empty None
-  pub at : place ≡ Within (length front)
+  pub values_are : values ≡ prefix ++ replicate empty None
+  pub at : place ≡ Within (length prefix)
   pub read : HasRead bytes header ports
-      (before ++ map (λ (line : TraceLine). Row line) (told_values_from 0 front)) place left number
+      (before ++ map (λ (line : TraceLine). Row line) (told_values_from 0 prefix)) place left number
 
 -- somewhere within an instant
 pub record IsReading (bytes : List ℕ) (header : Header) (ports : List TracePort) (place : Place)

@@ -2,10 +2,10 @@ ghost use Rattle.std.specs.Prelude.{◌≡◌, ◌≤◌, ℕ, List, [], ◌∷�
 ghost use Rattle.trace_reading.specs.declared.item.Item.{Item};
 ghost use Rattle.trace_reading.specs.declared.trace.Header.{Header};
 ghost use Rattle.trace_reading.specs.Form.{kinds_of};
-ghost use Rattle.trace_reading.specs.Walk.{item_line, place_behind, IsShortItem};
+ghost use Rattle.trace_reading.specs.Walk.{item_line, place_after, IsShortItem};
 ghost use Rattle.trace_stream.specs.declared.fault.StreamFault.TheVariants.{Line};
 ghost use Rattle.trace_stream.specs.Cut.{next_number};
-ghost use Rattle.trace_stream.specs.Reading.{item_ahead, HasPorts, HasRead, IsBehindPorts, IsFaultAt, IsLast, IsOpen, IsWrongAhead};
+ghost use Rattle.trace_stream.specs.Reading.{item_ahead, HasPorts, HasRead, IsAfterPorts, IsFaultAt, IsLast, IsOpen, IsWrongAhead};
 
 use crate::fault::StreamFault;
 use crate::lines::Lines;
@@ -26,12 +26,12 @@ pub enum Ahead {
 }
 
 /// The header and the ports. The reading stands at the line after them.
-pub(crate) fn read_front<B: BufRead>(
+pub(crate) fn read_prefix<B: BufRead>(
     alloc: Global,
     lines: &mut Lines<B>,
 ) -> Result<(Header, Vec<TracePort>), StreamFault>
     ensures read { IfOk result (λ p. (bytes : List ℕ) → B.remaining lines.old.input ≡ Some bytes →
-        lines.old.number ≡ 0 → IsBehindPorts bytes p.0 p.1.items lines.new.bytes.items
+        lines.old.number ≡ 0 → IsAfterPorts bytes p.0 p.1.items lines.new.bytes.items
         (B.remaining lines.new.input) lines.new.number) }
     ensures counts { IfOk result (λ p. 1 ≤ p.0.resolution) }
     ensures fault { (n : ℕ) (bytes : List ℕ) → result ≡ Err (Line n) →
@@ -52,7 +52,7 @@ fn read_ports<B: BufRead>(
 ) -> Result<Vec<TracePort>, StreamFault>
     ensures read { IfOk result (λ ports. (bytes : List ℕ) (header : Header) →
         HasPorts bytes header [] (B.remaining lines.old.input) lines.old.number →
-        IsBehindPorts bytes header ports.items lines.new.bytes.items
+        IsAfterPorts bytes header ports.items lines.new.bytes.items
         (B.remaining lines.new.input) lines.new.number) }
     ensures fault { (n : ℕ) (bytes : List ℕ) (header : Header) → result ≡ Err (Line n) →
         HasPorts bytes header [] (B.remaining lines.old.input) lines.old.number → IsFaultAt bytes n }
@@ -76,7 +76,7 @@ pub(crate) fn next_item<B: BufRead>(
 ) -> Result<Item, StreamFault>
     ensures ports { rows.new.ports ≡ rows.old.ports }
     ensures place { IfOk result
-        (λ item. place_behind (kinds_of rows.old.ports) rows.old.place item ≡ Some rows.new.place) }
+        (λ item. place_after (kinds_of rows.old.ports) rows.old.place item ≡ Some rows.new.place) }
     ensures read { IfOk result (λ item. (bytes : List ℕ) (header : Header) (items : List Item) →
         HasRead bytes header rows.old.ports items rows.old.place (B.remaining lines.old.input)
         lines.old.number → HasRead bytes header rows.old.ports (items ++ (item ∷ []))

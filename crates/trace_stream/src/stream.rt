@@ -3,7 +3,7 @@ ghost use Rattle.std.specs.Prelude.{◌≤◌};
 use crate::fault::StreamFault;
 use crate::lines::Lines;
 use crate::moment::Moment;
-use crate::steps::{Ahead, ahead_of, next_item, read_front};
+use crate::steps::{Ahead, ahead_of, next_item, read_prefix};
 use sim_base::Items;
 use std::alloc::Global;
 use std::io::BufRead;
@@ -37,7 +37,7 @@ impl<B: BufRead> TraceStream<B> {
             B.remaining input ≡ Some bytes → IsFaultAt bytes n }
     {
         let mut lines = Lines::new(alloc, input);
-        let (header, ports) = read_front(alloc, &mut lines)?;
+        let (header, ports) = read_prefix(alloc, &mut lines)?;
         let mut rows = RowReader::new(alloc, Items::from_vec(ports))?;
         let Some(item) = rows.read(&lines.bytes) else {
             return Err(StreamFault::Line(lines.number));

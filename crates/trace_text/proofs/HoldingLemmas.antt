@@ -78,41 +78,41 @@ passes_once components ports plan k j one other = by (cases_lt k j)
     by : (k < j) ⊎ (j ≤ k) → k ≡ j
     by (inl l) =
         let fewer = header_fewer components ports plan (k + 1) j (omega (arith, l)) in
-        let behind = one.behind in
+        let after = one.after in
         let before = other.before in
-        absurd (omega (arith, fewer, behind, before))
+        absurd (omega (arith, fewer, after, before))
     by (inr g) = here (cases_lt j k)
       where
         here : (j < k) ⊎ (k ≤ j) → k ≡ j
         here (inl l) =
             let fewer = header_fewer components ports plan (j + 1) k (omega (arith, l)) in
-            let behind = other.behind in
+            let after = other.after in
             let before = one.before in
-            absurd (omega (arith, fewer, behind, before))
+            absurd (omega (arith, fewer, after, before))
         here (inr h) = omega (arith, g, h)
 
 -- nowhere where the header with these ports has no more
 pub passes_nowhere : (components : List Component) (ports : List Port) (plan : Plan) (n k : ℕ) → length (header_up_to components ports plan n) ≤ held_header_max → k < n → PassesAt components ports plan k → ⊥
 passes_nowhere components ports plan n k fits within passes =
     let fewer = header_fewer components ports plan (k + 1) n (omega (arith, within)) in
-    let behind = passes.behind in
-    omega (arith, fewer, behind, fits)
+    let after = passes.after in
+    omega (arith, fewer, after, fits)
 
 -- ---- what was found
 
 -- at this port it has more for the first time
 pub passes_here : (components : List Component) (ports : List Port) (plan : Plan) (k : ℕ) (port : Port) → k < length ports → port ≡ get_or ports k port →
     length (header_up_to components ports plan k) ≤ held_header_max → held_header_max < length (header_up_to components ports plan k) + length (ended (port_line components k port)) → PassesWith components ports plan port.component.0
-passes_here components ports plan k port within is before behind =
+passes_here components ports plan k port within is before after =
     let more = header_more components ports plan k port within is in
-    (k, (port, slice_get_read ports (length ports) k port refl within is, refl, record { before = before; behind = omega (arith, more, behind) }))
+    (k, (port, slice_get_read ports (length ports) k port refl within is, refl, record { before = before; after = omega (arith, more, after) }))
 
 -- and at no other
 pub passes_alone : (components : List Component) (ports : List Port) (plan : Plan) (k : ℕ) (port : Port) → k < length ports → port ≡ get_or ports k port →
     length (header_up_to components ports plan k) ≤ held_header_max → held_header_max < length (header_up_to components ports plan k) + length (ended (port_line components k port)) → (i : ℕ) → PassesWith components ports plan i → port.component.0 ≡ i
 unfolding passes_here
-passes_alone components ports plan k port within is before behind i other =
-    let here = passes_here components ports plan k port within is before behind in
+passes_alone components ports plan k port within is before after i other =
+    let here = passes_here components ports plan k port within is before after in
     let same : k ≡ other.0 = passes_once components ports plan k other.0 here.1.3 other.1.3 in
     let port_is : port ≡ other.1.0 = same_Some port other.1.0 (sym here.1.1 ∙ ap (slice_get ports) same ∙ other.1.1) in
     ap (λ (p : Port). p.component.0) port_is ∙ other.1.2

@@ -21,7 +21,7 @@ header_up_to components ports plan n =
 pub record PassesAt (components : List Component) (ports : List Port) (plan : Plan)
     (k : ℕ) : Type 0 where
   pub before : length (header_up_to components ports plan k) ≤ held_header_max
-  pub behind : held_header_max < length (header_up_to components ports plan (k + 1))
+  pub after : held_header_max < length (header_up_to components ports plan (k + 1))
 
 -- with the lines of the ports of the i-th component it has more for the first time
 abbrev pub PassesWith : List Component → List Port → Plan → ℕ → Type 0

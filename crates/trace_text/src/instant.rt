@@ -3,26 +3,29 @@ ghost use Rattle.system_model.specs.Text.{at_line, instant_text, value_line};
 ghost use Rattle.trace_text.specs.Lines.{ended};
 
 use crate::append::{append, append_number, append_value};
+use port_values::PortValues;
 use system_model::System;
 
 /// Puts the n-th instant at the point `t` to the start of `out`, and answers the length of its text. The values are
-/// those of the system's ports, in order.
+/// those of the system's ports, in order; they stay, and those alone are looked at that are there.
 pub fn put_instant(
     _system: &System,
     t: u64,
     n: u64,
-    values: &[Option<i128>],
+    values: &mut PortValues,
     out: &mut [u8],
 ) -> usize
-    requires { length (instant_text t n values.now) ≤ length out.old }
-    ensures length { result ≡ length (instant_text t n values.now) }
-    ensures text { take result out.new ≡ instant_text t n values.now }
+    requires { length (instant_text t n values.old) ≤ length out.old }
+    ensures length { result ≡ length (instant_text t n values.old) }
+    ensures text { take result out.new ≡ instant_text t n values.old }
+    ensures values { values.new ≡ values.old }
 {
     let mut at = put_instant_line(t, n, out);
-    for (number, value) in values.iter().enumerate() {
-        if let Some(value) = value {
-            at = append_value_line(number, *value, out, at);
-        }
+    for k in 0..values.len() {
+        let Some((port, value)) = values.nth(k) else {
+            return at;
+        };
+        at = append_value_line(port, value, out, at);
     }
     at
 }

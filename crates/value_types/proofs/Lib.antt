@@ -1,3 +1,4 @@
 pub mod CallerLemmas
 mod ValueLemmas
+mod WordLemmas
 mod IndexLemmas

@@ -8,7 +8,7 @@ ghost use Rattle.system_files.specs.Order.{Found, search_of};
 
 use sim_base::Folder;
 use std::alloc::Global;
-use system_files::{LoadEnd, Loaded, Subject, load};
+use system_files::{LoadError, Loaded, Subject, load};
 
 /// Reads the files in a directory in their order, and answers the system that they make and the values that its bindings
 /// give, or the file that isn't taken, and why.
@@ -18,7 +18,7 @@ pub fn load_files<F: Folder>(
     directory: &str,
     resolution: u64,
     folder: &mut F,
-) -> Result<Loaded, LoadEnd>
+) -> Result<Loaded, LoadError>
     requires above { 1 ≤ resolution }
     requires within { resolution ≤ 2 ^ 62 }
     ensures ok { IfOk result (λ loaded. Loads (search_of subject directory.now resolution)

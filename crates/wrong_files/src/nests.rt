@@ -1,10 +1,12 @@
-//! A document in place of a Component of another.
-ghost use Rattle.std.specs.Prelude.{◌≡◌, ℕ, ◌<◌, Some, IfOk, slice_get, vec_len};
-ghost use Rattle.ssd_tree.specs.declared.tree.ComponentPart.{ComponentPart};
-ghost use Rattle.ssd_tree.specs.Lists.{tree_of};
+//! A document in place of a Component of another, and which comes next.
+ghost use Rattle.std.specs.Prelude.{IfOk, slice_get, vec_len, ◌<◌, ◌≡◌};
 ghost use Rattle.nested_documents.specs.Inlining.{inlined};
+ghost use Rattle.nested_documents.specs.Nest.{IsNext};
+ghost use Rattle.nested_documents.specs.States.{gathered};
+ghost use Rattle.ssd_tree.specs.Lists.{tree_of};
+ghost use Rattle.ssd_tree.specs.declared.tree.ComponentPart.{ComponentPart};
 
-use nested_documents::{Frame, inlined};
+use nested_documents::{Frame, Nest, Next, inlined};
 use ssd_tree::Parts;
 use std::alloc::{AllocError, Global};
 
@@ -24,4 +26,11 @@ pub fn inline_document(
         inlined (tree_of outer) place c frame.now (tree_of inner) elements) }
 {
     inlined(alloc, outer, place, frame, inner, elements)
+}
+
+/// What comes next: the document of the first Component that waits.
+pub fn next_of(nest: &Nest, alloc: Global) -> Result<Next, AllocError>
+    ensures { IfOk result (IsNext (gathered nest.now)) }
+{
+    nest.next(alloc)
 }

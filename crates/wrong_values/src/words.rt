@@ -6,7 +6,7 @@ ghost use Rattle.sim_base.specs.ReadNotes.{faults_after, told_answer, with_last}
 ghost use Rattle.sim_base.specs.Sink.{NotesPut};
 ghost use Rattle.sim_base.specs.declared.folder.ReadFault.TheVariants as ReadFault;
 
-use sim_base::{Folder, MemFolder, MemSink, ReadBook, ReadFault, Sink, SinkFault};
+use sim_base::{Folder, MemFolder, MemSink, ReadBook, ReadFault, SharedBytes, Sink, SinkFault};
 use std::alloc::Global;
 
 /// Notes the answer to what was asked for last, and hands it on.
@@ -14,11 +14,11 @@ pub fn hand_on(
     book: &mut ReadBook,
     alloc: Global,
     answer: Result<Vec<u8>, ReadFault>,
-) -> Result<Vec<u8>, ReadFault>
+) -> Result<SharedBytes, ReadFault>
     requires { 0 < length book.old.reads }
-    ensures reads { book.new.reads ≡ with_last book.old.reads (told_answer result) }
-    ensures faults { book.new.faults ≡ faults_after book.old.faults (told_answer result) }
-    ensures same { (result ≡ answer) ⊎ (result ≡ Err ReadFault.Memory) }
+    ensures reads { book.new.reads ≡ with_last book.old.reads result }
+    ensures faults { book.new.faults ≡ faults_after book.old.faults result }
+    ensures same { (result ≡ told_answer answer) ⊎ (result ≡ Err ReadFault.Memory) }
 {
     book.answer(alloc, answer)
 }
@@ -29,7 +29,7 @@ pub fn read_in_memory(
     alloc: Global,
     path: &str,
     limit: u64,
-) -> Result<Vec<u8>, ReadFault>
+) -> Result<SharedBytes, ReadFault>
     ensures reads { Reads (file_at folder.old.files path.now) limit result }
     ensures within { KeepsLimit limit result }
     ensures noted { NotesRead (folder_view (Some (file_at folder.old.files)) folder.old.book)

@@ -25,9 +25,9 @@ put_value-requires c =
     let fits = fits_more f order i e 32 c.loop-entry-test.true (take_more order i (0, 0) c.loop-entry-test.true) in
     let all : length (flat_map f order) ≡ 12 * count_by (λ (v : Variable). is_some v.kind) variables =
     ap (λ (es : List (ℕ × ℕ)). length (flat_map f es)) c.requires.order ∙ entries_len variables held in
-    let front = numbers_bytes (told c.args.kept.now.numbers) in
-    let len = ap (λ (xs : List ℕ). length xs) c.loop-entry.invariant.bytes ∙ length-append c.args.into.now.items (front ++ flat_map f (take i order)) in
-    let inner = length-append front (flat_map f (take i order)) in
+    let prefix = numbers_bytes (told c.args.kept.now.numbers) in
+    let len = ap (λ (xs : List ℕ). length xs) c.loop-entry.invariant.bytes ∙ length-append c.args.into.now.items (prefix ++ flat_map f (take i order)) in
+    let inner = length-append prefix (flat_map f (take i order)) in
     let numbers = numbers_len (told c.args.kept.now.numbers) in
     omega (arith, c.requires.room, c.loop-entry.invariant.room, c.loop-entry.into.ok.0, c.args.into.now.ok.0)
 

@@ -6,7 +6,7 @@ use Rattle.exact_parts.specs.Field.{AreBytes}
 use Rattle.value_types.specs.declared.shape.Shape.{Shape}
 use Rattle.system_checkpoint.specs.Spelling.{sized}
 use Rattle.slot_calls.specs.Keeping.{IsPackedOf, MayBeKept, keeping_calls}
-use Rattle.slot_calls.specs.Log.{Asking}
+use Rattle.slot_calls.specs.Log.{ComponentCall}
 use Rattle.slot_calls.specs.Slots.{LiveSlot, Stands, instances}
 use Rattle.slot_calls.specs.Stage.{Stage, nothing, shapes}
 use Rattle.slot_calls.proofs.CallerLemmas.{answered_none, at_rest, same_first, same_more, shape_of, told_none}
@@ -48,7 +48,7 @@ returns-in-Err-clause-stage g c =
     let k = c.loop-place.place in
     let within : k < length c.loop-place.slots = let l = c.loop-place.auto.slots in let w = c.loop-place-test.true in omega (arith, l, w) in
     let there = keeping_at (λ s. instance_in g.L.Peer.view s) c.args.slots.now k c.loop-place-test.true in
-    subst (λ (cs : List Asking). Stage cs nothing olds (instances g.L.Peer.view (set c.loop-place.slots k c.keep.new.slot)) (Err (record { component = record { 0 = k }; why = c.in-Err.why }))) (keeping_lists 0 (shapes olds))
+    subst (λ (cs : List ComponentCall). Stage cs nothing olds (instances g.L.Peer.view (set c.loop-place.slots k c.keep.new.slot)) (Err (record { component = record { 0 = k }; why = c.in-Err.why }))) (keeping_lists 0 (shapes olds))
     (loop_cut (λ s. instance_in g.L.Peer.view s) olds c.loop-place.slots (keeping_of (shapes olds)) k keeping_calls there.0 there.1 c.index-slots-place.result c.keep.new.slot within c.loop-place.invariant.stage _ refl c.in-Err.ensures.calls)
 
 pub put_state-requires-clause-few : goal.put_state-requires-clause-few
@@ -100,14 +100,14 @@ returns-clause-stage g c =
     let l = length-map (shapes olds) (λ (s : Shape). keeping_calls) in
     let m = length-map olds shape_of in
     let n = length-map c.args.slots.now (λ s. instance_in g.L.Peer.view s) in
-    subst (λ (cs : List Asking). Stage cs nothing olds news (Ok tt)) (keeping_lists 0 (shapes olds)) (in_turn_all (keeping_of (shapes olds)) c.loop-place.place olds news (omega (arith, over, l, m, n)) c.loop-place.invariant.stage)
+    subst (λ (cs : List ComponentCall). Stage cs nothing olds news (Ok tt)) (keeping_lists 0 (shapes olds)) (in_turn_all (keeping_of (shapes olds)) c.loop-place.place olds news (omega (arith, over, l, m, n)) c.loop-place.invariant.stage)
 
 pub returns-clause-kept : goal.returns-clause-kept
 returns-clause-kept g c =
     let n = length-map c.args.slots.now (λ s. instance_in g.L.Peer.view s) in
     let over = c.loop-place-test.false in
-    let upto = c.loop-place.auto.place-end in
-    kept_all c.loop-place.place _ _ _ (omega (arith, n, over, upto)) c.loop-place.invariant.kept
+    let up_to = c.loop-place.auto.place-end in
+    kept_all c.loop-place.place _ _ _ (omega (arith, n, over, up_to)) c.loop-place.invariant.kept
 
 pub returns-clause-len : goal.returns-clause-len
 returns-clause-len g c =
@@ -115,5 +115,5 @@ returns-clause-len g c =
     let so_far = kept_len c.loop-place.place (instances g.L.Peer.view c.args.slots.now) c.args.keeping.now.bytes.items c.loop-place.keeping.bytes.items i.kept in
     let old = c.args.keeping.now.bytes.ok.0 in
     let mid = c.loop-place.keeping.bytes.ok.0 in
-    let upto = c.loop-place.auto.place-end in
-    omega (arith, so_far, old, mid, upto)
+    let up_to = c.loop-place.auto.place-end in
+    omega (arith, so_far, old, mid, up_to)

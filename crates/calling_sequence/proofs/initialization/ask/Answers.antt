@@ -36,4 +36,4 @@ returns-clause-ready g c =
 pub returns-clause-goes : goal.returns-clause-goes
 returns-clause-goes g c =
     let e = c.args.experiment.now in
-    by_fixes e c.args.buffers.now.values.items c.requires.kept _ _ _ _ c.fix_clocks.result (fixes_as e.system e.plan.resolution _ _ (ap (λ (x : Timetable). x.start) c.requires.fresh.clocks) _ _ _ c.fix_clocks.result c.fix_clocks.ensures.fixes)
+    by_fixes e c.args.buffers.now.values c.requires.kept _ _ _ _ c.fix_clocks.result (fixes_as e.system e.plan.resolution _ _ (ap (λ (x : Timetable). x.start) c.requires.fresh.clocks) _ _ _ c.fix_clocks.result c.fix_clocks.ensures.fixes)

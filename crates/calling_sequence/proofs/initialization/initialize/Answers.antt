@@ -1,7 +1,3 @@
-use Rattle.std.proofs.Common.{◌≡◌, ℤ, List, Option, false, ap, length, subst, ◌∙◌}
-use Rattle.std.specs.List.{list_any}
-use Rattle.run_model.specs.Initial.{is_bad_initially}
-use Rattle.event_iteration.specs.Lost.{IsFirstLost}
 use Rattle.calling_sequence.specs.Course.{Found}
 use Rattle.calling_sequence.specs.Ends.{LostAtFirst}
 use Rattle.calling_sequence.specs.declared.run_end.RunEnd.TheVariants as E
@@ -9,19 +5,17 @@ use Rattle.calling_sequence.proofs.Onto.{ends}
 use Rattle.calling_sequence.proofs.initialization.initialize.Goals as goal
 
 pub lost_initially-requires-clause-values : goal.lost_initially-requires-clause-values
-lost_initially-requires-clause-values g c = ap length c.deref.ensures.value ∙ c.in-Ok.ensures.fresh.places
+lost_initially-requires-clause-values g c = c.in-Ok.ensures.fresh.places
 
 pub returns-in-Some-clause-crosses : goal.returns-in-Some-clause-crosses
 returns-in-Some-clause-crosses g c v olds before h =
     let e = c.args.experiment.now in
-    let values = c.find_values.new.buffers.values.items in
+    let values = c.find_values.new.buffers.values in
     ends e olds before (Found values) _ _ _ (c.in-Ok.ensures.goes v olds before h) (E.Range c.in-Some.lost e.plan.start)
-    (LostAtFirst values c.in-Some.lost (subst (λ (vs : List (Option ℤ)). IsFirstLost (is_bad_initially e.system vs) e.system.ports vs c.in-Some.lost) c.deref.ensures.value c.in-Some.ensures)) tt
+    (LostAtFirst values c.in-Some.lost c.in-Some.ensures) tt
 
 pub leave-requires-clause-kept : goal.leave-requires-clause-kept
-leave-requires-clause-kept g c κs lives =
-    let e = c.args.experiment.now in
-    subst (λ (vs : List (Option ℤ)). list_any (is_bad_initially e.system vs) e.system.ports ≡ false) c.deref.ensures.value c.in_default.ensures
+leave-requires-clause-kept g c κs lives = c.in_default.ensures
 
 pub returns-in-Ok-leave-clause-crosses : goal.returns-in-Ok-leave-clause-crosses
 returns-in-Ok-leave-clause-crosses g c v olds before h = c.in-Ok-leave.ensures.goes v olds before (c.in-Ok.ensures.goes v olds before h)

@@ -1,11 +1,11 @@
 use Rattle.std.proofs.Common.{sym}
 use Rattle.event_iteration.specs.Clocks.{timers_in}
 use Rattle.calling_sequence.specs.Course.{Read}
-use Rattle.calling_sequence.specs.Goes.{spot}
+use Rattle.calling_sequence.specs.StageOutcomes.{spot}
 use Rattle.calling_sequence.specs.Place.{IsTaking}
 use Rattle.calling_sequence.proofs.Chains.{IsQuestion}
 use Rattle.calling_sequence.proofs.Phases.{asking_keeps}
-use Rattle.calling_sequence.proofs.Stages.{armed_by, asks_as, asks_goodly, by_asking, goes_as, keeping}
+use Rattle.calling_sequence.proofs.Stages.{armed_by, asks_goodly, by_asking, goes_as, keeping}
 use Rattle.calling_sequence.proofs.instants.ask.Goals as goal
 
 pub ask_intervals-requires-clause-running : goal.ask_intervals-requires-clause-running
@@ -27,4 +27,4 @@ returns-clause-goes g c =
     let s = spot c.args.t c.args.n c.args.buffers.now in
     let next = timers_in c.ask_intervals.new.schedule in
     goes_as e (Read s) (record s { timers = next }) c.ask_intervals.new.schedule.events (sym c.ask_intervals.ensures.events) _ _ c.args.buffers.now.instants c.args.buffers.now.instants c.ask_intervals.result
-    (by_asking e s c.requires.kept next _ _ c.args.buffers.now.instants c.ask_intervals.result (asks_as e.system e.plan.resolution c.args.t _ _ _ _ c.ask_intervals.result _ _ c.deref.ensures.value c.ask_intervals.ensures.asks))
+    (by_asking e s c.requires.kept next _ _ c.args.buffers.now.instants c.ask_intervals.result c.ask_intervals.ensures.asks)

@@ -13,14 +13,15 @@ use Rattle.slot_calls.specs.Slots.{instances}
 use Rattle.slot_calls.specs.Stage.{has_events}
 use Rattle.event_iteration.specs.Clocks.{timers_in}
 use Rattle.event_iteration.specs.Intervals.{is_some_armed}
+use Rattle.event_iteration.specs.Participants.{AreUnfedAwaited}
 use Rattle.event_iteration.specs.Updates.{updated_by}
 use Rattle.event_iteration.specs.declared.updates.Updated.{Updated}
 use Rattle.calling_sequence.specs.Ends.{RunsIn}
-use Rattle.calling_sequence.specs.Course.{Seen}
-use Rattle.calling_sequence.specs.Goes.{spot}
+use Rattle.calling_sequence.specs.Course.{InstantDone}
+use Rattle.calling_sequence.specs.StageOutcomes.{spot}
 use Rattle.calling_sequence.specs.Here.{Here}
 use Rattle.calling_sequence.specs.Place.{IsAt, IsSettled, IsTaking}
-use Rattle.calling_sequence.specs.Puts.{CutsPiece}
+use Rattle.calling_sequence.specs.Puts.{PutsPrefixOf}
 use Rattle.calling_sequence.specs.declared.run_end.RunEnd.TheVariants as E
 use Rattle.calling_sequence.proofs.Phases.{update_leads, update_stays}
 use Rattle.calling_sequence.proofs.ScheduleSteps.{neither, stands_with}
@@ -35,7 +36,7 @@ returns-in-Err-clause-puts g c olds past so h =
 pub put_values-requires-clause-wide : goal.put_values-requires-clause-wide
 put_values-requires-clause-wide g c =
     let e = c.args.experiment.now in
-    wide_all e.system c.deref.result.now (ap length c.deref.ensures.value ∙ c.requires.timed.places) (subst (λ (vs : List (Option ℤ)). AreFitting e.system vs) (sym c.deref.ensures.value) c.requires.timed.fitting)
+    wide_all e.system c.args.buffers.now.values c.requires.timed.places c.requires.timed.fitting
 
 pub put_values-requires-clause-counts : goal.put_values-requires-clause-counts
 put_values-requires-clause-counts g c =
@@ -70,13 +71,16 @@ returns-in-Ok-put_values-clause-timed g c =
     let few = t.few in
     let counted = c.in-Ok-put_values.ensures.counted in
     let below = c.requires.below in
+    let kept = c.put_values.ensures.values in
     let clocks = c.in-Ok.ensures.clocks in
     record {
       starts = ap (λ (x : Timetable). x.start) clocks ∙ t.starts;
       stops = ap (λ (x : Timetable). x.stop) clocks ∙ t.stops;
       stands = stands_with c.args.experiment.now.system c.args.t false c.args.buffers.now.schedule c.update.new.schedule clocks c.in-Ok.ensures.components t.stands;
-      places = t.places;
-      fitting = t.fitting;
+      know = record { participants = t.know.participants; room = t.know.room };
+      awaited = subst (λ (vs : List (Option ℤ)). AreUnfedAwaited c.args.experiment.now.system vs c.args.buffers.now.pending) (sym kept) t.awaited;
+      places = ap length kept ∙ t.places;
+      fitting = subst (AreFitting c.args.experiment.now.system) (sym kept) t.fitting;
       holds = subst (HoldsEach c.args.experiment.now.system) (sym (ap length text ∙ c.put_values.auto.text ∙ ap length c.deref_mut.ensures.value)) t.holds;
       limited = omega (arith, below);
       few = omega (arith, few, counted);
@@ -92,22 +96,23 @@ returns-in-Ok-put_values-clause-puts g c olds past so h =
     let e = c.args.experiment.now in
     let b = c.args.buffers.now in
     let again = c.with_armed-in-Ok-put_values.ensures.again ∙ ap (λ (x : Bool). c.in-Ok.updated.again || x) c.requires.armed in
-    let put = subst (λ (vs : List (Option ℤ)). g.O.Sink.view c.put_values.new.out ≡ with_piece (g.O.Sink.view c.args.out.now) (instant_text c.args.t c.args.n vs)) c.deref.ensures.value c.in-Ok-put_values.ensures.put in
+    let put = c.in-Ok-put_values.ensures.put in
     let s = spot c.args.t c.args.n b in
     let events = c.update.new.schedule.events in
-    let told : List Timer → ℕ → Type 0 = λ timers k.
-    Here e olds past (Seen (record s { timers = timers; events = events }) c.with_armed-in-Ok-put_values.result.again c.with_armed-in-Ok-put_values.result.asked) (instances g.L.Peer.view c.update.new.slots) (g.O.Sink.view c.put_values.new.out) k in
+    let told : List (Option ℤ) → List Timer → ℕ → Type 0 = λ values timers k.
+    Here e olds past (InstantDone (record s { values = values; timers = timers; events = events }) c.with_armed-in-Ok-put_values.result.again c.with_armed-in-Ok-put_values.result.asked) (instances g.L.Peer.view c.update.new.slots) (g.O.Sink.view c.put_values.new.out) k in
     let timers : timers_in b.schedule ≡ timers_in c.update.new.schedule = sym (ap timers_in c.in-Ok.ensures.clocks) in
-    subst (λ (k : ℕ). told (timers_in c.update.new.schedule) k) (sym c.in-Ok-put_values.ensures.counted)
-    (subst (λ (ts : List Timer). told ts (b.instants + 1)) timers
-    (by_put e s events c.in-Ok.updated c.with_armed-in-Ok-put_values.result again c.with_armed-in-Ok-put_values.ensures.asked _ _ c.requires.ready.shapes_are c.in-Ok.ensures.updates olds past _ _ h (so ∙ c.if-not-puts.false) _ put))
+    subst (λ (vs : List (Option ℤ)). told vs (timers_in c.update.new.schedule) c.put_values.new.instants) (sym c.put_values.ensures.values)
+    (subst (λ (k : ℕ). told b.values (timers_in c.update.new.schedule) k) (sym c.in-Ok-put_values.ensures.counted)
+    (subst (λ (ts : List Timer). told b.values ts (b.instants + 1)) timers
+    (by_put e s events c.in-Ok.updated c.with_armed-in-Ok-put_values.result again c.with_armed-in-Ok-put_values.ensures.asked _ _ c.requires.ready.shapes_are c.in-Ok.ensures.updates olds past _ _ h (so ∙ c.if-not-puts.false) _ put)))
 
 pub returns-in-Err-put_values-clause-puts : goal.returns-in-Err-put_values-clause-puts
 returns-in-Err-put_values-clause-puts g c olds past so h =
     let e = c.args.experiment.now in
     let v : Updated = record { again = c.in-Ok.updated.again || c.args.is_armed; asked = c.in-Ok.updated.asked } in
     let again = ap (λ (x : Bool). c.in-Ok.updated.again || x) c.requires.armed in
-    let put = subst (λ (vs : List (Option ℤ)). CutsPiece (g.O.Sink.view c.args.out.now) (instant_text c.args.t c.args.n vs) (g.O.Sink.view c.put_values.new.out)) c.deref.ensures.value c.in-Err-put_values.ensures.cut in
+    let put = c.in-Err-put_values.ensures.cut in
     subst (λ (k : ℕ). RunsIn e.system e.bound e.plan past.extent olds (instances g.L.Peer.view c.update.new.slots) past.sink (g.O.Sink.view c.put_values.new.out) k E.WriteFault) (sym c.in-Err-put_values.ensures.uncounted)
     (by_cut e (spot c.args.t c.args.n c.args.buffers.now) c.update.new.schedule.events c.in-Ok.updated v again refl _ _ c.requires.ready.shapes_are c.in-Ok.ensures.updates olds past _ _ h (so ∙ c.if-not-puts.false) _ put)
 
@@ -138,6 +143,8 @@ returns-then-not-puts-clause-timed g c =
       starts = ap (λ (x : Timetable). x.start) clocks ∙ t.starts;
       stops = ap (λ (x : Timetable). x.stop) clocks ∙ t.stops;
       stands = stands_with c.args.experiment.now.system c.args.t false c.args.buffers.now.schedule c.update.new.schedule clocks c.in-Ok.ensures.components t.stands;
+      know = record { participants = t.know.participants; room = t.know.room };
+      awaited = t.awaited;
       places = t.places;
       fitting = t.fitting;
       holds = t.holds;
@@ -158,7 +165,7 @@ returns-then-not-puts-clause-puts g c olds past so h =
     let s = spot c.args.t c.args.n b in
     let events = c.update.new.schedule.events in
     let timers : timers_in b.schedule ≡ timers_in c.update.new.schedule = sym (ap timers_in c.in-Ok.ensures.clocks) in
-    subst (λ (ts : List Timer). Here e olds past (Seen (record s { timers = ts; events = events }) c.with_armed.result.again c.with_armed.result.asked) (instances g.L.Peer.view c.update.new.slots) (g.O.Sink.view c.args.out.now) b.instants) timers
+    subst (λ (ts : List Timer). Here e olds past (InstantDone (record s { timers = ts; events = events }) c.with_armed.result.again c.with_armed.result.asked) (instances g.L.Peer.view c.update.new.slots) (g.O.Sink.view c.args.out.now) b.instants) timers
     (by_none e s events c.in-Ok.updated c.with_armed.result again c.with_armed.ensures.asked _ _ c.requires.ready.shapes_are c.in-Ok.ensures.updates olds past _ _ h (so ∙ c.if-not-puts.true))
 
 pub returns-in-Ok-put_values-clause-modes : goal.returns-in-Ok-put_values-clause-modes

@@ -1,33 +1,26 @@
-use Rattle.std.proofs.Common.{◌≡◌, ℤ, List, Option, false, ap, length, subst, sym, ◌∙◌}
-use Rattle.std.specs.List.{list_any}
-use Rattle.run_model.specs.Equations.{is_bad}
-use Rattle.run_model.specs.Machines.{AreFitting}
-use Rattle.event_iteration.specs.Lost.{IsFirstLost}
 use Rattle.calling_sequence.specs.Course.{Read}
 use Rattle.calling_sequence.specs.Ends.{LostThere}
-use Rattle.calling_sequence.specs.Goes.{spot}
+use Rattle.calling_sequence.specs.StageOutcomes.{spot}
 use Rattle.calling_sequence.specs.declared.run_end.RunEnd.TheVariants as E
 use Rattle.calling_sequence.proofs.Onto.{ends}
 use Rattle.calling_sequence.proofs.Stages.{then_puts}
 use Rattle.calling_sequence.proofs.instants.take.Goals as goal
 
 pub lost_in_instant-requires-clause-values : goal.lost_in_instant-requires-clause-values
-lost_in_instant-requires-clause-values g c = ap length c.deref.ensures.value ∙ c.in-Ok.ensures.timed.places
+lost_in_instant-requires-clause-values g c = c.in-Ok.ensures.timed.places
 
 pub lost_in_instant-requires-clause-fitting : goal.lost_in_instant-requires-clause-fitting
-lost_in_instant-requires-clause-fitting g c = subst (AreFitting c.args.experiment.now.system) (sym c.deref.ensures.value) c.in-Ok.ensures.timed.fitting
+lost_in_instant-requires-clause-fitting g c = c.in-Ok.ensures.timed.fitting
 
 pub returns-in-Some-clause-puts : goal.returns-in-Some-clause-puts
 returns-in-Some-clause-puts g c olds past so h =
     let e = c.args.experiment.now in
     let s = spot c.args.t c.args.n c.find.new.buffers in
     ends e olds past (Read s) _ _ _ (c.in-Ok.ensures.goes _ olds past h) (E.Range c.in-Some.lost c.args.t)
-    (LostThere s c.in-Some.lost (subst (λ (vs : List (Option ℤ)). IsFirstLost (is_bad vs) e.system.ports vs c.in-Some.lost) c.deref.ensures.value c.in-Some.ensures)) tt
+    (LostThere s c.in-Some.lost c.in-Some.ensures) tt
 
 pub ask-requires-clause-kept : goal.ask-requires-clause-kept
-ask-requires-clause-kept g c κs lives =
-    let e = c.args.experiment.now in
-    subst (λ (vs : List (Option ℤ)). list_any (is_bad vs) e.system.ports ≡ false) c.deref.ensures.value c.in_default.ensures
+ask-requires-clause-kept g c κs lives = c.in_default.ensures
 
 pub returns-in-Err-ask-clause-puts : goal.returns-in-Err-ask-clause-puts
 returns-in-Err-ask-clause-puts g c olds past so h = c.in-Err-ask.ensures.goes _ olds past (c.in-Ok.ensures.goes _ olds past h)

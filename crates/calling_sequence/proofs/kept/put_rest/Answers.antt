@@ -16,20 +16,18 @@ few_option x = let len = option_len x in omega (arith, len)
 
 pub put_words-requires-clause-room : goal.put_words-requires-clause-room
 put_words-requires-clause-room c =
-    let words = map (option_map word_of) c.deref.result.now in
+    let words = map (option_map word_of) c.args.buffers.now.values in
     let most = most_bytes option_bytes 9 few_option words in
-    let l = length-map c.deref.result.now (option_map word_of) in
-    let d = ap length c.deref.ensures.value in
+    let l = length-map c.args.buffers.now.values (option_map word_of) in
     let places = c.requires.places in
     let room = c.requires.room in
-    omega (arith, most, l, d, places, room)
+    omega (arith, most, l, places, room)
 
 pub put_all_times-requires-clause-room : goal.put_all_times-requires-clause-room
 put_all_times-requires-clause-room c =
-    let words = map (option_map word_of) c.deref.result.now in
+    let words = map (option_map word_of) c.args.buffers.now.values in
     let most = most_bytes option_bytes 9 few_option words in
-    let l = length-map c.deref.result.now (option_map word_of) in
-    let d = ap length c.deref.ensures.value in
+    let l = length-map c.args.buffers.now.values (option_map word_of) in
     let places = c.requires.places in
     let room = c.requires.room in
     let ports = c.as_slice-ports.result.now in
@@ -41,14 +39,13 @@ put_all_times-requires-clause-room c =
     let b1 = c.put_words.new.bytes.ok.0 in
     let l1 = len_after c.args.bytes.now.items c.put_words.new.bytes.items (flat_map option_bytes words) c.put_words.ensures.text in
     let grown = c.put_words.ensures.room in
-    omega (arith, most, l, d, places, room, p, n, times, b0, b1, l1, grown)
+    omega (arith, most, l, places, room, p, n, times, b0, b1, l1, grown)
 
 pub put_armings-requires-clause-room : goal.put_armings-requires-clause-room
 put_armings-requires-clause-room c =
-    let words = map (option_map word_of) c.deref.result.now in
+    let words = map (option_map word_of) c.args.buffers.now.values in
     let most = most_bytes option_bytes 9 few_option words in
-    let l = length-map c.deref.result.now (option_map word_of) in
-    let d = ap length c.deref.ensures.value in
+    let l = length-map c.args.buffers.now.values (option_map word_of) in
     let places = c.requires.places in
     let room = c.requires.room in
     let ports = c.as_slice-ports.result.now in
@@ -66,14 +63,13 @@ put_armings-requires-clause-room c =
     let l2 = len_after c.put_words.new.bytes.items c.put_all_times.new.bytes.items (flat_map times_bytes (by_port times_of ports (timers_in c.args.buffers.now.schedule))) c.put_all_times.ensures.text in
     let g1 = c.put_words.ensures.room in
     let g2 = c.put_all_times.ensures.room in
-    omega (arith, most, l, d, places, room, p, n, times, m, armings, b0, b1, b2, l1, l2, g1, g2)
+    omega (arith, most, l, places, room, p, n, times, m, armings, b0, b1, b2, l1, l2, g1, g2)
 
 pub put_events-requires-clause-room : goal.put_events-requires-clause-room
 put_events-requires-clause-room c =
-    let words = map (option_map word_of) c.deref.result.now in
+    let words = map (option_map word_of) c.args.buffers.now.values in
     let most = most_bytes option_bytes 9 few_option words in
-    let l = length-map c.deref.result.now (option_map word_of) in
-    let d = ap length c.deref.ensures.value in
+    let l = length-map c.args.buffers.now.values (option_map word_of) in
     let places = c.requires.places in
     let room = c.requires.room in
     let ports = c.as_slice-ports.result.now in
@@ -97,4 +93,4 @@ put_events-requires-clause-room c =
     let g1 = c.put_words.ensures.room in
     let g2 = c.put_all_times.ensures.room in
     let g3 = c.put_armings.ensures.room in
-    omega (arith, most, l, d, places, room, p, n, times, m, armings, v, events, each, b0, b1, b2, b3, l1, l2, l3, g1, g2, g3)
+    omega (arith, most, l, places, room, p, n, times, m, armings, v, events, each, b0, b1, b2, b3, l1, l2, l3, g1, g2, g3)

@@ -5,7 +5,7 @@ use Rattle.fmu_peer.specs.CloseAll.{instance_in}
 use Rattle.value_types.specs.declared.shape.Shape.{Shape}
 use Rattle.system_model.specs.Bounds.{IsParameterValue}
 use Rattle.system_model.specs.declared.bound.BoundValue.{BoundValue}
-use Rattle.slot_calls.specs.Log.{Asking}
+use Rattle.slot_calls.specs.Log.{ComponentCall}
 use Rattle.slot_calls.specs.Slots.{instances}
 use Rattle.slot_calls.specs.Stage.{Stage, nothing}
 use Rattle.slot_calls.proofs.CallerLemmas.{answered_none, shapes_same, told_none}
@@ -77,5 +77,5 @@ returns-clause-sets g c =
     let lists = c.args.bound.now.components in
     let over = c.loop-place-test.false in
     let e : length c.as_slice-values-items.result.now ≡ length lists = ap length c.as_slice-values-items.ensures in
-    subst (λ (cs : List Asking). Stage cs nothing (instances g.L.Peer.view c.args.slots.now) (instances g.L.Peer.view c.loop-place.slots) (Ok tt))
+    subst (λ (cs : List ComponentCall). Stage cs nothing (instances g.L.Peer.view c.args.slots.now) (instances g.L.Peer.view c.loop-place.slots) (Ok tt))
     (ap (binding_from 0) (take_all c.loop-place.place lists (omega (arith, over, e)))) c.loop-place.invariant.sets

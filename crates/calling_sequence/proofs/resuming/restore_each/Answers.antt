@@ -8,7 +8,7 @@ use Rattle.slot_calls.specs.Stage.{shapes}
 use Rattle.slot_calls.proofs.CallerLemmas.{answered_none, at_rest, same_first, same_more, shapes_same, told_none}
 use Rattle.calling_sequence.specs.Place.{IsMade, IsStepping}
 use Rattle.calling_sequence.proofs.InTurn.{in_turn_all, loop_cut, loop_on, restoring_at, restoring_lists, restoring_of}
-use Rattle.calling_sequence.proofs.Restoring.{all_stand, bare_shapes, bare_stage, calls_as, front_more, front_same, may_be_restored, one_there, restored_as, restored_stepping, unrestored_as}
+use Rattle.calling_sequence.proofs.Restoring.{all_stand, bare_shapes, bare_stage, calls_as, may_be_restored, one_there, prefix_more, prefix_same, restored_as, restored_stepping, unrestored_as}
 use Rattle.calling_sequence.proofs.resuming.restore_each.Goals as goal
 
 pub loop-place-init : goal.loop-place-init
@@ -18,7 +18,7 @@ loop-place-init g c =
       rest = same_first c.args.slots.now;
       live = c.requires.ready.live;
       stage = record { log = []; told = told_none is; says = (answered_none (shapes is), refl) };
-      front = λ i d w. absurd (omega (arith, w));
+      prefix = λ i d w. absurd (omega (arith, w));
     }
 
 pub restore-requires-clause-live : goal.restore-requires-clause-live
@@ -71,7 +71,7 @@ loop-place-preserved g c =
       rest = same_more k c.args.slots.now c.loop-place.slots c.restore.new.slot i.rest;
       live = All-set (LiveSlot g.L.Peer.view) c.loop-place.slots k c.restore.new.slot c.in-Ok.ensures.live i.live;
       stage = loop_on (λ s. without_machine_in (instance_in g.L.Peer.view s)) _ c.loop-place.slots (restoring_of point stop (map length states)) k (restoring_calls (length state) point stop) there.0 there.1 c.index-slots-place.result c.restore.new.slot within i.stage c.in-Ok.ensures.calls;
-      front = front_more (λ s. instance_in g.L.Peer.view s) c.args.slots.now c.loop-place.slots k i.rest c.loop-place-test.true c.restore.new.slot (λ j v w. WasRestored point stop (get_or states j []) v w) i.front c.index-slots-place.result
+      prefix = prefix_more (λ s. instance_in g.L.Peer.view s) c.args.slots.now c.loop-place.slots k i.rest c.loop-place-test.true c.restore.new.slot (λ j v w. WasRestored point stop (get_or states j []) v w) i.prefix c.index-slots-place.result
           (restored_as _ _ (is ∙ get_or_default states k state [] inside) c.in-Ok.ensures.restores);
     }
 
@@ -93,7 +93,7 @@ returns-in-Err-clause-restores g c =
     record {
       len = omega (arith, n, m, l, len);
       within = omega (arith, n, w);
-      front = front_same (λ s. instance_in g.L.Peer.view s) c.args.slots.now c.loop-place.slots k i.rest w c.restore.new.slot (λ j v u. WasRestored point stop (get_or states j []) v u) i.front;
+      prefix = prefix_same (λ s. instance_in g.L.Peer.view s) c.args.slots.now c.loop-place.slots k i.rest w c.restore.new.slot (λ j v u. WasRestored point stop (get_or states j []) v u) i.prefix;
       there = one_there (λ s. instance_in g.L.Peer.view s) c.args.slots.now c.loop-place.slots k i.rest w c.restore.new.slot (λ v u. WasNotRestored point stop (get_or states k []) c.in-Err.why v u) c.index-slots-place.result
           (unrestored_as _ _ (is ∙ get_or_default states k state [] inside) c.in-Err.ensures.restores);
     }
@@ -112,7 +112,7 @@ returns-clause-ready g c =
       few = omega (arith, few, len);
       shapes_are = sym (bare_shapes (λ s. instance_in view s) c.loop-place.slots) ∙ shapes_same i.stage.log _ _ i.stage.told ∙ bare_shapes (λ s. instance_in view s) c.args.slots.now ∙ r.shapes_are;
       live = i.live;
-      stand = all_stand view c.args.slots.now c.loop-place.slots (λ j v w. WasRestored c.args.point e.plan.stop (get_or c.args.states.now j []) v w) IsMade (IsStepping c.args.point e.plan.stop e.plan.step) len (λ j d w. i.front j d (omega (arith, over, w)))
+      stand = all_stand view c.args.slots.now c.loop-place.slots (λ j v w. WasRestored c.args.point e.plan.stop (get_or c.args.states.now j []) v w) IsMade (IsStepping c.args.point e.plan.stop e.plan.step) len (λ j d w. i.prefix j d (omega (arith, over, w)))
           (λ j v w was made. restored_stepping c.args.point e.plan.stop e.plan.step (get_or c.args.states.now j []) v w was made) r.stand;
     }
 
@@ -135,4 +135,4 @@ returns-clause-restores g c =
     let m = length-map c.loop-place.slots (λ s. instance_in g.L.Peer.view s) in
     let len = c.loop-place.auto.slots in
     let over = c.loop-place-test.false in
-    record { len = omega (arith, n, m, len); each = λ j d w. i.front j d (omega (arith, over, n, w)) }
+    record { len = omega (arith, n, m, len); each = λ j d w. i.prefix j d (omega (arith, over, n, w)) }

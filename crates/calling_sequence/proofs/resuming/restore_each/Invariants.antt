@@ -16,5 +16,5 @@ invariant-loop-place g l =
       rest : SameFrom l.place l.fn.slots l.slots;
       live : All (LiveSlot view) l.slots;
       stage : Stage (in_turn_from 0 (take l.place (restoring_of l.point stop (map length l.states)))) nothing (map (λ s. without_machine_in (instance_in view s)) l.fn.slots) (map (λ s. without_machine_in (instance_in view s)) l.slots) (Ok tt);
-      front : (i : ℕ) (d : Instance) → i < l.place → WasRestored l.point stop (get_or l.states i []) (get_or (instances view l.fn.slots) i d).view (get_or (instances view l.slots) i d).view;
+      prefix : (i : ℕ) (d : Instance) → i < l.place → WasRestored l.point stop (get_or l.states i []) (get_or (instances view l.fn.slots) i d).view (get_or (instances view l.slots) i d).view;
     }

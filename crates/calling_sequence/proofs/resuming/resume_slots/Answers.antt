@@ -4,7 +4,7 @@ use Rattle.value_types.specs.declared.shape.Shape.{Shape}
 use Rattle.slot_calls.specs.Stage.{IsAnswered, StopsAt}
 use Rattle.slot_calls.specs.Slots.{instances}
 use Rattle.calling_sequence.specs.Course.{FromHeld}
-use Rattle.calling_sequence.specs.Goes.{spot}
+use Rattle.calling_sequence.specs.StageOutcomes.{spot}
 use Rattle.calling_sequence.specs.Holding.{Back, NotBack}
 use Rattle.calling_sequence.specs.Here.{HoldsEnds, Past}
 use Rattle.calling_sequence.specs.Calls.{restoring}

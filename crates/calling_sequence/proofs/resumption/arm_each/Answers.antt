@@ -18,10 +18,10 @@ loop-clock-preserved c =
     let k = c.loop-clock.clock in
     let armings = c.args.armings.now in
     let old = c.args.schedule.now in
-    let front = c.loop-clock.invariant.armed in
+    let prefix = c.loop-clock.invariant.armed in
     record {
       armed = elim c.match-arming.branch [
-        | in-At w ↦ arms armings old c.loop-clock.schedule c.match-arming.schedule k w.in-At.point w.from.result c.loop-clock-test.true w.in-At.is w.from.ensures front (w.schedule-is ∙ w.arm.ensures)
-        | in_default w ↦ arms_none armings old c.loop-clock.schedule c.match-arming.schedule k c.loop-clock-test.true w.in_default.not-At front w.schedule-is
+        | in-At w ↦ arms armings old c.loop-clock.schedule c.match-arming.schedule k w.in-At.point w.from.result c.loop-clock-test.true w.in-At.is w.from.ensures prefix (w.schedule-is ∙ w.arm.ensures)
+        | in_default w ↦ arms_none armings old c.loop-clock.schedule c.match-arming.schedule k c.loop-clock-test.true w.in_default.not-At prefix w.schedule-is
       ];
     }

@@ -69,20 +69,20 @@ step_on-requires-clause-before g c κs lives =
 pub instants-preserved : goal.instants-preserved
 instants-preserved g c =
     let begun = c.instants.invariant.begun in
-    let later = c.in-Ok-step_on.ensures.later in
+    let later = c.in-Some.ensures.later in
     let other = c.if-limit-t.false in
     record {
-      ready = c.in-Ok-step_on.ensures.ready;
-      timed = c.in-Ok-step_on.ensures.timed;
+      ready = c.in-Some.ensures.ready;
+      timed = c.in-Some.ensures.timed;
       begun = omega (arith, begun, later);
       below = c.requires.ready.may.plan.limit_above;
       text = c.in-Ok.ensures.text ∙ c.instants.invariant.text;
-      onward = λ olds past goes h. c.in-Ok-step_on.ensures.steps _ _ olds past (goes.leaves c.instants.t (omega (arith, other)))
+      onward = λ olds past goes h. c.in-Some.ensures.steps _ _ olds past (goes.leaves c.instants.t (omega (arith, other)))
           (done_there c.args.experiment.now _ _ c.take.new.buffers c.in-Ok.updated olds past _ _ _ (c.in-Ok.ensures.puts olds past goes.puts_them (c.instants.invariant.onward olds past goes h)) c.if-updated-2.false c.if-updated.false);
     }
 
-pub returns-in-Err-step_on-clause-comes : goal.returns-in-Err-step_on-clause-comes
-returns-in-Err-step_on-clause-comes g c olds past goes h =
+pub returns-in-None-clause-comes : goal.returns-in-None-clause-comes
+returns-in-None-clause-comes g c olds past goes h =
     let other = c.if-limit-t.false in
-    c.in-Err-step_on.ensures.steps _ _ olds past (goes.leaves c.instants.t (omega (arith, other)))
+    c.in-None.ensures.steps _ _ olds past (goes.leaves c.instants.t (omega (arith, other)))
     (done_there c.args.experiment.now _ _ c.take.new.buffers c.in-Ok.updated olds past _ _ _ (c.in-Ok.ensures.puts olds past goes.puts_them (c.instants.invariant.onward olds past goes h)) c.if-updated-2.false c.if-updated.false)

@@ -2,7 +2,7 @@ use Rattle.std.proofs.Common.{◌≡◌, ◌≤◌, ◌<◌, ◌-◌, ◌+◌, �
 use Rattle.std.specs.Prelude.{◌==◌}
 use Rattle.fmu_peer.specs.CloseAll.{Instance}
 use Rattle.slot_calls.specs.Slots.{instances}
-use Rattle.calling_sequence.specs.Goes.{GoesUpTo, before_instant}
+use Rattle.calling_sequence.specs.StageOutcomes.{GoesUpTo, before_instant}
 use Rattle.calling_sequence.specs.Here.{Here, Past}
 use Rattle.calling_sequence.specs.Place.{IsAt}
 use Rattle.calling_sequence.specs.Ready.{AreTimed, Ready}

@@ -25,7 +25,7 @@ follow-broken-requires-after_bounds g c κs lives =
     let f = c.requires.fresh in
     let text = with_items_is c.args.buffers.now.text c.put_head.new.text (c.put_head.auto.text ∙ c.deref_mut.ensures.len) in
     let same = ap length text ∙ c.put_head.auto.text ∙ ap length c.deref_mut.ensures.value in
-    record { ready = c.requires.ready; fresh = record { reads_are = f.reads_are; clocks = f.clocks; places = f.places; holds = subst (HoldsEach c.args.experiment.now.system) (sym same) f.holds; none = f.none } }
+    record { ready = c.requires.ready; fresh = record { reads_are = f.reads_are; know = record { participants = f.know.participants; room = f.know.room }; clocks = f.clocks; places = f.places; holds = subst (HoldsEach c.args.experiment.now.system) (sym same) f.holds; none = f.none } }
 
 pub conclude-requires : goal.conclude-requires
 conclude-requires g c =

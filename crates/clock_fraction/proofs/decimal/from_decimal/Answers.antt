@@ -1,9 +1,9 @@
-use Rattle.clock_fraction.proofs.DigitLemmas.{AllDigits-front, AllDigits-back}
+use Rattle.clock_fraction.proofs.DigitLemmas.{AllDigits-prefix, AllDigits-back}
 use Rattle.clock_fraction.proofs.decimal.from_decimal.Goals as goal
 
 pub fraction_of-requires-clause-whole : goal.fraction_of-requires-clause-whole
 fraction_of-requires-clause-whole c =
-    AllDigits-front c.split_at_point.result.0.now c.split_at_point.result.1.now (c.is_decimal.ensures.0 c.if-is_decimal.true).0.1
+    AllDigits-prefix c.split_at_point.result.0.now c.split_at_point.result.1.now (c.is_decimal.ensures.0 c.if-is_decimal.true).0.1
 
 pub fraction_of-requires-clause-places : goal.fraction_of-requires-clause-places
 fraction_of-requires-clause-places c =

@@ -1,5 +1,5 @@
 use Rattle.std.proofs.Common.{◌<◌, arith}
-use Rattle.clock_fraction.proofs.DigitLemmas.{zeros_of_both, zeros_of_places, last-of_front, last-nonzero}
+use Rattle.clock_fraction.proofs.DigitLemmas.{zeros_of_both, zeros_of_places, last-of_prefix, last-nonzero}
 use Rattle.clock_fraction.proofs.decimal.significant_parts.Goals as goal
 
 pub returns-then-kept-eq0-clause-zeros : goal.returns-then-kept-eq0-clause-zeros
@@ -8,7 +8,7 @@ returns-then-kept-eq0-clause-zeros c =
 
 pub returns-then-kept-eq0-clause-last : goal.returns-then-kept-eq0-clause-last
 returns-then-kept-eq0-clause-last c =
-    last-of_front c.args.whole.now c.significant_len.result c.requires.whole c.significant_len.ensures.within c.significant_len.ensures.last
+    last-of_prefix c.args.whole.now c.significant_len.result c.requires.whole c.significant_len.ensures.within c.significant_len.ensures.last
 
 pub returns-else-kept-eq0-clause-zeros : goal.returns-else-kept-eq0-clause-zeros
 returns-else-kept-eq0-clause-zeros c =

@@ -2,11 +2,11 @@ use Rattle.std.proofs.Common.{length, Some, sym, ap, ◌∙◌, subst, arith}
 use Rattle.std.proofs.lemmas.List.{length-set}
 use Rattle.dependency_order.specs.Graph.{Needs}
 use Rattle.dependency_order.proofs.OrderLemmas.{Walks, walks_push}
-use Rattle.dependency_order.proofs.FindLemmas.{told_push, told_at, loops_behind}
+use Rattle.dependency_order.proofs.FindLemmas.{told_push, told_at, loops_after}
 use Rattle.dependency_order.proofs.loops.find_loop.Goals as goal
 
-pub behind-requires : goal.behind-requires
-behind-requires c =
+pub after-requires : goal.after-requires
+after-requires c =
     let i = c.loop-place.invariant in
     let at = told_at c.loop-place.places.items c.loop-place.path.items c.loop-place.node c.in-Some.place c.index.result.now i.told (let n = i.places in let l = i.node in omega (arith, n, l)) c.index.ensures c.in-Some.is in
     let l = at.within in
@@ -17,7 +17,7 @@ pub returns-in-Some : goal.returns-in-Some
 returns-in-Some c =
     let i = c.loop-place.invariant in
     let at = told_at c.loop-place.places.items c.loop-place.path.items c.loop-place.node c.in-Some.place c.index.result.now i.told (let n = i.places in let l = i.node in omega (arith, n, l)) c.index.ensures c.in-Some.is in
-    loops_behind c.behind.result c.args.needs.now c.loop-place.path.items c.as_slice.result.now c.loop-place.node c.in-Some.place c.as_slice.ensures.value i.walks at c.behind.ensures
+    loops_after c.after.result c.args.needs.now c.loop-place.path.items c.as_slice.result.now c.loop-place.node c.in-Some.place c.as_slice.ensures.value i.walks at c.after.ensures
 
 pub loop-place-preserved : goal.loop-place-preserved
 loop-place-preserved c =

@@ -25,7 +25,7 @@ pub returns-clause-complete : goal.returns-clause-complete
 returns-clause-complete c = λ text tree h. run_complete strict text tree h
 
 pub returns-clause-judged : goal.returns-clause-judged
-returns-clause-judged c = λ front x rest s out why i u h e. judged_fault front x rest s out why i u h e
+returns-clause-judged c = λ prefix x rest s out why i u h e. judged_fault prefix x rest s out why i u h e
 
 pub returns-clause-cut : goal.returns-clause-cut
 returns-clause-cut c = λ text s out u h f. end_fault text s out u h f

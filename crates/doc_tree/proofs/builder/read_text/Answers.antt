@@ -2,7 +2,7 @@ use Rattle.std.proofs.Common.{◌≡◌, ◌∷◌, [], ◌++◌, length, refl, 
 use Rattle.doc_grammar.specs.Grammar.{strict}
 use Rattle.doc_grammar.specs.Characters.{class}
 use Rattle.doc_grammar.specs.Machine.{step}
-use Rattle.doc_grammar.specs.Nodes.{nodes_behind}
+use Rattle.doc_grammar.specs.Nodes.{nodes_after}
 use Rattle.doc_events.specs.View.{state_of, events_at}
 use Rattle.doc_events.specs.Answers.{Faults}
 use Rattle.doc_events.proofs.CallerLemmas.{moved, step_text, step_place, whole_text, ended, early, slice_left, slice_fault, refused_fits, refused_fault}
@@ -17,7 +17,7 @@ loop-at-init c =
       sym (ap (λ z. z.rest.now) d ∙ c.char_indices-at-items.ensures.rest),
       ap (λ z. z.at) d ∙ c.char_indices-at-items.ensures.offset,
       (sym c.new-reader.ensures, refl),
-      λ more. ap (λ z. nodes_behind more z.0 z.1) c.new-builder.ensures,
+      λ more. ap (λ z. nodes_after more z.0 z.1) c.new-builder.ensures,
     )
 
 pub loop-at-preserved-in-Nothing : goal.loop-at-preserved-in-Nothing
@@ -32,7 +32,7 @@ loop-at-preserved-in-Nothing c =
       step_text c.args.text.now i.0 c.loop-at.at-iterator.rest.now c.next.new.self.rest.now c.in-Some.c i.2 b.1,
       step_place i.0 c.in-Some.c c.loop-at.at-iterator.at c.next.new.self.at i.3 b.2,
       moved i.0 (state_of c.loop-at.reader) c.in-Some.c c.in-Ok.token c.take.new.self i.1 i.4 c.in-Ok.ensures,
-      built_more i.1 es built.0 built.0 built.1 built.1 i.5 (λ more. ap (λ z. nodes_behind (z ++ more) built.0 built.1) (sym none)),
+      built_more i.1 es built.0 built.0 built.1 built.1 i.5 (λ more. ap (λ z. nodes_after (z ++ more) built.0 built.1) (sym none)),
     )
 
 pub loop-at-preserved : goal.loop-at-preserved

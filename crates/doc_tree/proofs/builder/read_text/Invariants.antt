@@ -8,5 +8,5 @@ use Rattle.doc_tree.proofs.builder.read_text.Given as goal
 
 abbrev pub invariant-loop-at : goal.invariant-loop-at
 invariant-loop-at l =
-    (front : List ℕ) × (events : List Event) × (l.text ≡ encode_utf8_all front ++ l.at-iterator.rest.now) × (l.at-iterator.at ≡ length (encode_utf8_all front))
-    × Leads strict start front (state_of l.reader) events × HasBuilt events l.builder.0 l.builder.1
+    (prefix : List ℕ) × (events : List Event) × (l.text ≡ encode_utf8_all prefix ++ l.at-iterator.rest.now) × (l.at-iterator.at ≡ length (encode_utf8_all prefix))
+    × Leads strict start prefix (state_of l.reader) events × HasBuilt events l.builder.0 l.builder.1

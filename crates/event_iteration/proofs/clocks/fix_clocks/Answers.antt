@@ -6,7 +6,7 @@ use Rattle.fmu_peer.specs.CloseAll.{Instance, instance_in}
 use Rattle.system_model.proofs.CallerLemmas.{all_at}
 use Rattle.slot_calls.proofs.CallerLemmas.{shapes_same}
 use Rattle.event_iteration.specs.Clocks.{timers_in}
-use Rattle.event_iteration.specs.Initialization.{IsInitializing}
+use Rattle.event_iteration.specs.Initialization.{IsInInitialization}
 use Rattle.event_iteration.specs.Questions.{InstanceMode, mode_of, modes}
 use Rattle.event_iteration.proofs.Fixing.{fixing_all, fixing_more, fixing_none, fixing_stands, fixing_until}
 use Rattle.event_iteration.proofs.Fmus.{got}
@@ -15,7 +15,7 @@ use Rattle.event_iteration.proofs.Rounds.{all_instances}
 use Rattle.event_iteration.proofs.clocks.fix_clocks.Goals as goal
 
 -- an instance that is in Initialization Mode is so by its mode, also later
-all_initializing : (olds mids : List Instance) → modes mids ≡ modes olds → All (λ (x : Instance). IsInitializing x.view) olds →
+all_initializing : (olds mids : List Instance) → modes mids ≡ modes olds → All (λ (x : Instance). IsInInitialization x.view) olds →
     (i : ℕ) (mode : InstanceMode) → slice_get (modes mids) i ≡ Some mode → mode.state ≡ P.Initialization
 all_initializing olds mids same all i mode at =
     all_at (λ (m : InstanceMode). m.state ≡ P.Initialization) (modes olds) i mode
@@ -30,13 +30,13 @@ loop-p-init g c = record {
 
 pub fix_clock-requires-clause-shapes : goal.fix_clock-requires-clause-shapes
 fix_clock-requires-clause-shapes g c κs lives =
-    let front = c.loop-p.invariant.fixing in
-    shapes_same front.log _ _ front.told ∙ c.requires.shapes
+    let prefix = c.loop-p.invariant.fixing in
+    shapes_same prefix.log _ _ prefix.told ∙ c.requires.shapes
 
 pub fix_clock-requires-clause-initializing : goal.fix_clock-requires-clause-initializing
 fix_clock-requires-clause-initializing g c κs lives =
     all_initializing (map (λ s. instance_in g.L.Peer.view s) c.args.slots.now) (map (λ s. instance_in g.L.Peer.view s) c.loop-p.slots) c.loop-p.invariant.fixing.modes_are
-    (all_instances (λ s. instance_in g.L.Peer.view s) (λ (x : Instance). IsInitializing x.view) c.args.slots.now c.requires.initializing)
+    (all_instances (λ s. instance_in g.L.Peer.view s) (λ (x : Instance). IsInInitialization x.view) c.args.slots.now c.requires.initializing)
 
 pub fix_clock-requires-clause-first : goal.fix_clock-requires-clause-first
 fix_clock-requires-clause-first g c κs lives port is = c.loop-p.invariant.fixing.fixed.ahead c.loop-p.p port (omega arith) is

@@ -1,4 +1,4 @@
-use Rattle.std.proofs.Common.{rules, ◌<◌, ap, ◌∙◌, length, sym, subst, get_or, refl, arith}
+use Rattle.std.proofs.Common.{rules, ◌<◌, ℤ, Option, ap, ◌∙◌, length, sym, subst, get_or, refl, arith}
 use Rattle.std.specs.Prelude.{None, if◌then◌else◌}
 use Rattle.std.proofs.lemmas.List.Elements.{All-set}
 use Rattle.fmu_peer.specs.CloseAll.{instance_in}
@@ -43,7 +43,7 @@ ask_if-requires-clause-may g c κs lives =
     let there = component_at system c.args.p port c.requires.there is in
     let within : port.component.0 < length c.args.slots.now = (let m = slots_many (λ s. instance_in g.L.Peer.view s) system c.args.slots.now c.requires.shapes in let w = there.within in omega (arith, m, w)) in
     subst (λ call. MayAsk call (instance_in g.L.Peer.view (get_or c.args.slots.now port.component.0 c.index-slots-port.result)).view)
-    (sym (c.call_of-call.ensures ∙ ap (λ b. if b then None else sets_to port.role port (value values c.args.p)) (c.has_event_mode-has_event_mode.ensures there.component there.is)))
+    (sym (c.call_of-call.ensures ∙ ap (λ (v : Option ℤ). if c.has_event_mode-has_event_mode.result then None else sets_to port.role port v) c.at.ensures ∙ ap (λ b. if b then None else sets_to port.role port (value values c.args.p)) (c.has_event_mode-has_event_mode.ensures there.component there.is)))
     (c.requires.may port there.component _ is there.is (instance_at (λ s. instance_in g.L.Peer.view s) c.args.slots.now port.component.0 c.index-slots-port.result within))
 
 pub returns-in-Ok-clause-live : goal.returns-in-Ok-clause-live
@@ -60,7 +60,7 @@ returns-in-Ok-clause-turn g c =
     set_same system values c.args.p _ _ _
     (took (λ s. instance_in g.L.Peer.view s) system (before_step values) c.args.p port there.component c.args.slots.now c.index-slots-port.result c.ask_if.new.slot values is there.is within
     (shape_in_slot (λ s. instance_in g.L.Peer.view s) system c.args.slots.now port.component.0 c.index-slots-port.result there.component c.requires.shapes within there.is)
-    c.call_of-call.result (c.call_of-call.ensures ∙ ap (λ b. if b then None else sets_to port.role port (value values c.args.p)) (c.has_event_mode-has_event_mode.ensures there.component there.is)) _ c.in-Ok.ensures.asks _ refl)
+    c.call_of-call.result (c.call_of-call.ensures ∙ ap (λ (v : Option ℤ). if c.has_event_mode-has_event_mode.result then None else sets_to port.role port v) c.at.ensures ∙ ap (λ b. if b then None else sets_to port.role port (value values c.args.p)) (c.has_event_mode-has_event_mode.ensures there.component there.is)) _ c.in-Ok.ensures.asks _ refl)
 
 pub returns-in-Err-clause-turn : goal.returns-in-Err-clause-turn
 returns-in-Err-clause-turn g c =
@@ -72,4 +72,4 @@ returns-in-Err-clause-turn g c =
     let within : port.component.0 < length c.args.slots.now = (let m = slots_many (λ s. instance_in g.L.Peer.view s) system c.args.slots.now c.requires.shapes in let w = there.within in omega (arith, m, w)) in
     stopped (λ s. instance_in g.L.Peer.view s) system (before_step values) c.args.p port there.component c.args.slots.now c.index-slots-port.result c.ask_if.new.slot values is there.is within
     (shape_in_slot (λ s. instance_in g.L.Peer.view s) system c.args.slots.now port.component.0 c.index-slots-port.result there.component c.requires.shapes within there.is)
-    c.call_of-call.result (c.call_of-call.ensures ∙ ap (λ b. if b then None else sets_to port.role port (value values c.args.p)) (c.has_event_mode-has_event_mode.ensures there.component there.is)) (record { component = port.component; why = c.in-Err.why }) refl c.in-Err.ensures.asks
+    c.call_of-call.result (c.call_of-call.ensures ∙ ap (λ (v : Option ℤ). if c.has_event_mode-has_event_mode.result then None else sets_to port.role port v) c.at.ensures ∙ ap (λ b. if b then None else sets_to port.role port (value values c.args.p)) (c.has_event_mode-has_event_mode.ensures there.component there.is)) (record { component = port.component; why = c.in-Err.why }) refl c.in-Err.ensures.asks

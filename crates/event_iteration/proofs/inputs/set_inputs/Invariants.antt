@@ -1,4 +1,4 @@
-use Rattle.std.proofs.Common.{List, take}
+use Rattle.std.proofs.Common.{◌-◌, List, length, take}
 use Rattle.std.specs.Prelude.{All}
 use Rattle.slot_calls.specs.Log.{Sent, Told}
 use Rattle.slot_calls.specs.Slots.{LiveSlot, instances}
@@ -15,3 +15,6 @@ invariant-loop-p g l =
       told : Told log (instances view l.fn.slots) (instances view l.slots);
       walked : Walked l.system (before_step l.values) l.values (take l.p (port_order l.system)) l.values log;
     }
+
+abbrev pub decreases-loop-p : goal.decreases-loop-p
+decreases-loop-p g l = length l.values - l.p

@@ -1,3 +1,4 @@
+use Rattle.std.proofs.Common.{◌-◌, length}
 use Rattle.std.specs.Prelude.{All}
 use Rattle.slot_calls.specs.Slots.{LiveSlot, instances}
 use Rattle.event_iteration.proofs.Rearming.{Rearming}
@@ -10,3 +11,6 @@ invariant-loop-p g l =
       live : All (LiveSlot view) l.slots;
       rearming : Rearming l.system l.per_second l.t l.p l.values l.fn.schedule l.schedule l.is_armed (instances view l.fn.slots) (instances view l.slots);
     }
+
+abbrev pub decreases-loop-p : goal.decreases-loop-p
+decreases-loop-p g l = length l.values - l.p

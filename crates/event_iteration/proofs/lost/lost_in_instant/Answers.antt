@@ -16,7 +16,7 @@ pub returns-then-not-has_changes : goal.returns-then-not-has_changes
 returns-then-not-has_changes c = none_bad c.args.system.now c.requires.sound (c.requires.changes c.if-not-has_changes.true) c.args.values.now c.requires.fitting
 
 pub loop-p-init : goal.loop-p-init
-loop-p-init c = record { upto = omega arith; none = none_yet (is_bad c.args.values.now) c.args.system.now.ports }
+loop-p-init c = record { up_to = omega arith; none = none_yet (is_bad c.args.values.now) c.args.system.now.ports }
 
 pub is_bad-requires-clause-placed : goal.is_bad-requires-clause-placed
 is_bad-requires-clause-placed c =
@@ -51,7 +51,7 @@ returns-then-is_bad c =
 
 pub loop-p-preserved : goal.loop-p-preserved
 loop-p-preserved c = record {
-  upto = let w = c.loop-p-test.true in let e = ap length c.as_slice-ports.ensures in omega (arith, w, e);
+  up_to = let w = c.loop-p-test.true in let e = ap length c.as_slice-ports.ensures in omega (arith, w, e);
   none = goes_past (is_bad c.args.values.now) c.args.system.now.ports c.loop-p.p c.index-ports-p.result c.as_slice-ports.ensures c.loop-p-test.true c.index-ports-p.is c.loop-p.invariant.none (sym c.is_bad.ensures ∙ c.if-is_bad.false);
 }
 

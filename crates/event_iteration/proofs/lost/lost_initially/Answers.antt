@@ -10,7 +10,7 @@ use Rattle.event_iteration.proofs.Taking.{port_at}
 use Rattle.event_iteration.proofs.lost.lost_initially.Goals as goal
 
 pub loop-p-init : goal.loop-p-init
-loop-p-init c = record { upto = omega arith; none = none_yet (is_bad_initially c.args.system.now c.args.values.now) c.args.system.now.ports }
+loop-p-init c = record { up_to = omega arith; none = none_yet (is_bad_initially c.args.system.now c.args.values.now) c.args.system.now.ports }
 
 pub is_bad_initially-requires-clause-placed : goal.is_bad_initially-requires-clause-placed
 is_bad_initially-requires-clause-placed c =
@@ -37,7 +37,7 @@ returns-then-is_bad_initially c =
 
 pub loop-p-preserved : goal.loop-p-preserved
 loop-p-preserved c = record {
-  upto = let w = c.loop-p-test.true in let e = ap length c.as_slice-ports.ensures in omega (arith, w, e);
+  up_to = let w = c.loop-p-test.true in let e = ap length c.as_slice-ports.ensures in omega (arith, w, e);
   none = goes_past (is_bad_initially c.args.system.now c.args.values.now) c.args.system.now.ports c.loop-p.p c.index-ports-p.result c.as_slice-ports.ensures c.loop-p-test.true c.index-ports-p.is c.loop-p.invariant.none (sym c.is_bad_initially.ensures ∙ c.if-is_bad_initially.false);
 }
 

@@ -5,6 +5,6 @@ use Rattle.event_iteration.proofs.lost.lost_initially.Given as goal
 
 abbrev pub invariant-loop-p : goal.invariant-loop-p
 invariant-loop-p l = record {
-  upto : l.p ≤ length l.system.ports;
+  up_to : l.p ≤ length l.system.ports;
   none : NoneBefore (is_bad_initially l.system l.values) l.system.ports l.p;
 }

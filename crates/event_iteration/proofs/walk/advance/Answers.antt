@@ -3,13 +3,13 @@ use Rattle.std.specs.Prelude.{slice_set}
 use Rattle.sim_base.specs.declared.numbers.PortId.{PortId}
 use Rattle.fmu_peer.specs.CloseAll.{instance_in}
 use Rattle.system_model.specs.declared.system.Port.{Port}
-use Rattle.system_model.specs.Ports.{numbers}
+use Rattle.system_model.specs.Ports.{port_numbers}
 use Rattle.system_model.proofs.CallerLemmas.{place_of}
 use Rattle.event_iteration.specs.declared.walk.Way.{Way}
-use Rattle.event_iteration.specs.Waits.{Gathers, IsWay}
+use Rattle.event_iteration.specs.Waits.{Gathers, IsWay, KeepsOthers, place}
 use Rattle.event_iteration.proofs.Fmus.{got}
 use Rattle.event_iteration.proofs.Rounds.{components_there, number_at}
-use Rattle.event_iteration.proofs.Runs.{moves_asked, port_there}
+use Rattle.event_iteration.proofs.Runs.{keeps_all, keeps_but, moves_asked, port_there}
 use Rattle.event_iteration.proofs.Steps.{may_now, passes, quiet, waits_too}
 use Rattle.event_iteration.proofs.Taking.{port_at}
 use Rattle.event_iteration.proofs.Turned.{value_by}
@@ -28,8 +28,19 @@ returns-in-Skip-clause-moves g c =
     let port = got system.ports p (port_there c.args.order.now c.requires.gathered c.requires.within d) in
     let placed = place_of system c.requires.sound p port.0 port.1 in
     let way = subst (λ (x : Way). IsWay system rules w p values x) c.in-Skip.is (c.requires.way d) in
-    λ before olds gathers. passes system c.requires.sound rules before (numbers order) olds k w values (map (λ s. instance_in g.L.Peer.view s) c.args.slots.now) gathers p (number_at order order k d refl c.requires.within)
-    port.0 port.1 placed.component placed.is.of way.0 way.1
+    λ before olds gathers. (
+      passes system c.requires.sound rules before (port_numbers order) olds k w values (map (λ s. instance_in g.L.Peer.view s) c.args.slots.now) gathers p (number_at order order k d refl c.requires.within)
+          port.0 port.1 placed.component placed.is.of way.0 way.1 way.2 c.pass.new.self c.pass.ensures.others c.pass.ensures.inputs c.pass.ensures.passed,
+      keeps_all system (port_numbers order) k (k + 1) w c.pass.new.self values _ _,
+    )
+
+pub pass-requires : goal.pass-requires
+pass-requires g c =
+    let system = c.args.system.now in
+    let rules = g.T.Turns.rules c.args.turns.now system in
+    let d : PortId = record { 0 = 0 } in
+    let way = subst (λ (x : Way). IsWay system rules c.args.waiting.now (get_or c.args.order.now c.args.k d).0 c.args.values.now x) c.in-Skip.is (c.requires.way d) in
+    record { few = way.2 }
 
 pub bounds-as_slice-p : goal.bounds-as_slice-p
 bounds-as_slice-p g c =
@@ -73,20 +84,18 @@ returns-in-Wait-clause-moves g c =
     let placed = place_of system c.requires.sound p port is in
     let way = subst (λ (x : Way). IsWay system rules w p values x) c.in-Wait.is (c.requires.way d) in
     let sent = way.2 port placed.component is placed.is.of in
-    λ before olds gathers. waits_too system c.requires.sound rules before (numbers order) olds k w values (map (λ s. instance_in g.L.Peer.view s) c.args.slots.now) gathers p (number_at order order k d refl c.requires.within)
-    port is placed.component placed.is.of c.in-Wait.call sent.1 way.0 way.1 sent.0 c.push.new.self c.push.ensures.ports c.push.ensures.count c.push.ensures.since c.push.ensures.first
-    (c.push.ensures.component ∙ ap (λ (x : Port). x.component) (sym c.index-as_slice-p.is)) c.push.ensures.kind
+    λ before olds gathers. (
+      waits_too system c.requires.sound rules before (port_numbers order) olds k w values (map (λ s. instance_in g.L.Peer.view s) c.args.slots.now) gathers p (number_at order order k d refl c.requires.within)
+          port is placed.component placed.is.of c.in-Wait.call sent.1 way.0 way.1 sent.0 c.push.new.self c.push.ensures.ports c.push.ensures.count c.push.ensures.inputs c.push.ensures.passed c.push.ensures.first
+          (c.push.ensures.component ∙ ap (λ (x : Port). x.component) (sym c.index-as_slice-p.is)) c.push.ensures.kind,
+      keeps_all system (port_numbers order) k (k + 1) w c.push.new.self values _ _,
+    )
 
-pub bounds-values-p : goal.bounds-values-p
-bounds-values-p g c =
-    let d : PortId = record { 0 = 0 } in
-    subst (λ n. (get_or c.args.order.now c.args.k d).0 < n) (sym c.requires.gathered.2.places) (port_there c.args.order.now c.requires.gathered c.requires.within d)
+pub value_of-value-requires-clause-port : goal.value_of-value-requires-clause-port
+value_of-value-requires-clause-port g c = let d : PortId = record { 0 = 0 } in port_there c.args.order.now c.requires.gathered c.requires.within d
 
-pub value_of-requires-clause-port : goal.value_of-requires-clause-port
-value_of-requires-clause-port g c = let d : PortId = record { 0 = 0 } in port_there c.args.order.now c.requires.gathered c.requires.within d
-
-pub bounds-values-p-in-Quiet : goal.bounds-values-p-in-Quiet
-bounds-values-p-in-Quiet g c =
+pub put-requires : goal.put-requires
+put-requires g c =
     let d : PortId = record { 0 = 0 } in
     subst (λ n. (get_or c.args.order.now c.args.k d).0 < n) (sym c.requires.gathered.2.places) (port_there c.args.order.now c.requires.gathered c.requires.within d)
 
@@ -105,10 +114,13 @@ returns-in-Quiet-clause-moves g c =
     let port = got system.ports p lt in
     let placed = place_of system c.requires.sound p port.0 port.1 in
     let way = subst (λ (x : Way). IsWay system rules w p values x) c.in-Quiet.is (c.requires.way d) in
-    let v = value_by system rules values p None c.value_of.result lt c.value_of.ensures in
-    λ before olds gathers. subst (λ (x : Option ℤ). Gathers system rules before (numbers order) olds (k + 1) w (slice_set values p x) is) (sym v)
-    (quiet system c.requires.sound rules before (numbers order) olds k w values is gathers p (number_at order order k d refl c.requires.within) port.0 port.1 placed.component placed.is.of way.0
-    (way.1 port.0 placed.component port.1 placed.is.of))
+    let v = value_by system rules values p None c.value_of-value.result c.at.result lt c.at.ensures c.value_of-value.ensures in
+    λ before olds gathers. subst (λ (V : List (Option ℤ)). Gathers system rules before (port_numbers order) olds (k + 1) w V is × KeepsOthers system (port_numbers order) (place k w values is) (place (k + 1) w V is)) (sym c.put.ensures) (
+      subst (λ (x : Option ℤ). Gathers system rules before (port_numbers order) olds (k + 1) w (slice_set values p x) is) (sym v)
+          (quiet system c.requires.sound rules before (port_numbers order) olds k w values is gathers p (number_at order order k d refl c.requires.within) port.0 port.1 placed.component placed.is.of way.0
+          (way.1 port.0 placed.component port.1 placed.is.of)),
+      keeps_but system (port_numbers order) gathers.ordered k p (number_at order order k d refl c.requires.within) w w values c.value_of-value.result is is,
+    )
 
 pub take-requires-clause-port : goal.take-requires-clause-port
 take-requires-clause-port g c κs lives = let d : PortId = record { 0 = 0 } in port_there c.args.order.now c.requires.gathered c.requires.within d
@@ -137,7 +149,7 @@ take-requires-clause-may g c κs lives =
     let d : PortId = record { 0 = 0 } in
     let p = (get_or order k d).0 in
     let way = subst (λ (x : Way). IsWay system rules w p values x) c.in-Ask.is (c.requires.way d) in
-    may_now system rules so.0 (numbers order) so.1 k w values (map (λ s. instance_in g.L.Peer.view s) c.args.slots.now) so.2 p (number_at order order k d refl c.requires.within) way.0
+    may_now system rules so.0 (port_numbers order) so.1 k w values (map (λ s. instance_in g.L.Peer.view s) c.args.slots.now) so.2 p (number_at order order k d refl c.requires.within) way.0
 
 pub returns-in-Ask-clause-moves : goal.returns-in-Ask-clause-moves
 returns-in-Ask-clause-moves g c =
@@ -150,5 +162,5 @@ returns-in-Ask-clause-moves g c =
     let d : PortId = record { 0 = 0 } in
     let p = (get_or order k d).0 in
     let way = subst (λ (x : Way). IsWay system rules w p values x) c.in-Ask.is (c.requires.way d) in
-    moves_asked system rules (numbers order) k w values (map (λ s. instance_in g.L.Peer.view s) c.args.slots.now) p (number_at order order k d refl c.requires.within) way.0
+    moves_asked system rules (port_numbers order) k w values (map (λ s. instance_in g.L.Peer.view s) c.args.slots.now) p (number_at order order k d refl c.requires.within) way.0
     c.take.new.values (map (λ s. instance_in g.L.Peer.view s) c.take.new.slots) c.take.result c.take.ensures.turn

@@ -1,8 +1,9 @@
-use Rattle.std.proofs.Common.{rules, ◌<◌, length, sym, subst, get_or, refl, arith}
+use Rattle.std.proofs.Common.{rules, ◌<◌, ◌∙◌, ℤ, List, Option, Ok, ap, map, length, sym, subst, get_or, refl, arith}
+use Rattle.std.specs.Prelude.{slice_set}
 use Rattle.std.proofs.lemmas.List.Elements.{All-set}
 use Rattle.fmu_peer.specs.CloseAll.{instance_in}
 use Rattle.slot_calls.specs.Slots.{LiveSlot}
-use Rattle.event_iteration.specs.Turns.{MayAsk}
+use Rattle.event_iteration.specs.Turns.{MayAsk, TakesTurn}
 use Rattle.event_iteration.proofs.Taking.{component_at, instance_at, port_at, shape_in_slot, slots_many, stopped, took}
 use Rattle.event_iteration.proofs.walk.take.Goals as goal
 
@@ -51,9 +52,10 @@ returns-in-Ok-clause-turn g c =
     let is = port_at _ system.ports c.args.p port c.as_slice.ensures c.index-as_slice-p.is c.requires.port in
     let there = component_at system c.args.p port c.requires.there is in
     let within : port.component.0 < length c.args.slots.now = (let m = slots_many (λ s. instance_in g.L.Peer.view s) system c.args.slots.now c.requires.shapes in let w = there.within in omega (arith, m, w)) in
-    took (λ s. instance_in g.L.Peer.view s) system (g.T.Turns.rules c.args.turns.now system) c.args.p port there.component c.args.slots.now c.index-slots-port.result c.ask_if.new.slot c.args.values.now is there.is within
+    subst (λ (V : List (Option ℤ)). TakesTurn system (g.T.Turns.rules c.args.turns.now system) c.args.p c.args.values.now V (map (λ s. instance_in g.L.Peer.view s) c.args.slots.now) (map (λ s. instance_in g.L.Peer.view s) (slice_set c.args.slots.now port.component.0 c.ask_if.new.slot)) (Ok tt)) (sym c.put.ensures)
+    (took (λ s. instance_in g.L.Peer.view s) system (g.T.Turns.rules c.args.turns.now system) c.args.p port there.component c.args.slots.now c.index-slots-port.result c.ask_if.new.slot c.args.values.now is there.is within
     (shape_in_slot (λ s. instance_in g.L.Peer.view s) system c.args.slots.now port.component.0 c.index-slots-port.result there.component c.requires.shapes within there.is)
-    c.args.call (c.requires.call port there.component is there.is) c.in-Ok.reply c.in-Ok.ensures.asks c.value_of.result (c.value_of.ensures port is)
+    c.args.call (c.requires.call port there.component is there.is) c.in-Ok.reply c.in-Ok.ensures.asks c.value_of-value.result (c.value_of-value.ensures port is ∙ ap (λ (x : Option ℤ). (g.T.Turns.rules c.args.turns.now system).takes c.args.p port c.args.values.now x c.in-Ok.reply) c.at.ensures))
 
 pub returns-in-Err-clause-turn : goal.returns-in-Err-clause-turn
 returns-in-Err-clause-turn g c =

@@ -1,9 +1,9 @@
-use Rattle.std.proofs.Common.{◌≡◌, ◌≤◌, ℕ, ℤ, [], List, Option, length, map, refl, subst, arith, take}
+use Rattle.std.proofs.Common.{◌≡◌, ◌≤◌, ℕ, ℤ, [], List, Option, length, map, refl, ap, subst, arith, take}
 use Rattle.std.proofs.lemmas.List.{length-map, take_all}
 use Rattle.sim_base.specs.declared.numbers.PortId.{PortId}
 use Rattle.fmu_peer.specs.CloseAll.{Instance, instance_in}
 use Rattle.system_model.specs.declared.system.System.{System}
-use Rattle.system_model.specs.Ports.{numbers}
+use Rattle.system_model.specs.Ports.{port_numbers}
 use Rattle.slot_calls.proofs.CallerLemmas.{told_none}
 use Rattle.event_iteration.specs.declared.walk.Waiting.{Waiting}
 use Rattle.event_iteration.specs.Turns.{Begun, Rules, Walked}
@@ -12,14 +12,14 @@ use Rattle.event_iteration.proofs.Steps.{rested, walked_now}
 use Rattle.event_iteration.proofs.walk.walk.Goals as goal
 
 -- after the last port of the order
-at_end : {system : System} {rules : Rules} {before values : List (Option ℤ)} {olds is : List Instance} {k : ℕ} {w : Waiting} (order : List PortId) → Gathers system rules before (numbers order) olds k w values is → length order ≤ k →
-    Gathers system rules before (numbers order) olds (length order) w values is
+at_end : {system : System} {rules : Rules} {before values : List (Option ℤ)} {olds is : List Instance} {k : ℕ} {w : Waiting} (order : List PortId) → Gathers system rules before (port_numbers order) olds k w values is → length order ≤ k →
+    Gathers system rules before (port_numbers order) olds (length order) w values is
 at_end {system = system} {rules = rules} {before = before} {values = values} {olds = olds} {is = is} {k = k} {w = w} order gathers end =
     let all : k ≡ length order = (let m = gathers.within in let n = length-map order (λ (x : PortId). x.0) in omega (arith, end, m, n)) in
-    subst (λ (n : ℕ). Gathers system rules before (numbers order) olds n w values is) all gathers
+    subst (λ (n : ℕ). Gathers system rules before (port_numbers order) olds n w values is) all gathers
 
-whole : (order : List PortId) → take (length order) (numbers order) ≡ numbers order
-whole order = take_all (length order) (numbers order) (let n = length-map order (λ (x : PortId). x.0) in omega (arith, n))
+whole : (order : List PortId) → take (length order) (port_numbers order) ≡ port_numbers order
+whole order = take_all (length order) (port_numbers order) (let n = length-map order (λ (x : PortId). x.0) in omega (arith, n))
 
 pub loop-k-init : goal.loop-k-init
 loop-k-init g c =
@@ -27,8 +27,8 @@ loop-k-init g c =
     let slots = map (λ s. instance_in g.L.Peer.view s) c.args.slots.now in
     record {
       live = c.requires.live;
-      gathers = rested system (g.T.Turns.rules c.args.turns.now system) c.args.values.now (numbers c.args.order.now) slots 0 c.none-waiting.result c.args.values.now slots c.requires.local c.requires.order c.requires.may c.requires.shapes c.requires.values c.requires.fitting [] (told_none slots)
-          (omega arith) (let s = c.none-waiting.ensures.since in omega (arith, s)) c.none-waiting.ensures.none c.none-waiting.ensures.kind (Begun [] c.args.values.now [] refl refl refl);
+      gathers = rested system (g.T.Turns.rules c.args.turns.now system) c.args.values.now (port_numbers c.args.order.now) slots 0 c.none-waiting.result c.args.values.now slots c.requires.local c.requires.order c.requires.may c.requires.shapes c.requires.values c.requires.fitting [] (told_none slots)
+          (omega arith) c.none-waiting.ensures.none (ap (λ (n : ℕ). take n c.none-waiting.result.inputs) c.none-waiting.ensures.passed) (let n = c.none-waiting.ensures.passed in omega (arith, n)) c.none-waiting.ensures.kind (Begun [] c.args.values.now [] refl refl refl);
     }
 
 pub returns-in-Err-clause-fitting : goal.returns-in-Err-clause-fitting
@@ -36,11 +36,11 @@ returns-in-Err-clause-fitting g c = (c.in-Err.ensures.moves c.args.values.now (m
 
 pub loop-k-preserved : goal.loop-k-preserved
 loop-k-preserved g c =
-    record { live = c.in-Ok.ensures.live; gathers = c.in-Ok.ensures.moves c.args.values.now (map (λ s. instance_in g.L.Peer.view s) c.args.slots.now) c.loop-k.invariant.gathers }
+    record { live = c.in-Ok.ensures.live; gathers = (c.in-Ok.ensures.moves c.args.values.now (map (λ s. instance_in g.L.Peer.view s) c.args.slots.now) c.loop-k.invariant.gathers).0 }
 
 pub send_waiting-requires-clause-gathered : goal.send_waiting-requires-clause-gathered
 send_waiting-requires-clause-gathered g c κs lives =
-    (c.args.values.now, map (λ s. instance_in g.L.Peer.view s) c.args.slots.now, at_end c.args.order.now c.loop-k.invariant.gathers c.loop-k-test.false)
+    record { before = c.args.values.now; order = port_numbers c.args.order.now; olds = map (λ s. instance_in g.L.Peer.view s) c.args.slots.now; k = length c.args.order.now; gathers = at_end c.args.order.now c.loop-k.invariant.gathers c.loop-k-test.false }
 
 pub returns-in-Ok-send_waiting-clause-goes : goal.returns-in-Ok-send_waiting-clause-goes
 returns-in-Ok-send_waiting-clause-goes g c =
@@ -49,21 +49,24 @@ returns-in-Ok-send_waiting-clause-goes g c =
     let order = c.args.order.now in
     let before = c.args.values.now in
     let olds = map (λ s. instance_in g.L.Peer.view s) c.args.slots.now in
-    let last = c.in-Ok-send_waiting.ensures.moves before olds (at_end c.args.order.now c.loop-k.invariant.gathers c.loop-k-test.false) in (
+    let last = (c.in-Ok-send_waiting.ensures.sends (port_numbers c.args.order.now) (length c.args.order.now) before olds (at_end c.args.order.now c.loop-k.invariant.gathers c.loop-k-test.false)).0 in (
       last.log,
       last.told,
       subst (λ (l : List ℕ). Walked system rules before l c.send_waiting.new.values last.log) (whole order)
-          (walked_now system rules before (numbers order) olds (length order) c.send_waiting.new.waiting c.send_waiting.new.values (map (λ s. instance_in g.L.Peer.view s) c.send_waiting.new.slots) last c.in-Ok-send_waiting.ensures.none),
+          (walked_now system rules before (port_numbers order) olds (length order) c.send_waiting.new.waiting c.send_waiting.new.values (map (λ s. instance_in g.L.Peer.view s) c.send_waiting.new.slots) last c.in-Ok-send_waiting.ensures.none),
     )
 
 pub returns-in-Ok-send_waiting-clause-fitting : goal.returns-in-Ok-send_waiting-clause-fitting
 returns-in-Ok-send_waiting-clause-fitting g c =
-    (c.in-Ok-send_waiting.ensures.moves c.args.values.now (map (λ s. instance_in g.L.Peer.view s) c.args.slots.now) (at_end c.args.order.now c.loop-k.invariant.gathers c.loop-k-test.false)).fits
+    (c.in-Ok-send_waiting.ensures.sends (port_numbers c.args.order.now) (length c.args.order.now) c.args.values.now (map (λ s. instance_in g.L.Peer.view s) c.args.slots.now) (at_end c.args.order.now c.loop-k.invariant.gathers c.loop-k-test.false)).0.fits
 
 pub returns-in-Err-send_waiting-clause-goes : goal.returns-in-Err-send_waiting-clause-goes
 returns-in-Err-send_waiting-clause-goes g c =
-    (c.in-Err-send_waiting.ensures.moves c.args.values.now (map (λ s. instance_in g.L.Peer.view s) c.args.slots.now) (at_end c.args.order.now c.loop-k.invariant.gathers c.loop-k-test.false)).1
+    (c.in-Err-send_waiting.ensures.sends (port_numbers c.args.order.now) (length c.args.order.now) c.args.values.now (map (λ s. instance_in g.L.Peer.view s) c.args.slots.now) (at_end c.args.order.now c.loop-k.invariant.gathers c.loop-k-test.false)).1
 
 pub returns-in-Err-send_waiting-clause-fitting : goal.returns-in-Err-send_waiting-clause-fitting
 returns-in-Err-send_waiting-clause-fitting g c =
-    (c.in-Err-send_waiting.ensures.moves c.args.values.now (map (λ s. instance_in g.L.Peer.view s) c.args.slots.now) (at_end c.args.order.now c.loop-k.invariant.gathers c.loop-k-test.false)).0
+    (c.in-Err-send_waiting.ensures.sends (port_numbers c.args.order.now) (length c.args.order.now) c.args.values.now (map (λ s. instance_in g.L.Peer.view s) c.args.slots.now) (at_end c.args.order.now c.loop-k.invariant.gathers c.loop-k-test.false)).0
+
+pub returns-in-Err-clause-goes : goal.returns-in-Err-clause-goes
+returns-in-Err-clause-goes g c = (c.in-Err.ensures.moves c.args.values.now (map (λ s. instance_in g.L.Peer.view s) c.args.slots.now) c.loop-k.invariant.gathers).1

@@ -4,6 +4,6 @@ use Rattle.exact_parts.proofs.field.take_by_bytes.Given as goal
 
 abbrev pub invariant-loop-place : goal.invariant-loop-place
 invariant-loop-place l = record {
-  front : l.front ≡ number 0 (take l.place l.bytes);
-  stands : Stands (worth (l.size - l.place)) l.spans l.front;
+  prefix : l.prefix ≡ number 0 (take l.place l.bytes);
+  stands : Stands (worth (l.size - l.place)) l.spans l.prefix;
 }

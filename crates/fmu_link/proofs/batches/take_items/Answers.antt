@@ -6,7 +6,7 @@ use Rattle.fmi_calls.specs.declared.call.Call.TheVariants as C
 use Rattle.fmu_peer.specs.Many.{AnsweredFirst, Talks, exchanges}
 use Rattle.fmu_peer.specs.Talk.{AllGood}
 use Rattle.fmu_peer.specs.declared.peer.PeerFault.TheVariants.{Garbled}
-use Rattle.fmu_peer.proofs.ManyLemmas.{all_more, answered_all, answered_first, bad_grade, faults_behind, good_grade, may_more, permitted_now, places_more, talks_more}
+use Rattle.fmu_peer.proofs.ManyLemmas.{all_more, answered_all, answered_first, bad_grade, faults_after, good_grade, may_more, permitted_now, places_more, talks_more}
 use Rattle.fmu_link.specs.Piped.{view_of}
 use Rattle.fmu_link.proofs.BatchReplies.{AreTold, falls_short, tells_first, told_more}
 use Rattle.fmu_link.proofs.BatchTalks.{item_asked, item_garbled, same_fixed, same_twice, still}
@@ -28,7 +28,7 @@ garbled-requires-clause-permitted c =
     let cs = c.args.calls.now in
     let old = c.args.instance.now in
     let mid = c.loop-i.instance in
-    let end : c.loop-i.i ≡ c.args.count = omega (arith, inv.upto, c.loop-i-test.false) in
+    let end : c.loop-i.i ≡ c.args.count = omega (arith, inv.up_to, c.loop-i-test.false) in
     let part : c.args.count < length cs = omega (arith, c.requires.few, c.is_all.ensures.no c.if-is_all.false) in
     subst (λ (n : ℕ). Permitted mid.shape mid.phase (get_or cs n (C.Instantiate false false false))) end
     (permitted_now (view_of still old) (view_of still mid) cs c.loop-i.i (C.Instantiate false false false) (omega (arith, end, part)) (same_fixed still old mid inv.same) inv.may)
@@ -77,8 +77,8 @@ loop-i-preserved c =
     let good = good_grade (view_of still old) (view_of still mid) (view_of still new) (get_or cs i d) reply new.shape c.grade.result (same_fixed still old mid inv.same) asked refl c.grade.ensures c.in-Good.is in
     record {
       places = search rules;
-      behind = places_more c.args.replies.now c.loop-i.replies i reply inv.behind;
-      upto = search rules;
+      after = places_more c.args.replies.now c.loop-i.replies i reply inv.after;
+      up_to = search rules;
       talks = λ w. talks_more (view_of w old) (view_of w mid) (view_of w new) cs c.loop-i.replies i d reply inv.places lt (same_fixed w old mid inv.same) inv.may (inv.talks w) (item_asked w mid new (get_or cs i d) reply c.note.ensures.kept c.note.ensures.counted c.note.ensures.phase);
       good = all_more old.shape cs c.loop-i.replies i d reply inv.places lt inv.good good;
       may = may_more (view_of still old) (view_of still mid) (view_of still new) cs i d reply lt (same_fixed still old mid inv.same) inv.may asked good;
@@ -97,15 +97,15 @@ returns-then-is_all c =
     let rs = c.loop-i.replies in
     let old = c.args.instance.now in
     let all : c.args.count ≡ length cs = c.is_all.ensures.yes c.if-is_all.true in
-    let upto : c.loop-i.i ≡ c.args.count = omega (arith, inv.upto, c.loop-i-test.false) in
-    let end : c.loop-i.i ≡ length cs = omega (arith, inv.upto, c.loop-i-test.false, all) in
+    let up_to : c.loop-i.i ≡ c.args.count = omega (arith, inv.up_to, c.loop-i-test.false) in
+    let end : c.loop-i.i ≡ length cs = omega (arith, inv.up_to, c.loop-i-test.false, all) in
     record {
       places = inv.places;
       asked = λ w. subst (λ (n : ℕ). AnsweredFirst (view_of w old) cs rs n (view_of w c.loop-i.instance)) (sym all)
           (answered_all (view_of w old) (view_of w c.loop-i.instance) cs rs (C.Instantiate false false false) inv.places (omega (arith, c.requires.sort.some))
           (subst (λ (n : ℕ). Talks (view_of w old) (exchanges (take n cs) (take n rs)) (view_of w c.loop-i.instance)) end (inv.talks w))
           (subst (λ (n : ℕ). AllGood old.shape (exchanges (take n cs) (take n rs))) end inv.good));
-      says = tells_first cs bytes rs c.args.count b c.requires.answers c.args.count (omega arith) (subst (AreTold bytes rs) upto inv.told);
+      says = tells_first cs bytes rs c.args.count b c.requires.answers c.args.count (omega arith) (subst (AreTold bytes rs) up_to inv.told);
       counted = inv.counted;
       agreed = inv.agreed;
     }
@@ -120,14 +120,14 @@ returns c =
     let old = c.args.instance.now in
     let mid = c.loop-i.instance in
     let new = c.garbled.new.instance in
-    let end : c.loop-i.i ≡ c.args.count = omega (arith, inv.upto, c.loop-i-test.false) in
+    let end : c.loop-i.i ≡ c.args.count = omega (arith, inv.up_to, c.loop-i-test.false) in
     let part : c.args.count < length cs = omega (arith, c.requires.few, c.is_all.ensures.no c.if-is_all.false) in
     let lt : c.loop-i.i < length cs = omega (arith, end, part) in
     let head = take 24 c.args.came.now in
     let phase : new.phase ≡ next_of mid.shape mid.phase (get_or cs c.loop-i.i d) None = c.garbled.ensures.phase ∙ ap (λ (n : ℕ). next_of mid.shape mid.phase (get_or cs n d) None) (sym end) in
     record {
       places = inv.places;
-      asked = λ w. rw c.garbled.ensures.fault (faults_behind (view_of w old) (view_of w mid) (view_of w new) cs c.args.replies.now c.loop-i.replies c.loop-i.i d (Garbled head) inv.places lt inv.behind (inv.talks w) inv.good
+      asked = λ w. rw c.garbled.ensures.fault (faults_after (view_of w old) (view_of w mid) (view_of w new) cs c.args.replies.now c.loop-i.replies c.loop-i.i d (Garbled head) inv.places lt inv.after (inv.talks w) inv.good
           (permitted_now (view_of w old) (view_of w mid) cs c.loop-i.i d lt (same_fixed w old mid inv.same) inv.may)
           (item_garbled w mid new (get_or cs c.loop-i.i d) head c.garbled.ensures.kept c.garbled.ensures.counted phase));
       says = rw c.garbled.ensures.fault (refl, inr (falls_short cs bytes c.loop-i.replies c.args.count b c.requires.answers part (subst (AreTold bytes c.loop-i.replies) end inv.told)));

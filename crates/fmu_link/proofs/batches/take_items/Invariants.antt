@@ -10,8 +10,8 @@ use Rattle.fmu_link.proofs.batches.take_items.Given as goal
 abbrev pub invariant-loop-i : goal.invariant-loop-i
 invariant-loop-i l = record {
   places : length l.replies ≡ length l.calls;
-  behind : drop l.i l.replies ≡ drop l.i l.fn.replies;
-  upto : l.i ≤ l.count;
+  after : drop l.i l.replies ≡ drop l.i l.fn.replies;
+  up_to : l.i ≤ l.count;
   talks : (wire : WireView) → Talks (view_of wire l.fn.instance) (exchanges (take l.i l.calls) (take l.i l.replies)) (view_of wire l.instance);
   good : AllGood l.fn.instance.shape (exchanges (take l.i l.calls) (take l.i l.replies));
   may : MayAskAll l.fn.instance.shape l.instance.phase (drop l.i l.calls);

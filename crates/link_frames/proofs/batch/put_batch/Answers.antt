@@ -20,12 +20,12 @@ loop-i-preserved c =
     let new = c.put_at-in-loop-i.new.out in
     let place : 24 * (i + 1) + length frame ≡ 24 * (i + 1 + 1) = omega arith in
     record {
-      upto = search rules;
+      up_to = search rules;
       len = search rules;
       bytes = inv.bytes ++ frame;
       are = one_more calls i (C.Instantiate false false false) inv.bytes frame c.requires.has_frame c.loop-i-test.true inv.are c.frame_of.ensures;
-      front = subst (λ (k : ℕ). take k new ≡ spelling (batch_head (length calls)) ++ (inv.bytes ++ frame)) place
-          (c.put_at-in-loop-i.ensures.front ∙ ap (λ (b : List ℕ). b ++ frame) inv.front ∙ append_assoc (spelling (batch_head (length calls))) inv.bytes frame);
+      prefix = subst (λ (k : ℕ). take k new ≡ spelling (batch_head (length calls)) ++ (inv.bytes ++ frame)) place
+          (c.put_at-in-loop-i.ensures.prefix ∙ ap (λ (b : List ℕ). b ++ frame) inv.prefix ∙ append_assoc (spelling (batch_head (length calls))) inv.bytes frame);
       rest = subst (λ (k : ℕ). drop k new ≡ drop k c.loop-i.out) place c.put_at-in-loop-i.ensures.rest
           ∙ drop_later c.loop-i.out c.args.out.now (24 * (i + 1)) (24 * (i + 1 + 1)) (omega arith) inv.rest;
     }
@@ -34,9 +34,9 @@ pub returns-clause-batch : goal.returns-clause-batch
 returns-clause-batch c =
     let inv = c.loop-i.invariant in
     let calls = c.args.calls.now in
-    let all : c.loop-i.i ≡ length calls = omega (arith, inv.upto, c.loop-i-test.false) in
+    let all : c.loop-i.i ≡ length calls = omega (arith, inv.up_to, c.loop-i-test.false) in
     let whole : take c.loop-i.i calls ≡ calls = take_all _ _ (omega (arith, all)) in
     let are = subst (λ (cs : List Call). AreFrames IsCallFrame (λ (f : CallFrame). kind_of f.call) (kind_of_first calls) (frames_of cs) inv.bytes) whole inv.are in
     let size : 24 * (c.loop-i.i + 1) ≡ c.batch_len.result = omega (arith, all, c.batch_len.ensures) in
-    let front : take c.batch_len.result c.loop-i.out ≡ spelling (batch_head (length calls)) ++ inv.bytes = subst (λ (k : ℕ). take k c.loop-i.out ≡ spelling (batch_head (length calls)) ++ inv.bytes) size inv.front in
-    batch_put calls inv.bytes (take c.batch_len.result c.loop-i.out) c.requires.has_frame are front
+    let prefix : take c.batch_len.result c.loop-i.out ≡ spelling (batch_head (length calls)) ++ inv.bytes = subst (λ (k : ℕ). take k c.loop-i.out ≡ spelling (batch_head (length calls)) ++ inv.bytes) size inv.prefix in
+    batch_put calls inv.bytes (take c.batch_len.result c.loop-i.out) c.requires.has_frame are prefix

@@ -8,10 +8,10 @@ use Rattle.link_frames.proofs.batch.put_batch.Given as goal
 
 abbrev pub invariant-loop-i : goal.invariant-loop-i
 invariant-loop-i l = record {
-  upto : l.i ≤ length l.calls;
+  up_to : l.i ≤ length l.calls;
   len : length l.out ≡ length l.fn.out;
   bytes : List ℕ;
   are : AreFrames IsCallFrame (λ (f : CallFrame). kind_of f.call) (kind_of_first l.calls) (frames_of (take l.i l.calls)) bytes;
-  front : take (24 * (l.i + 1)) l.out ≡ spelling (batch_head (length l.calls)) ++ bytes;
+  prefix : take (24 * (l.i + 1)) l.out ≡ spelling (batch_head (length l.calls)) ++ bytes;
   rest : drop (24 * (l.i + 1)) l.out ≡ drop (24 * (l.i + 1)) l.fn.out;
 }

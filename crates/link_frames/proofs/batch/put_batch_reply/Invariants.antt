@@ -7,10 +7,10 @@ use Rattle.link_frames.proofs.batch.put_batch_reply.Given as goal
 
 abbrev pub invariant-loop-i : goal.invariant-loop-i
 invariant-loop-i l = record {
-  upto : l.i ≤ length l.replies;
+  up_to : l.i ≤ length l.replies;
   len : length l.out ≡ length l.fn.out;
   bytes : List ℕ;
   are : AreFrames IsReplyFrame kind_of_reply (kind_of_first_reply l.replies) (take l.i l.replies) bytes;
-  front : take (24 * (l.i + 1)) l.out ≡ spelling (batch_head (length l.replies)) ++ bytes;
+  prefix : take (24 * (l.i + 1)) l.out ≡ spelling (batch_head (length l.replies)) ++ bytes;
   rest : drop (24 * (l.i + 1)) l.out ≡ drop (24 * (l.i + 1)) l.fn.out;
 }

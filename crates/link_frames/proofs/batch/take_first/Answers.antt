@@ -7,7 +7,7 @@ use Rattle.link_frames.specs.declared.layout.Items.TheVariants.{Either}
 use Rattle.exact_parts.specs.declared.taken.Taken.{Taken}
 use Rattle.link_frames.specs.Batch.{FirstOf, ItemsOf, item_form, items_at}
 use Rattle.link_frames.specs.Numbers.{Reads}
-use Rattle.exact_parts.specs.Taking.{Breaks, Gets, IsFront, Takes}
+use Rattle.exact_parts.specs.Taking.{Breaks, Gets, IsPrefix, Takes}
 use Rattle.exact_parts.proofs.CallerLemmas.{first_bad, first_more, next_takes}
 use Rattle.link_frames.proofs.BatchLemmas.{first_followed}
 use Rattle.link_frames.proofs.NumbersLemmas.{reads_single}
@@ -23,14 +23,14 @@ returns-in-Got c =
     let got : Gets (Reads form 7 []) a.bytes.now c.in-Got.value n = subst (λ (f : Form). Gets (Reads f 7 []) a.bytes.now c.in-Got.value n) c.item_form.ensures c.in-Got.ensures in
     let there : Takes (ItemsOf a.side c.items_at.result (a.count - 1)) (drop n a.bytes.now) c.take_items-rest.result = subst (λ (t : List ℕ). Takes (ItemsOf a.side c.items_at.result (a.count - 1)) t c.take_items-rest.result) tail c.take_items-rest.ensures in
     let rest : Takes (ItemsOf a.side (items_at (slice_index c.in-Got.value 0)) (a.count - 1)) (drop n a.bytes.now) c.take_items-rest.result = subst (λ (i : Items). Takes (ItemsOf a.side i (a.count - 1)) (drop n a.bytes.now) c.take_items-rest.result) c.items_at.ensures there in
-    subst (λ (t : Taken (Unit {0})). Takes (FirstOf a.side a.count) a.bytes.now t) (sym c.behind.ensures)
+    subst (λ (t : Taken (Unit {0})). Takes (FirstOf a.side a.count) a.bytes.now t) (sym c.after.ensures)
     (next_takes (Reads form 7 []) (λ (ns : List ℕ). ItemsOf a.side (items_at (slice_index ns 0)) (a.count - 1)) (reads_single form 7 []) a.bytes.now c.in-Got.value n c.take_items-rest.result got rest)
 
 pub returns-in-NeedMore : goal.returns-in-NeedMore
 returns-in-NeedMore c =
     let a = c.args in
     first_more (Reads (item_form a.side Either) 7 []) (λ (ns : List ℕ). ItemsOf a.side (items_at (slice_index ns 0)) (a.count - 1)) (first_followed a.side a.count) a.bytes.now
-    (subst (λ (f : Form). IsFront (Reads f 7 []) a.bytes.now) c.item_form.ensures c.in-NeedMore.ensures)
+    (subst (λ (f : Form). IsPrefix (Reads f 7 []) a.bytes.now) c.item_form.ensures c.in-NeedMore.ensures)
 
 pub returns-in-Bad : goal.returns-in-Bad
 returns-in-Bad c =

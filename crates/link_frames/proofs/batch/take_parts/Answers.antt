@@ -22,7 +22,7 @@ returns-in-Got c =
     let n = c.in-Got.length in
     let tail : take (length a.bytes.now - n) (drop n a.bytes.now) ≡ drop n a.bytes.now = take_all _ _ (omega (arith, length-drop n a.bytes.now)) in
     let rest : Takes (CountOf a.side c.in-Got.value) (drop n a.bytes.now) c.take_counted.result = subst (λ (t : List ℕ). Takes (CountOf a.side c.in-Got.value) t c.take_counted.result) tail c.take_counted.ensures in
-    subst (λ (t : Taken ℕ). Takes (BatchParts a.side) a.bytes.now t) (sym c.behind.ensures)
+    subst (λ (t : Taken ℕ). Takes (BatchParts a.side) a.bytes.now t) (sym c.after.ensures)
     (next_takes (Reads OfBatch 7 []) (CountOf a.side) (reads_single OfBatch 7 []) a.bytes.now c.in-Got.value n c.take_counted.result c.in-Got.ensures rest)
 
 pub returns-in-NeedMore : goal.returns-in-NeedMore

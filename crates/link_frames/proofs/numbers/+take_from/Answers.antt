@@ -15,7 +15,7 @@ returns-in-Got t c =
     let lt : a.place < 7 = omega (arith, c.requires, c.if-place-eq7.false) in
     let len : length a.numbers ≡ 7 = omega arith in
     let tail : take (length a.bytes.now - c.in-Got.length) (drop c.in-Got.length a.bytes.now) ≡ drop c.in-Got.length a.bytes.now = take_all _ _ (omega (arith, length-drop c.in-Got.length a.bytes.now)) in
-    from_next a.form a.place a.numbers c.size_at.result c.spans_at.result a.bytes.now _ c.in-Got.value c.in-Got.length c.take_from-rest.result c.behind.result lt len c.size_at.ensures c.spans_at.ensures c.in-Got.ensures tail c.take_from-rest.ensures c.behind.ensures
+    from_next a.form a.place a.numbers c.size_at.result c.spans_at.result a.bytes.now _ c.in-Got.value c.in-Got.length c.take_from-rest.result c.after.result lt len c.size_at.ensures c.spans_at.ensures c.in-Got.ensures tail c.take_from-rest.ensures c.after.ensures
 
 pub returns-in-NeedMore : goal.returns-in-NeedMore
 returns-in-NeedMore t c =

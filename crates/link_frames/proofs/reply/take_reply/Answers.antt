@@ -5,7 +5,7 @@ use Rattle.exact_parts.specs.declared.taken.Taken.TheVariants.{Got, NeedMore, Ba
 use Rattle.link_frames.specs.Numbers.{Reads}
 use Rattle.link_frames.specs.Reply.{IsReplyFrame, reply_at}
 use Rattle.exact_parts.specs.Taking.{Gets}
-use Rattle.exact_parts.proofs.CallerLemmas.{made_breaks, made_front, made_got, only_one}
+use Rattle.exact_parts.proofs.CallerLemmas.{made_breaks, made_got, made_prefix, only_one}
 use Rattle.link_frames.proofs.ReplyLemmas.{qualifier_small, reply_same, reply_single}
 use Rattle.link_frames.proofs.reply.take_reply.Goals as goal
 
@@ -21,7 +21,7 @@ pub returns-in-Got-clause-only : goal.returns-in-Got-clause-only
 returns-in-Got-clause-only c = λ other h. only_one IsReplyFrame reply_single c.args.bytes.now (Got c.reply_at.result c.in-Got.length) other (returns-in-Got-clause-taken c) h
 
 pub returns-in-NeedMore-clause-taken : goal.returns-in-NeedMore-clause-taken
-returns-in-NeedMore-clause-taken c = made_front (Reads OfReply 7 []) reply_at IsReplyFrame reply_same c.args.bytes.now c.in-NeedMore.ensures
+returns-in-NeedMore-clause-taken c = made_prefix (Reads OfReply 7 []) reply_at IsReplyFrame reply_same c.args.bytes.now c.in-NeedMore.ensures
 
 pub returns-in-NeedMore-clause-only : goal.returns-in-NeedMore-clause-only
 returns-in-NeedMore-clause-only c = λ other h. only_one IsReplyFrame reply_single c.args.bytes.now NeedMore other (returns-in-NeedMore-clause-taken c) h

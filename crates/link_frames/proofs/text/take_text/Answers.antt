@@ -1,7 +1,7 @@
 use Rattle.std.proofs.Common.{ℕ, take, sym, subst, ◌∙◌}
 use Rattle.std.specs.Prelude.{IsUtf8}
 use Rattle.std.specs.Str.{valid_up_to}
-use Rattle.link_frames.proofs.TextLemmas.{whole_front, taken_room, taken_error, taken_cut}
+use Rattle.link_frames.proofs.TextLemmas.{whole_prefix, taken_room, taken_error, taken_cut}
 use Rattle.link_frames.proofs.text.take_text.Goals as goal
 
 pub returns-then-not-has_room : goal.returns-then-not-has_room
@@ -10,7 +10,7 @@ returns-then-not-has_room c =
 
 pub returns-then-bytes-size : goal.returns-then-bytes-size
 returns-then-bytes-size c =
-    whole_front c.args.size c.args.bytes.now c.if-bytes-size.true (subst (λ (n : ℕ). IsUtf8 (take n c.args.bytes.now)) c.min.ensures c.in-Ok.ensures.cases.1)
+    whole_prefix c.args.size c.args.bytes.now c.if-bytes-size.true (subst (λ (n : ℕ). IsUtf8 (take n c.args.bytes.now)) c.min.ensures c.in-Ok.ensures.cases.1)
 
 pub returns-in-Some : goal.returns-in-Some
 returns-in-Some c =

@@ -1,7 +1,7 @@
 use Rattle.std.proofs.Common.{◌≡◌, ℕ, Bor, List, ◌∷◌, ◌++◌, Option, Some, None, sym, ap, ◌∙◌, refl, arith}
 use Rattle.std.specs.Option.{IfNone, IfSome, IsSome}
 use Rattle.parameter_targets.proofs.ListLemmas.{read_at}
-use Rattle.parameter_targets.proofs.PathLemmas.{begins_above, left_behind, path_at_top, path_below}
+use Rattle.parameter_targets.proofs.PathLemmas.{begins_above, left_after, path_at_top, path_below}
 use Rattle.parameter_targets.proofs.paths.+path_from.Goals as goal
 
 is_left : (o : Option (Bor (List ℕ))) (text name rest : List ℕ) → IfNone o ((rest : List ℕ) → text ≡ name ++ 46 ∷ rest → ⊥) → text ≡ name ++ 46 ∷ rest → IsSome o
@@ -32,8 +32,8 @@ unwrap-requires t c =
     let tree = c.args.tree.now in
     let part = c.index-as_slice-system.result in
     let is = read_at tree.systems c.as_slice.result.now c.args.system part c.as_slice.ensures c.requires.1.1.1.0 c.index-as_slice-system.is in
-    let rest = left_behind tree c.args.system c.in-Some.above part c.args.name.now c.path_from.result.now is c.in-Some.is c.requires.1.1.1.1 c.path_from.ensures in
-    is_left c.behind.result c.path_from.result.now c.as_str.result.now rest.0 c.behind.ensures.none (rest.1 ∙ ap (λ z. z ++ 46 ∷ rest.0) (sym c.as_str.ensures))
+    let rest = left_after tree c.args.system c.in-Some.above part c.args.name.now c.path_from.result.now is c.in-Some.is c.requires.1.1.1.1 c.path_from.ensures in
+    is_left c.after.result c.path_from.result.now c.as_str.result.now rest.0 c.after.ensures.none (rest.1 ∙ ap (λ z. z ++ 46 ∷ rest.0) (sym c.as_str.ensures))
 
 pub returns-in-None : goal.returns-in-None
 returns-in-None t c =
@@ -47,6 +47,6 @@ returns-in-Some t c =
     let tree = c.args.tree.now in
     let part = c.index-as_slice-system.result in
     let is = read_at tree.systems c.as_slice.result.now c.args.system part c.as_slice.ensures c.requires.1.1.1.0 c.index-as_slice-system.is in
-    let found = found_left c.behind.result c.unwrap.result c.path_from.result.now c.as_str.result.now c.behind.ensures.found c.unwrap.ensures in
+    let found = found_left c.after.result c.unwrap.result c.path_from.result.now c.as_str.result.now c.after.ensures.found c.unwrap.ensures in
     path_below tree c.args.system c.in-Some.above part c.args.name.now c.path_from.result.now c.unwrap.result.now is c.in-Some.is c.path_from.ensures
     (found ∙ ap (λ z. z ++ 46 ∷ c.unwrap.result.now) c.as_str.ensures)

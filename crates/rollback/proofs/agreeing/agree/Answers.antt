@@ -1,11 +1,8 @@
-use Rattle.std.proofs.Common.{ℕ, sym, subst, ◌∙◌, arith}
+use Rattle.std.proofs.Common.{ℕ, sym, subst, ◌∙◌}
 use Rattle.std.specs.Prelude.{All}
 use Rattle.rollback.specs.Asked.{IsSavedBy}
 use Rattle.rollback.proofs.OneTurn.{agreed_all, agreed_one, begins_home}
 use Rattle.rollback.proofs.agreeing.agree.Goals as goal
-
-pub ask_once-requires-clause-none : goal.ask_once-requires-clause-none
-ask_once-requires-clause-none g c κs within = sym c.requires.counted ∙ c.if-early-eq0.true
 
 pub follow_one-requires-clause-one : goal.follow_one-requires-clause-one
 follow_one-requires-clause-one g c κs within = sym c.requires.counted ∙ c.if-early-eq1.true
@@ -18,10 +15,6 @@ agree_all-requires-clause-saved g c κs within = subst (λ (n : ℕ). All (IsSav
 
 pub agree_all-requires-clause-begin : goal.agree_all-requires-clause-begin
 agree_all-requires-clause-begin g c κs within = begins_home g.L.Peer.view c.args.t c.args.slots.now c.requires.home
-
-pub returns-then-early-eq0 : goal.returns-then-early-eq0
-returns-then-early-eq0 g c =
-    agreed_all g.L.Peer.view c.args.early c.args.t c.args.step c.args.bound c.args.slots.now c.ask_once.new.slots c.ask_once.result (let none = c.if-early-eq0.true in λ one. absurd (omega (arith, none, one))) c.ask_once.ensures
 
 pub returns-then-early-eq1 : goal.returns-then-early-eq1
 returns-then-early-eq1 g c = agreed_one g.L.Peer.view c.args.early c.args.t c.args.step c.args.bound c.args.slots.now c.follow_one.new.slots c.follow_one.result c.if-early-eq1.true c.follow_one.ensures

@@ -1,40 +1,57 @@
-use Rattle.std.proofs.Common.{arith, ◌∙◌}
-use Rattle.rollback.proofs.SavedSteps.{agreement_stops, all_stepped, at_mid, can_free, can_save, done, early_counted, early_mid, fits_all, frees_bad, placed_mid, saved_mid, saves_badly, unfitted}
+use Rattle.std.proofs.Common.{◌≡◌, ◌<◌, ◌≤◌, ◌∙◌, arith, Option, subst, sym}
+use Rattle.std.specs.Prelude.{All}
+use Rattle.slot_calls.specs.declared.bad_answer.BadAnswer.{BadAnswer}
+use Rattle.rollback.specs.Places.{Sends, told_by}
+use Rattle.rollback.specs.Standing.{HasStepped}
+use Rattle.rollback.specs.declared.asking.Turn.TheVariants as T
+use Rattle.rollback.specs.declared.places.Who.TheVariants as W
+use Rattle.rollback.proofs.AtOnce.{can_step, done_once, not_made, stepped_once, stops_once}
+use Rattle.rollback.proofs.SavedSteps.{early_counted, early_in}
+use Rattle.rollback.proofs.Sending.{none_bad, some_bad}
 use Rattle.rollback.proofs.stepping.agreed_step.Goals as goal
 
-pub returns-in-Err-clause-steps : goal.returns-in-Err-clause-steps
-returns-in-Err-clause-steps g c = unfitted g.L.Peer.view c.args.t c.args.bound c.args.step c.args.slots.now c.requires.ready c.in-Err.unfit c.in-Err.ensures
+pub send_well-requires-clause-can : goal.send_well-requires-clause-can
+send_well-requires-clause-can g c κs within =
+    let view = g.L.Peer.view in
+    let counted = c.early_count.ensures ∙ early_counted view c.args.slots.now in
+    let few = c.if-early_count-gt0.false in
+    let none : early_in view c.args.slots.now ≡ 0 = omega (arith, counted, few) in
+    can_step view c.args.t c.args.bound c.args.step c.requires.later c.if-bound-t.false c.args.slots.now c.requires.ready none c.requires.saves
 
-pub send-requires-clause-can : goal.send-requires-clause-can
-send-requires-clause-can g c κs within = can_save g.L.Peer.view c.args.t c.args.bound c.args.step c.early_count-early.result c.args.slots.now c.requires.ready (c.early_count-early.ensures ∙ early_counted g.L.Peer.view c.args.slots.now) c.requires.saves
+pub returns-then-send_well-clause-stepped : goal.returns-then-send_well-clause-stepped
+returns-then-send_well-clause-stepped g c =
+    let view = g.L.Peer.view in
+    let counted = c.early_count.ensures ∙ early_counted view c.args.slots.now in
+    let few = c.if-early_count-gt0.false in
+    let none : early_in view c.args.slots.now ≡ 0 = omega (arith, counted, few) in
+    let sent = subst (λ (o : Option BadAnswer). Sends view W.Everyone (T.Step c.args.t c.args.bound) c.args.slots.now c.send_well.new.slots (told_by o)) (none_bad _ (sym c.if-send_well.true ∙ c.send_well.ensures.well)) c.send_well.ensures.sends in
+    stepped_once view c.args.t c.args.bound c.args.step c.requires.later c.if-bound-t.false c.args.slots.now c.requires.ready none c.requires.saves c.send_well.new.slots (omega arith) sent
 
-pub returns-in-Err-send-clause-steps : goal.returns-in-Err-send-clause-steps
-returns-in-Err-send-clause-steps g c =
-    saves_badly g.L.Peer.view c.args.t c.args.bound c.args.step c.args.slots.now c.requires.ready c.early_count-early.result (c.early_count-early.ensures ∙ early_counted g.L.Peer.view c.args.slots.now) c.send.new.slots c.in-Err-send.bad c.in-Ok.ensures c.in-Err-send.ensures
+pub returns-then-send_well-clause-steps : goal.returns-then-send_well-clause-steps
+returns-then-send_well-clause-steps g c =
+    let view = g.L.Peer.view in
+    let counted = c.early_count.ensures ∙ early_counted view c.args.slots.now in
+    let few = c.if-early_count-gt0.false in
+    let none : early_in view c.args.slots.now ≡ 0 = omega (arith, counted, few) in
+    let sent = subst (λ (o : Option BadAnswer). Sends view W.Everyone (T.Step c.args.t c.args.bound) c.args.slots.now c.send_well.new.slots (told_by o)) (none_bad _ (sym c.if-send_well.true ∙ c.send_well.ensures.well)) c.send_well.ensures.sends in
+    done_once view c.args.t c.args.bound c.args.step c.requires.later c.if-bound-t.false c.args.slots.now c.requires.ready none c.requires.saves c.send_well.new.slots (omega arith) sent c.some_ask.result c.some_ask.ensures
 
-pub agree-requires-clause-placed : goal.agree-requires-clause-placed
-agree-requires-clause-placed g c κs within = placed_mid g.L.Peer.view c.args.t c.args.bound c.args.step c.early_count-early.result c.args.slots.now c.requires.ready (c.early_count-early.ensures ∙ early_counted g.L.Peer.view c.args.slots.now) c.requires.saves c.send.new.slots (omega arith) c.in-Ok-send.ensures
+pub bad_step-requires-clause-some : goal.bad_step-requires-clause-some
+bad_step-requires-clause-some g c κs within = some_bad _ (sym c.if-send_well.false ∙ c.send_well.ensures.well)
 
-pub agree-requires-clause-saved : goal.agree-requires-clause-saved
-agree-requires-clause-saved g c κs within = saved_mid g.L.Peer.view c.args.t c.args.bound c.args.step c.early_count-early.result c.args.slots.now c.requires.ready (c.early_count-early.ensures ∙ early_counted g.L.Peer.view c.args.slots.now) c.requires.saves c.send.new.slots (omega arith) c.in-Ok-send.ensures
+pub returns-else-send_well-clause-later : goal.returns-else-send_well-clause-later
+returns-else-send_well-clause-later g c = not_made c.bad_step.result c.bad_step.ensures.none (λ agreed. c.args.t < agreed.point)
 
-pub agree-requires-clause-home : goal.agree-requires-clause-home
-agree-requires-clause-home g c κs within = at_mid g.L.Peer.view c.args.t c.args.bound c.args.step c.early_count-early.result c.args.slots.now c.requires.ready (c.early_count-early.ensures ∙ early_counted g.L.Peer.view c.args.slots.now) c.requires.saves c.send.new.slots (omega arith) c.in-Ok-send.ensures
+pub returns-else-send_well-clause-within : goal.returns-else-send_well-clause-within
+returns-else-send_well-clause-within g c = not_made c.bad_step.result c.bad_step.ensures.none (λ agreed. agreed.point ≤ c.args.bound)
 
-pub agree-requires-clause-counted : goal.agree-requires-clause-counted
-agree-requires-clause-counted g c κs within = early_mid g.L.Peer.view c.args.t c.args.bound c.args.step c.early_count-early.result c.args.slots.now c.requires.ready (c.early_count-early.ensures ∙ early_counted g.L.Peer.view c.args.slots.now) c.requires.saves c.send.new.slots (omega arith) c.in-Ok-send.ensures
+pub returns-else-send_well-clause-stepped : goal.returns-else-send_well-clause-stepped
+returns-else-send_well-clause-stepped g c = not_made c.bad_step.result c.bad_step.ensures.none (λ agreed. All (HasStepped g.L.Peer.view agreed.point c.args.step) c.send_well.new.slots)
 
-pub returns-in-Err-agree-clause-steps : goal.returns-in-Err-agree-clause-steps
-returns-in-Err-agree-clause-steps g c = agreement_stops g.L.Peer.view c.args.t c.args.bound c.args.step c.early_count-early.result c.args.slots.now c.requires.ready (c.early_count-early.ensures ∙ early_counted g.L.Peer.view c.args.slots.now) c.requires.saves c.send.new.slots (omega arith) c.in-Ok-send.ensures (fits_all g.L.Peer.view c.args.t c.args.bound c.args.step c.args.slots.now c.requires.ready c.in-Ok.ensures) c.agree.new.slots c.in-Err-agree.end c.in-Err-agree.ensures
-
-pub send-requires-2-clause-can : goal.send-requires-2-clause-can
-send-requires-2-clause-can g c κs within = can_free g.L.Peer.view c.args.t c.args.bound c.args.step c.early_count-early.result c.args.slots.now c.requires.ready (c.early_count-early.ensures ∙ early_counted g.L.Peer.view c.args.slots.now) c.requires.saves c.send.new.slots (omega arith) c.in-Ok-send.ensures (fits_all g.L.Peer.view c.args.t c.args.bound c.args.step c.args.slots.now c.requires.ready c.in-Ok.ensures) c.agree.new.slots (omega arith) c.in-Ok-agree.point c.in-Ok-agree.ensures
-
-pub returns-in-Ok-send-2-clause-stepped : goal.returns-in-Ok-send-2-clause-stepped
-returns-in-Ok-send-2-clause-stepped g c = all_stepped g.L.Peer.view c.args.t c.args.bound c.args.step c.early_count-early.result c.args.slots.now c.requires.ready (c.early_count-early.ensures ∙ early_counted g.L.Peer.view c.args.slots.now) c.requires.saves c.send.new.slots (omega arith) c.in-Ok-send.ensures (fits_all g.L.Peer.view c.args.t c.args.bound c.args.step c.args.slots.now c.requires.ready c.in-Ok.ensures) c.agree.new.slots (omega arith) c.in-Ok-agree.point c.in-Ok-agree.ensures c.send-2.new.slots (omega arith) c.in-Ok-send-2.ensures
-
-pub returns-in-Ok-send-2-clause-steps : goal.returns-in-Ok-send-2-clause-steps
-returns-in-Ok-send-2-clause-steps g c = done g.L.Peer.view c.args.t c.args.bound c.args.step c.early_count-early.result c.args.slots.now c.requires.ready (c.early_count-early.ensures ∙ early_counted g.L.Peer.view c.args.slots.now) c.requires.saves c.send.new.slots (omega arith) c.in-Ok-send.ensures (fits_all g.L.Peer.view c.args.t c.args.bound c.args.step c.args.slots.now c.requires.ready c.in-Ok.ensures) c.agree.new.slots (omega arith) c.in-Ok-agree.point c.in-Ok-agree.ensures c.send-2.new.slots (omega arith) c.in-Ok-send-2.ensures c.some_ask-asked.result c.some_ask-asked.ensures
-
-pub returns-in-Err-send-2-clause-steps : goal.returns-in-Err-send-2-clause-steps
-returns-in-Err-send-2-clause-steps g c = frees_bad g.L.Peer.view c.args.t c.args.bound c.args.step c.early_count-early.result c.args.slots.now c.requires.ready (c.early_count-early.ensures ∙ early_counted g.L.Peer.view c.args.slots.now) c.requires.saves c.send.new.slots (omega arith) c.in-Ok-send.ensures (fits_all g.L.Peer.view c.args.t c.args.bound c.args.step c.args.slots.now c.requires.ready c.in-Ok.ensures) c.agree.new.slots (omega arith) c.in-Ok-agree.point c.in-Ok-agree.ensures c.send-2.new.slots c.in-Err-send-2.bad c.in-Err-send-2.ensures
+pub returns-else-send_well-clause-steps : goal.returns-else-send_well-clause-steps
+returns-else-send_well-clause-steps g c =
+    let view = g.L.Peer.view in
+    let counted = c.early_count.ensures ∙ early_counted view c.args.slots.now in
+    let few = c.if-early_count-gt0.false in
+    let none : early_in view c.args.slots.now ≡ 0 = omega (arith, counted, few) in
+    stops_once view c.args.t c.args.bound c.args.step c.requires.later c.if-bound-t.false c.args.slots.now c.requires.ready none c.requires.saves c.send_well.new.slots (omega arith) _ c.send_well.ensures.sends c.bad_step.result c.bad_step.ensures.none c.bad_step.new.unmade c.bad_step.ensures.bad

@@ -11,9 +11,9 @@ append_number-end-requires c =
     let room = c.requires in
     let end = c.append-end.ensures.end in
     let same = c.append-end.auto.text in
-    let upto = i.end in
+    let up_to = i.end in
     let all = i.room in
-    omega (arith, less, room, end, same, upto, all)
+    omega (arith, less, room, end, same, up_to, all)
 
 pub loop-port-preserved : goal.loop-port-preserved
 loop-port-preserved c =
@@ -23,12 +23,12 @@ loop-port-preserved c =
     let last = c.append_number-end.ensures.end in
     let one = c.append-end.auto.text in
     let two = c.append_number-end.auto.text in
-    let upto = i.end in
+    let up_to = i.end in
     let all = i.room in
     record {
       within = omega (arith, less);
       room = omega (arith, one, two, all);
-      end = omega (arith, end, last, upto);
+      end = omega (arith, end, last, up_to);
       text = one_more (take c.args.at c.args.text.now) _ _ _ c.args.ports.now c.loop-port.port-index (get_or c.args.ports.now c.loop-port.port-index (record { 0 = 0 }))
           (slice_get-get_or c.args.ports.now c.loop-port.port-index (record { 0 = 0 }) less)
           i.text c.append-end.ensures.text

@@ -3,7 +3,7 @@ use Rattle.std.specs.Prelude.{◌≡◌, ◌≤◌}
 use Rattle.std.proofs.lemmas.List.{length-map}
 use Rattle.fmu_peer.specs.CloseAll.{instance_in}
 use Rattle.slot_calls.specs.Carried.{any_asks_to_end, asks_to_end}
-use Rattle.slot_calls.specs.Log.{Asking}
+use Rattle.slot_calls.specs.Log.{ComponentCall}
 use Rattle.slot_calls.specs.Slots.{LiveSlot, MayTakePart, Stands, call_of, instances, is_asked}
 use Rattle.slot_calls.specs.Stage.{RoundSays, shapes}
 use Rattle.slot_calls.proofs.Answered.{answered_none, one_log, shape_of, those_all}
@@ -58,7 +58,7 @@ returns-clause-round g c =
     record {
       log = i.log;
       told = i.told;
-      says = subst (λ (cs : List Asking). RoundSays (shapes is) cs any_asks_to_end i.log c.loop-place.so_far)
+      says = subst (λ (cs : List ComponentCall). RoundSays (shapes is) cs any_asks_to_end i.log c.loop-place.so_far)
           (those_all (is_asked c.args.ask) (call_of c.args.ask) (shapes is) c.loop-place.place
           (subst (λ n. n ≤ c.loop-place.place) (sym (length-map is shape_of ∙ length-map c.args.slots.now (λ t. instance_in g.L.Peer.view t))) c.loop-place-test.false)) i.says;
     }

@@ -1,4 +1,4 @@
-use Rattle.step_master.proofs.Told.{told_run, told_trace, told_unmade}
+use Rattle.step_master.proofs.Told.{told_failed_start, told_run, told_trace}
 use Rattle.step_master.proofs.ToldRests.{told_held, told_none, told_rest}
 use Rattle.step_master.proofs.ToldWell.{told_held_well, told_rest_well}
 use Rattle.step_master.proofs.laws.runs_of_machines.Goals as goal
@@ -7,7 +7,7 @@ pub returns : goal.returns
 returns c = record {
   run = told_run c.logs_of_machines.ensures.run;
   trace = told_trace c.logs_of_machines.ensures.trace;
-  unmade = told_unmade c.logs_of_machines.ensures.unmade;
+  unmade = told_failed_start c.logs_of_machines.ensures.unmade;
   held = told_held c.logs_of_rests.ensures.held;
   held_well = told_held_well c.logs_of_rests.ensures.held_well;
   none = told_none c.logs_of_rests.ensures.none;

@@ -2,7 +2,7 @@ use Rattle.std.proofs.Common.{arith, false, is_some, All, subst, ◌≡◌}
 use Rattle.std.proofs.lemmas.List.Elements.{All-head, All-tail}
 use Rattle.std.specs.Vec.Iter.{into_iter_items}
 use Rattle.fmu_peer.specs.CloseAll.{peer_in}
-use Rattle.step_master.proofs.SeatLemmas.{given_more}
+use Rattle.step_master.proofs.FreshLemmas.{given_more}
 use Rattle.step_master.proofs.taking.give_back.Goals as goal
 
 pub peer_of-requires-after_bounds : goal.peer_of-requires-after_bounds

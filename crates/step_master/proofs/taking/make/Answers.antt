@@ -1,9 +1,9 @@
 use Rattle.fmu_peer.specs.CloseAll.{instance_in}
 use Rattle.fmu_peer.specs.Mode.{instantiate_of}
-use Rattle.step_master.specs.Seats.{IsFresh}
+use Rattle.step_master.specs.FreshInstances.{IsFresh}
 use Rattle.calling_sequence.specs.Place.{IsMade}
 use Rattle.slot_calls.proofs.CallerLemmas.{stage_all}
-use Rattle.step_master.proofs.SeatLemmas.{start_leads}
+use Rattle.step_master.proofs.FreshLemmas.{start_leads}
 use Rattle.step_master.proofs.taking.make.Goals as goal
 
 pub returns-clause-made : goal.returns-clause-made

@@ -7,7 +7,7 @@ use Rattle.system_checkpoint.proofs.first.take_first.Goals as goal
 
 pub returns-in-Got : goal.returns-in-Got
 returns-in-Got c =
-    then_takes (IsText magic) (λ (nothing : Unit {0}). NumbersOf) (text_single magic) c.args.bytes.now tt c.in-Got.length c.take_resolution.result c.behind.result c.in-Got.ensures c.take_resolution.ensures c.behind.ensures
+    then_takes (IsText magic) (λ (nothing : Unit {0}). NumbersOf) (text_single magic) c.args.bytes.now tt c.in-Got.length c.take_resolution.result c.after.result c.in-Got.ensures c.take_resolution.ensures c.after.ensures
 
 pub returns-in-NeedMore : goal.returns-in-NeedMore
 returns-in-NeedMore c = led_more (IsText magic) (λ (nothing : Unit {0}). NumbersOf) (magic_leads) c.args.bytes.now c.in-NeedMore.ensures

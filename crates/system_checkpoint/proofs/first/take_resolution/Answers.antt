@@ -8,7 +8,7 @@ use Rattle.system_checkpoint.proofs.first.take_resolution.Goals as goal
 
 pub returns-in-Got : goal.returns-in-Got
 returns-in-Got c =
-    then_takes (Field 8 (between 1 count_max)) (StartOf) (field_single 8 (between 1 count_max)) c.args.bytes.now c.in-Got.value c.in-Got.length c.take_start.result c.behind.result c.in-Got.ensures c.take_start.ensures c.behind.ensures
+    then_takes (Field 8 (between 1 count_max)) (StartOf) (field_single 8 (between 1 count_max)) c.args.bytes.now c.in-Got.value c.in-Got.length c.take_start.result c.after.result c.in-Got.ensures c.take_start.ensures c.after.ensures
 
 pub returns-in-NeedMore : goal.returns-in-NeedMore
 returns-in-NeedMore c = led_more (Field 8 (between 1 count_max)) (StartOf) (resolution_leads) c.args.bytes.now c.in-NeedMore.ensures

@@ -12,7 +12,7 @@ take_step-requires c = start_below c.in-Got.value _ c.in-Got.ensures.spelled
 
 pub returns-in-Got : goal.returns-in-Got
 returns-in-Got c =
-    then_takes (Field 8 (between 0 (count_max - 1))) (StepOf c.args.resolution) (field_single 8 (between 0 (count_max - 1))) c.args.bytes.now c.in-Got.value c.in-Got.length c.take_step.result c.behind.result c.in-Got.ensures c.take_step.ensures c.behind.ensures
+    then_takes (Field 8 (between 0 (count_max - 1))) (StepOf c.args.resolution) (field_single 8 (between 0 (count_max - 1))) c.args.bytes.now c.in-Got.value c.in-Got.length c.take_step.result c.after.result c.in-Got.ensures c.take_step.ensures c.after.ensures
 
 pub returns-in-NeedMore : goal.returns-in-NeedMore
 returns-in-NeedMore c = led_more (Field 8 (between 0 (count_max - 1))) (StepOf c.args.resolution) (start_leads c.args.resolution) c.args.bytes.now c.in-NeedMore.ensures

@@ -8,7 +8,7 @@ use Rattle.system_checkpoint.proofs.first.take_step.Goals as goal
 
 pub returns-in-Got : goal.returns-in-Got
 returns-in-Got c =
-    then_takes (Field 8 (between 1 count_max)) (StopOf c.args.resolution c.args.start) (field_single 8 (between 1 count_max)) c.args.bytes.now c.in-Got.value c.in-Got.length c.take_stop.result c.behind.result c.in-Got.ensures c.take_stop.ensures c.behind.ensures
+    then_takes (Field 8 (between 1 count_max)) (StopOf c.args.resolution c.args.start) (field_single 8 (between 1 count_max)) c.args.bytes.now c.in-Got.value c.in-Got.length c.take_stop.result c.after.result c.in-Got.ensures c.take_stop.ensures c.after.ensures
 
 pub returns-in-NeedMore : goal.returns-in-NeedMore
 returns-in-NeedMore c = led_more (Field 8 (between 1 count_max)) (StopOf c.args.resolution c.args.start) (step_leads c.args.resolution c.args.start c.requires) c.args.bytes.now c.in-NeedMore.ensures

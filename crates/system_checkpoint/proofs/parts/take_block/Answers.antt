@@ -1,13 +1,23 @@
-use Rattle.std.proofs.Common.{◌≡◌, ℕ, List, take, sym, subst, arith}
+use Rattle.std.proofs.Common.{◌≡◌, true, false, List, ℕ, length, refl, take, sym, subst, inl, inr}
+use Rattle.std.proofs.lemmas.Bool.{cases_lt}
 use Rattle.exact_parts.specs.Each.{Block}
-use Rattle.exact_parts.specs.Taking.{Gets}
-use Rattle.system_checkpoint.proofs.PartLemmas.{block_front, block_got}
+use Rattle.exact_parts.specs.Taking.{Gets, IsPrefix}
+use Rattle.system_checkpoint.proofs.PartLemmas.{block_got, block_prefix}
 use Rattle.system_checkpoint.proofs.parts.take_block.Goals as goal
 
-pub returns-then-bytes-size : goal.returns-then-bytes-size
-returns-then-bytes-size c = block_front c.args.size c.args.bytes.now c.if-bytes-size.true (λ i. omega (arith, c.type_inv.bytes i))
+never : false ≡ true → ⊥
+never e = cc
+
+pub returns-then-not-has_bytes : goal.returns-then-not-has_bytes
+returns-then-not-has_bytes c =
+    elim (cases_lt (length c.as_slice.result.now) c.args.size) [
+      | inl lt ↦ subst (IsPrefix (Block c.args.size)) c.as_slice.ensures (block_prefix c.args.size c.as_slice.result.now lt c.has_bytes.ensures.are_bytes)
+      | inr le ↦ absurd (never (c.if-not-has_bytes.ensures.enough.1 le))
+    ]
 
 pub returns : goal.returns
 returns c =
-    let same : c.from_vec-value.result ≡ take c.args.size c.args.bytes.now = grind (arith, c.from_vec-value.ensures, c.in_ok-block.ensures.items) in
-    subst (λ (v : List ℕ). Gets (Block c.args.size) c.args.bytes.now v c.args.size) (sym same) (block_got c.args.size c.args.bytes.now (omega (arith, c.if-bytes-size.false)) (λ i. omega (arith, c.type_inv.bytes i)))
+    let size = c.args.size in
+    let got = block_got size c.as_slice.result.now (c.if-not-has_bytes.ensures.enough.0 refl) c.has_bytes.ensures.are_bytes in
+    subst (λ (v : List ℕ). Gets (Block size) c.args.bytes.now v size) (sym c.in_ok-value.ensures)
+    (subst (λ (xs : List ℕ). Gets (Block size) xs (take size xs) size) c.as_slice.ensures got)

@@ -8,7 +8,7 @@ use Rattle.system_checkpoint.proofs.parts.take_known.Goals as goal
 
 pub returns-in-Got : goal.returns-in-Got
 returns-in-Got c =
-    then_takes (Field 4 (between (length c.args.text.now) (length c.args.text.now))) (λ (k : ℕ). IsText c.args.text.now) (field_single 4 (between (length c.args.text.now) (length c.args.text.now))) c.args.bytes.now _ c.in-Got.length c.take_text.result c.behind.result c.in-Got.ensures c.take_text.ensures c.behind.ensures
+    then_takes (Field 4 (between (length c.args.text.now) (length c.args.text.now))) (λ (k : ℕ). IsText c.args.text.now) (field_single 4 (between (length c.args.text.now) (length c.args.text.now))) c.args.bytes.now _ c.in-Got.length c.take_text.result c.after.result c.in-Got.ensures c.take_text.ensures c.after.ensures
 
 pub returns-in-NeedMore : goal.returns-in-NeedMore
 returns-in-NeedMore c = led_more (Field 4 (between (length c.args.text.now) (length c.args.text.now))) (λ (k : ℕ). IsText c.args.text.now) (size_leads c.args.text.now) c.args.bytes.now c.in-NeedMore.ensures

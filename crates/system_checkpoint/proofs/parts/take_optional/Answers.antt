@@ -6,7 +6,7 @@ use Rattle.system_checkpoint.proofs.parts.take_optional.Goals as goal
 
 pub returns-in-Got : goal.returns-in-Got
 returns-in-Got c =
-    then_takes (Field 1 (between 0 c.args.most)) (Word c.args.spans) (field_single 1 (between 0 c.args.most)) c.args.bytes.now c.in-Got.value c.in-Got.length c.take_word.result c.behind.result c.in-Got.ensures c.take_word.ensures c.behind.ensures
+    then_takes (Field 1 (between 0 c.args.most)) (Word c.args.spans) (field_single 1 (between 0 c.args.most)) c.args.bytes.now c.in-Got.value c.in-Got.length c.take_word.result c.after.result c.in-Got.ensures c.take_word.ensures c.after.ensures
 
 pub returns-in-NeedMore : goal.returns-in-NeedMore
 returns-in-NeedMore c = led_more (Field 1 (between 0 c.args.most)) (Word c.args.spans) (flag_leads c.args.most c.args.spans c.requires) c.args.bytes.now c.in-NeedMore.ensures

@@ -2,7 +2,7 @@ use Rattle.std.proofs.Common.{ap, arith, length}
 use Rattle.std.specs.List.{flat_map}
 use Rattle.system_checkpoint.specs.Spelling.{arming_bytes, first_bytes, option_bytes, sized, times_bytes}
 use Rattle.system_checkpoint.proofs.LengthLemmas.{spelled_len}
-use Rattle.system_checkpoint.proofs.PutLemmas.{put_behind, put_list}
+use Rattle.system_checkpoint.proofs.PutLemmas.{put_after, put_list}
 use Rattle.system_checkpoint.proofs.putting.put_checkpoint.Goals as goal
 
 pub put_first-requires : goal.put_first-requires
@@ -58,10 +58,10 @@ put_options-requires-2 c =
 pub returns-clause-text : goal.returns-clause-text
 returns-clause-text c =
     let held = c.args.held.now in
-    put_behind _ _ _ (first_bytes held.plan held.point) _ c.put_first.ensures.text
-    (put_behind _ _ _ (sized c.args.header.now) _ c.put_sized.ensures.text
-    (put_behind _ _ _ (flat_map sized held.states) _ (put_list sized _ held.states _ _ c.as_slice.ensures c.put_states.ensures.text)
-    (put_behind _ _ _ (flat_map option_bytes held.words) _ (put_list option_bytes _ held.words _ _ c.as_slice-2.ensures c.put_options.ensures.text)
-    (put_behind _ _ _ (flat_map times_bytes held.times) _ (put_list times_bytes _ held.times _ _ c.as_slice-3.ensures c.put_all_times.ensures.text)
-    (put_behind _ _ _ (flat_map arming_bytes held.armings) (flat_map option_bytes held.events) (put_list arming_bytes _ held.armings _ _ c.as_slice-4.ensures c.put_armings.ensures.text)
+    put_after _ _ _ (first_bytes held.plan held.point) _ c.put_first.ensures.text
+    (put_after _ _ _ (sized c.args.header.now) _ c.put_sized.ensures.text
+    (put_after _ _ _ (flat_map sized held.states) _ (put_list sized _ held.states _ _ c.as_slice.ensures c.put_states.ensures.text)
+    (put_after _ _ _ (flat_map option_bytes held.words) _ (put_list option_bytes _ held.words _ _ c.as_slice-2.ensures c.put_options.ensures.text)
+    (put_after _ _ _ (flat_map times_bytes held.times) _ (put_list times_bytes _ held.times _ _ c.as_slice-3.ensures c.put_all_times.ensures.text)
+    (put_after _ _ _ (flat_map arming_bytes held.armings) (flat_map option_bytes held.events) (put_list arming_bytes _ held.armings _ _ c.as_slice-4.ensures c.put_armings.ensures.text)
     (put_list option_bytes _ held.events _ _ c.as_slice-5.ensures c.put_options-2.ensures.text))))))

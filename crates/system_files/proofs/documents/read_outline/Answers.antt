@@ -5,18 +5,18 @@ use Rattle.nested_documents.specs.Nest.{IsNext}
 use Rattle.nested_documents.specs.States.{gathered}
 use Rattle.system_loading.specs.declared.documents.SystemDocument.{SystemDocument}
 use Rattle.system_loading.specs.declared.outline.Outline.{Outline}
-use Rattle.system_files.specs.declared.loading.LoadEnd.{LoadEnd}
+use Rattle.system_files.specs.declared.loading.LoadError.{LoadError}
 use Rattle.system_files.specs.declared.subject.Subject.TheVariants as what
 use Rattle.system_files.specs.Documents.{IsGathered}
 use Rattle.system_files.specs.Steps.{EndsOutline, TakesOutline, TellsNesting}
 use Rattle.system_files.proofs.GatherLemmas.{below_most, ends_deep, ends_here, ends_lacking, ends_more, gathers_more, one_more, takes_all}
 use Rattle.system_files.proofs.documents.read_outline.Goals as goal
 
-ok_so : (r : Result Outline LoadEnd) (P Q : Outline → Type 0) → ((o : Outline) → P o → Q o) → IfOk r P → IfOk r Q
+ok_so : (r : Result Outline LoadError) (P Q : Outline → Type 0) → ((o : Outline) → P o → Q o) → IfOk r P → IfOk r Q
 ok_so (Ok o) P Q h p = h o p
 ok_so (Err end) P Q h p = tt
 
-err_so : (r : Result Outline LoadEnd) (P Q : LoadEnd → Type 0) → ((end : LoadEnd) → P end → Q end) → IfErr r P → IfErr r Q
+err_so : (r : Result Outline LoadError) (P Q : LoadError → Type 0) → ((end : LoadError) → P end → Q end) → IfErr r P → IfErr r Q
 err_so (Ok o) P Q h p = tt
 err_so (Err end) P Q h p = h end p
 
@@ -68,7 +68,7 @@ returns-in-Ok-Nothing-clause-err g c =
     let new = g.F.Folder.view c.documents.folder in
     let now = c.documents.gathering in
     let all = subst (IsNext (gathered now.nest)) c.in-Ok-Nothing.field-0-is c.in-Ok-Nothing.ensures in
-    err_so c.finish.result _ (λ (end : LoadEnd). EndsOutline what.System c.args.directory.now end old new)
+    err_so c.finish.result _ (λ (end : LoadError). EndsOutline what.System c.args.directory.now end old new)
     (λ end lacks. ends_lacking c.args.directory.now now.documents.items (gathered now.nest) old new c.documents.invariant lacks.0 end all lacks.1 lacks.2) c.finish.ensures.err
 
 pub returns-in-Ok-TooDeep-clause-err : goal.returns-in-Ok-TooDeep-clause-err

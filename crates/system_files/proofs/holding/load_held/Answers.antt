@@ -1,6 +1,6 @@
 use Rattle.std.proofs.Common.{subst, sym}
 use Rattle.std.specs.Prelude.{Result, Ok, Err, IfErr}
-use Rattle.system_files.specs.declared.loading.LoadEnd.{LoadEnd}
+use Rattle.system_files.specs.declared.loading.LoadError.{LoadError}
 use Rattle.system_files.specs.Holding.{search_by}
 use Rattle.system_files.specs.Steps.{TakesModels}
 use Rattle.system_files.specs.declared.subject.Subject.TheVariants as what

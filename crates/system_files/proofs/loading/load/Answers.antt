@@ -1,6 +1,6 @@
 use Rattle.std.specs.Prelude.{IfErr, IfOk, Result, Ok, Err}
 use Rattle.system_files.specs.declared.loaded.Loaded.{Loaded}
-use Rattle.system_files.specs.declared.loading.LoadEnd.{LoadEnd}
+use Rattle.system_files.specs.declared.loading.LoadError.{LoadError}
 use Rattle.system_files.specs.Loads.{EndsLoading, Loads}
 use Rattle.system_files.specs.Order.{Found, search_of}
 use Rattle.system_files.specs.Steps.{EndsModels, TakesModels}
@@ -8,11 +8,11 @@ use Rattle.system_files.proofs.EndLemmas.{ends_models, ends_outline, loads}
 use Rattle.system_files.proofs.SoundLemmas.{outline_document, outline_named, outline_plain, outline_short, outline_whole}
 use Rattle.system_files.proofs.loading.load.Goals as goal
 
-ok_so : (r : Result Loaded LoadEnd) (P Q : Loaded → Type 0) → ((loaded : Loaded) → P loaded → Q loaded) → IfOk r P → IfOk r Q
+ok_so : (r : Result Loaded LoadError) (P Q : Loaded → Type 0) → ((loaded : Loaded) → P loaded → Q loaded) → IfOk r P → IfOk r Q
 ok_so (Ok loaded) P Q h p = h loaded p
 ok_so (Err end) P Q h p = tt
 
-err_so : (r : Result Loaded LoadEnd) (P Q : LoadEnd → Type 0) → ((end : LoadEnd) → P end → Q end) → IfErr r P → IfErr r Q
+err_so : (r : Result Loaded LoadError) (P Q : LoadError → Type 0) → ((end : LoadError) → P end → Q end) → IfErr r P → IfErr r Q
 err_so (Ok loaded) P Q h p = tt
 err_so (Err end) P Q h p = h end p
 
@@ -50,7 +50,7 @@ returns-in-Ok-clause-err g c =
     let old = g.F.Folder.view c.args.folder.now in
     let mid = g.F.Folder.view c.load_outline.new.folder in
     let new = g.F.Folder.view c.load_models.new.folder in
-    err_so c.load_models.result (λ (end : LoadEnd). EndsModels c.args.resolution c.args.directory.now c.in-Ok.outline end mid new) (λ (end : LoadEnd). EndsLoading s end old new)
+    err_so c.load_models.result (λ (end : LoadError). EndsModels c.args.resolution c.args.directory.now c.in-Ok.outline end mid new) (λ (end : LoadError). EndsLoading s end old new)
     (λ end h. ends_models s c.in-Ok.outline old mid c.in-Ok.ensures.ok end new h) c.load_models.ensures.err
 
 pub returns-in-Err-clause-err : goal.returns-in-Err-clause-err

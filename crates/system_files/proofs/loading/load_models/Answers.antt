@@ -7,17 +7,17 @@ use Rattle.value_types.specs.declared.shape.Shape.{Shape}
 use Rattle.system_model.specs.declared.system.Component.{Component}
 use Rattle.flatten.specs.Given.{AreShapesOf}
 use Rattle.system_files.specs.declared.loaded.Loaded.{Loaded}
-use Rattle.system_files.specs.declared.loading.LoadEnd.{LoadEnd}
+use Rattle.system_files.specs.declared.loading.LoadError.{LoadError}
 use Rattle.system_files.specs.Loads.{IsNamed}
 use Rattle.system_files.specs.Steps.{EndsModels, EndsShapes, EndsTogether, HasShapeAlone, IsLoaded, OfBindings, OfShapes, OfSystem, TakesShapes}
 use Rattle.system_files.proofs.SoundLemmas.{are_counting, are_named, are_ready, are_shapes, has_parts}
 use Rattle.system_files.proofs.loading.load_models.Goals as goal
 
-ok_so : (r : Result Loaded LoadEnd) (P Q : Loaded → Type 0) → ((loaded : Loaded) → P loaded → Q loaded) → IfOk r P → IfOk r Q
+ok_so : (r : Result Loaded LoadError) (P Q : Loaded → Type 0) → ((loaded : Loaded) → P loaded → Q loaded) → IfOk r P → IfOk r Q
 ok_so (Ok loaded) P Q h p = h loaded p
 ok_so (Err end) P Q h p = tt
 
-err_so : (r : Result Loaded LoadEnd) (P Q : LoadEnd → Type 0) → ((end : LoadEnd) → P end → Q end) → IfErr r P → IfErr r Q
+err_so : (r : Result Loaded LoadError) (P Q : LoadError → Type 0) → ((end : LoadError) → P end → Q end) → IfErr r P → IfErr r Q
 err_so (Ok loaded) P Q h p = tt
 err_so (Err end) P Q h p = h end p
 
@@ -76,8 +76,8 @@ returns-in-Ok-load_bindings-clause-err g c =
     let t = subst (λ (cs : List ComponentPart). TakesShapes c.args.resolution c.args.directory.now cs c.in-Ok.shapes.items old mid) c.as_slice-components.ensures c.in-Ok.ensures.ok in
     let takes = subst (λ (xs : List Shape). TakesShapes c.args.resolution c.args.directory.now c.args.outline.now.systems.components xs old mid) (sym c.deref.ensures.value) t in
     err_so c.put_together.result
-    (λ (end : LoadEnd). EndsTogether c.args.directory.now c.args.outline.now c.deref.result.now c.in-Ok-load_bindings.given.items end)
-    (λ (end : LoadEnd). EndsModels c.args.resolution c.args.directory.now c.args.outline.now end old new)
+    (λ (end : LoadError). EndsTogether c.args.directory.now c.args.outline.now c.deref.result.now c.in-Ok-load_bindings.given.items end)
+    (λ (end : LoadError). EndsModels c.args.resolution c.args.directory.now c.args.outline.now end old new)
     (λ end h. OfSystem c.deref.result.now c.in-Ok-load_bindings.given.items (record { mid = mid; takes = takes; gives = c.in-Ok-load_bindings.ensures.ok }) h)
     c.put_together.ensures.err
 

@@ -1,11 +1,11 @@
 use Rattle.std.proofs.Common.{◌≡◌, length, Some, refl, sym, ap, ◌∙◌}
 use Rattle.std.specs.Prelude.{IfOk, Result, Ok, Err}
 use Rattle.value_types.specs.declared.shape.Shape.{Shape}
-use Rattle.system_files.specs.declared.loading.LoadEnd.{LoadEnd}
+use Rattle.system_files.specs.declared.loading.LoadError.{LoadError}
 use Rattle.system_files.specs.Steps.{Copied, TakesNext}
 use Rattle.system_files.proofs.shapes.next_shape.Goals as goal
 
-ok_so : (r : Result Shape LoadEnd) (P Q : Shape → Type 0) → ((shape : Shape) → P shape → Q shape) → IfOk r P → IfOk r Q
+ok_so : (r : Result Shape LoadError) (P Q : Shape → Type 0) → ((shape : Shape) → P shape → Q shape) → IfOk r P → IfOk r Q
 ok_so (Ok shape) P Q h p = h shape p
 ok_so (Err end) P Q h p = tt
 

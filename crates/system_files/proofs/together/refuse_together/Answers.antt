@@ -1,7 +1,7 @@
 use Rattle.std.proofs.Common.{ap, subst}
 use Rattle.doc_tree.specs.declared.place.Place.{Place}
 use Rattle.system_loading.specs.Faults.{TellsTogether}
-use Rattle.system_files.specs.declared.loading.LoadEnd.TheVariants as end
+use Rattle.system_files.specs.declared.loading.LoadError.TheVariants as end
 use Rattle.system_files.specs.declared.named.FileFault.TheVariants.{Broken}
 use Rattle.system_files.specs.Steps.{AtRule}
 use Rattle.system_files.proofs.together.refuse_together.Goals as goal

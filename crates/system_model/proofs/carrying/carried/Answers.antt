@@ -14,7 +14,7 @@ loop-i-preserved c =
     let x = to_z w128 c.loop-i.number-bits in
     let kept = sym (wide_kept c.in_ok-number-2.number c.in_ok-number-2.ensures.wide) in
     record {
-      upto = omega arith;
+      up_to = omega arith;
       wide = subst IsWide kept c.in_ok-number-2.ensures.wide;
       rest = c.loop-i.invariant.rest
           ∙ carried_next cs i c.index-changes-i.result kind x c.in_ok-number-2.number c.loop-i-test.true (ap (λ (d : Change). changed d x) (sym c.index-changes-i.is) ∙ sym c.in_ok-number-2.ensures.changed)

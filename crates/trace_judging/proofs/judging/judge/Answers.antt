@@ -12,7 +12,7 @@ returns-in-Ok-read_trace-clause-ok g c =
     let t = c.in-Ok-read_trace.trace in
     let laws : LawsOfTexts = record { one = c.texts_of_traces.ensures.one; none = c.texts_of_traces.ensures.none; first = c.texts_of_traces.ensures.first } in
     let mid = g.F.Folder.view c.read_file.new.folder in
-    let takes = takes_said IsTextOf q.file c.in-Ok.bytes.items t old mid c.in-Ok.ensures.ok (subst (λ (b : List ℕ). IsTextOf b t) c.deref.ensures.value c.in-Ok-read_trace.ensures.found) in
+    let takes = takes_said IsTextOf q.file c.in-Ok.bytes t old mid c.in-Ok.ensures.ok (subst (λ (b : List ℕ). IsTextOf b t) c.as_slice.ensures c.in-Ok-read_trace.ensures.found) in
     if_ok_too c.judge_trace.result _ _ (verdict_judged laws q old (g.F.Folder.view c.judge_trace.new.folder) t mid takes) c.judge_trace.ensures.ok
 
 pub returns-in-Ok-read_trace-clause-err : goal.returns-in-Ok-read_trace-clause-err
@@ -22,7 +22,7 @@ returns-in-Ok-read_trace-clause-err g c =
     let t = c.in-Ok-read_trace.trace in
     let laws : LawsOfTexts = record { one = c.texts_of_traces.ensures.one; none = c.texts_of_traces.ensures.none; first = c.texts_of_traces.ensures.first } in
     let mid = g.F.Folder.view c.read_file.new.folder in
-    let takes = takes_said IsTextOf q.file c.in-Ok.bytes.items t old mid c.in-Ok.ensures.ok (subst (λ (b : List ℕ). IsTextOf b t) c.deref.ensures.value c.in-Ok-read_trace.ensures.found) in
+    let takes = takes_said IsTextOf q.file c.in-Ok.bytes t old mid c.in-Ok.ensures.ok (subst (λ (b : List ℕ). IsTextOf b t) c.as_slice.ensures c.in-Ok-read_trace.ensures.found) in
     if_err_too c.judge_trace.result _ _ (lacks_verdict laws q old (g.F.Folder.view c.judge_trace.new.folder) t mid takes) c.judge_trace.ensures.err
 
 pub returns-in-Err-Line-clause-ok : goal.returns-in-Err-Line-clause-ok
@@ -35,7 +35,7 @@ returns-in-Err-Line-clause-ok g c =
     let inner = c.in-Err-Line.field-0-is in
     let fault = c.read_trace.ensures.fault c.in-Err-Line.line (cc (is, inner)) in
     rw inner (fault_judged laws q old new c.in-Err-Line.line
-    (takes_said IsFirstFault q.file c.in-Ok.bytes.items c.in-Err-Line.line old new c.in-Ok.ensures.ok (subst (λ (b : List ℕ). IsFirstFault b c.in-Err-Line.line) c.deref.ensures.value fault)))
+    (takes_said IsFirstFault q.file c.in-Ok.bytes c.in-Err-Line.line old new c.in-Ok.ensures.ok (subst (λ (b : List ℕ). IsFirstFault b c.in-Err-Line.line) c.as_slice.ensures fault)))
 
 pub returns-clause-err : goal.returns-clause-err
 returns-clause-err g c =

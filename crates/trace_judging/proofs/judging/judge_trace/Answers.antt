@@ -1,5 +1,5 @@
 use Rattle.std.proofs.Common.{refl}
-use Rattle.trace_judging.specs.Steps.{BehindSystem}
+use Rattle.trace_judging.specs.Steps.{AfterSystem}
 use Rattle.trace_judging.proofs.JudgeLemmas.{is_verdict}
 use Rattle.trace_judging.proofs.judging.judge_trace.Goals as goal
 
@@ -11,4 +11,4 @@ returns-in-Ok-check-clause-ok g c = record {
 }
 
 pub returns-in-Ok-clause-err : goal.returns-in-Ok-clause-err
-returns-in-Ok-clause-err g c = BehindSystem c.in-Ok.loaded refl c.in-Ok.ensures.ok
+returns-in-Ok-clause-err g c = AfterSystem c.in-Ok.loaded refl c.in-Ok.ensures.ok

@@ -13,9 +13,9 @@ loop-rest-preserved c = record {
   parts = search (rules, push_escaped);
   left = λ whole all e.
       let left = c.loop-rest.invariant.left whole all e in
-      for_left (Left whole c.push.new.self.items c.in-Some.behind.now) c.loop-rest.rest.now left.more left.bytes left.text (search rules) (λ m ms low later is text.
+      for_left (Left whole c.push.new.self.items c.in-Some.after.now) c.loop-rest.rest.now left.more left.bytes left.text (search rules) (λ m ms low later is text.
       let found = c.in-Some.ensures.exact m (escaped ms) low text in
-      one_less whole c.loop-rest.bytes.items c.loop-rest.rest.now c.in-Some.behind.now left.more c.push.new.self.items c.in-Some.byte m ms later left.name is found.0 found.1 (search rules));
+      one_less whole c.loop-rest.bytes.items c.loop-rest.rest.now c.in-Some.after.now left.more c.push.new.self.items c.in-Some.byte m ms later left.name is found.0 found.1 (search rules));
 }
 
 pub returns-then-is_empty-clause-none : goal.returns-then-is_empty-clause-none

@@ -11,12 +11,12 @@ begins_not (x ∷ xs) ys byte lacks e = lacks.0 (cc e)
 tail_is : (b : ℕ) (xs ys : List ℕ) → b ∷ xs ≡ b ∷ ys → xs ≡ ys
 tail_is b xs ys e = cc e
 
-behind_minus : (digits : List ℕ) (result : Option ℤ) (v : ℤ) → ((n : ℕ) → n + 1 < 2 ^ 64 → digits ≡ decimal (n + 1) → result ≡ Some (negsuc n)) → IsShort v → 45 ∷ digits ≡ signed_decimal v → result ≡ Some v
-behind_minus digits result (pos n) exact short e = absurd (begins_not (decimal n) digits 45 (lacks_decimal 45 n (omega arith) short) (sym e))
-behind_minus digits result (negsuc n) exact short e =
+after_minus : (digits : List ℕ) (result : Option ℤ) (v : ℤ) → ((n : ℕ) → n + 1 < 2 ^ 64 → digits ≡ decimal (n + 1) → result ≡ Some (negsuc n)) → IsShort v → 45 ∷ digits ≡ signed_decimal v → result ≡ Some v
+after_minus digits result (pos n) exact short e = absurd (begins_not (decimal n) digits 45 (lacks_decimal 45 n (omega arith) short) (sym e))
+after_minus digits result (negsuc n) exact short e =
     let same : n + 1 ≡ suc n = omega arith in
     exact n (omega (arith, short)) (tail_is 45 digits (decimal (n + 1)) (e ∙ ap (λ (m : ℕ). 45 ∷ decimal m) (sym same)))
 
 pub returns-in-Some-clause-exact : goal.returns-in-Some-clause-exact
 returns-in-Some-clause-exact c = λ v short e.
-    behind_minus c.in-Some.digits.now c.negative_number.result v c.negative_number.ensures.exact short (sym (c.in-Some.ensures.parts) ∙ e)
+    after_minus c.in-Some.digits.now c.negative_number.result v c.negative_number.ensures.exact short (sym (c.in-Some.ensures.parts) ∙ e)

@@ -9,7 +9,7 @@ loop-ports-preserved c =
     let found = rw c.in-Some.is at c.in_ok-port.ensures.found in
     let pushed : c.push.new.self.items ≡ c.loop-ports.ports.items ++ (c.in-Some.port ∷ []) = c.in_ok-push.ensures.items in
     record {
-      parts = more_ports c.args.text.now c.loop-ports.rest.now c.in-Some.behind.now c.loop-ports.ports.items c.push.new.self.items c.in-Some.port c.loop-ports.invariant.parts (found.1 ∙ ap (λ (n : ℕ). line_of_port n c.in-Some.port ++ (10 ∷ c.in-Some.behind.now)) number) pushed;
+      parts = more_ports c.args.text.now c.loop-ports.rest.now c.in-Some.after.now c.loop-ports.ports.items c.push.new.self.items c.in-Some.port c.loop-ports.invariant.parts (found.1 ∙ ap (λ (n : ℕ). line_of_port n c.in-Some.port ++ (10 ∷ c.in-Some.after.now)) number) pushed;
       named = more_named c.loop-ports.ports.items c.push.new.self.items c.in-Some.port c.loop-ports.invariant.named found.0 pushed;
     }
 

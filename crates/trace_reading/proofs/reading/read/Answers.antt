@@ -15,7 +15,7 @@ returns-in_default-clause-fault c = λ n is.
 pub returns-in-Ok-clause-found : goal.returns-in-Ok-clause-found
 returns-in-Ok-clause-found c =
     let parts : Read c.args.bytes.now c.in-Some.header.resolution c.in-Some.header.start c.in-Some.header.stop c.in_ok-ports.ports.items c.in_ok-ports.rest.now =
-    record { range = c.in-Some.ensures.range; behind_header = c.in-Some.rest.now; header = c.in-Some.ensures.found; ports_there = c.in_ok-ports.ensures } in
+    record { range = c.in-Some.ensures.range; after_header = c.in-Some.rest.now; header = c.in-Some.ensures.found; ports_there = c.in_ok-ports.ensures } in
     let P : List TracePort → Type 0 = λ ps. IsRows (kinds_of ps) c.in_ok-ports.rest.now c.in-Ok.rows.lines.items c.in-Ok.rows.kind c.in-Ok.rows.point in
     let rows = subst P c.deref-2.ensures.value c.in-Ok.ensures.found in
     let text = whole_text c.args.bytes.now c.in-Some.header.resolution c.in-Some.header.start c.in-Some.header.stop c.in_ok-ports.ports.items c.in_ok-ports.rest.now c.in-Ok.rows.lines.items c.in-Ok.rows.kind c.in-Ok.rows.point parts rows in
@@ -24,7 +24,7 @@ returns-in-Ok-clause-found c =
 pub overflow_add-result-in-Err-Line : goal.overflow_add-result-in-Err-Line
 overflow_add-result-in-Err-Line c =
     let parts : Read c.args.bytes.now c.in-Some.header.resolution c.in-Some.header.start c.in-Some.header.stop c.in_ok-ports.ports.items c.in_ok-ports.rest.now =
-    record { range = c.in-Some.ensures.range; behind_header = c.in-Some.rest.now; header = c.in-Some.ensures.found; ports_there = c.in_ok-ports.ensures } in
+    record { range = c.in-Some.ensures.range; after_header = c.in-Some.rest.now; header = c.in-Some.ensures.found; ports_there = c.in_ok-ports.ensures } in
     let P : List TracePort → Type 0 = λ ps. IsFirstFaultOf (kinds_of ps) c.in_ok-ports.rest.now c.in-Err-Line.n in
     let is = c.in-Err-Line.is in
     let inner = c.in-Err-Line.field-0-is in
@@ -37,7 +37,7 @@ overflow_add-result-in-Err-Line c =
 pub returns-in-Err-Line-clause-fault : goal.returns-in-Err-Line-clause-fault
 returns-in-Err-Line-clause-fault c =
     let parts : Read c.args.bytes.now c.in-Some.header.resolution c.in-Some.header.start c.in-Some.header.stop c.in_ok-ports.ports.items c.in_ok-ports.rest.now =
-    record { range = c.in-Some.ensures.range; behind_header = c.in-Some.rest.now; header = c.in-Some.ensures.found; ports_there = c.in_ok-ports.ensures } in
+    record { range = c.in-Some.ensures.range; after_header = c.in-Some.rest.now; header = c.in-Some.ensures.found; ports_there = c.in_ok-ports.ensures } in
     let P : List TracePort → Type 0 = λ ps. IsFirstFaultOf (kinds_of ps) c.in_ok-ports.rest.now c.in-Err-Line.n in
     let is = c.in-Err-Line.is in
     let inner = c.in-Err-Line.field-0-is in

@@ -1,8 +1,8 @@
 use Rattle.std.proofs.Common.{rules, arith, ◌≡◌, ◌∙◌, sym, ap, subst, ℕ, ◌^◌, ◌<◌, [], ◌∷◌, ◌++◌, length, Err}
 use Rattle.trace_reading.specs.Lines.{line_of_port}
 use Rattle.trace_stream.specs.declared.fault.StreamFault.TheVariants.{Line}
-use Rattle.trace_stream.specs.Reading.{HasPorts, IsBehindPorts, IsFaultAt}
-use Rattle.trace_stream.proofs.StreamLemmas.{port_read, behind_ports, ports_fault}
+use Rattle.trace_stream.specs.Reading.{HasPorts, IsAfterPorts, IsFaultAt}
+use Rattle.trace_stream.proofs.StreamLemmas.{port_read, after_ports, ports_fault}
 use Rattle.trace_stream.proofs.steps.read_ports.Goals as goal
 
 pub returns-in_err-advance-clause-fault : goal.returns-in_err-advance-clause-fault
@@ -19,9 +19,9 @@ returns-in-None-clause-read g c = λ bytes header read.
     let count : c.len-number.result ≡ length c.ports.ports.items = search rules in
     let few : length c.ports.ports.items < 2 ^ 64 = omega (arith, count) in
     let line : c.deref.result.now ≡ c.advance.new.self.bytes.items = search rules in
-    let P : ℕ → Type 0 = λ k. IsBehindPorts bytes header c.ports.ports.items c.advance.new.self.bytes.items (g.B.Read.remaining c.advance.new.self.input) k in
+    let P : ℕ → Type 0 = λ k. IsAfterPorts bytes header c.ports.ports.items c.advance.new.self.bytes.items (g.B.Read.remaining c.advance.new.self.input) k in
     subst P (sym c.advance.ensures.number)
-    (behind_ports bytes header c.ports.ports.items c.advance.new.self.bytes.items (g.B.Read.remaining c.ports.lines.input) (g.B.Read.remaining c.advance.new.self.input) c.ports.lines.number few (c.ports.invariant bytes header read) c.in_ok-advance.ensures.taken
+    (after_ports bytes header c.ports.ports.items c.advance.new.self.bytes.items (g.B.Read.remaining c.ports.lines.input) (g.B.Read.remaining c.advance.new.self.input) c.ports.lines.number few (c.ports.invariant bytes header read) c.in_ok-advance.ensures.taken
     (λ port named e. c.read_port_line.ensures.none port named (line ∙ e ∙ ap (λ (k : ℕ). line_of_port k port) (sym count)) (search rules)))
 
 pub ports-preserved : goal.ports-preserved

@@ -7,7 +7,7 @@ use Rattle.trace_text.proofs.header.append_port_line.Goals as goal
 
 pub returns-clause-text : goal.returns-clause-text
 returns-clause-text c =
-    let front = take c.args.at c.args.out.now in
+    let prefix = take c.args.at c.args.out.now in
     let number = decimal c.args.number in
     let kind = c.as_bytes.result.now in
     let component = escaped c.component_name.result.now in
@@ -21,7 +21,7 @@ returns-clause-text c =
     (c.append-at-3.ensures.text ∙ ap (more kind)
     (c.append-at-2.ensures.text ∙ ap (more (codes " "))
     (c.append_number-at.ensures.text ∙ ap (more number) c.append-at.ensures.text)))))))
-    ∙ port_put front number kind component name
-    ∙ ap (λ (k : List ℕ). front ++ ended (codes "port " ++ (number ++ (32 ∷ (k ++ (32 ∷ (component ++ (32 ∷ name)))))))) (c.as_bytes.ensures.value ∙ c.type_name.ensures)
-    ∙ ap (λ (n : List ℕ). front ++ ended (port_fields c.args.number c.args.port.now.kind (escaped n) name)) c.component_name.ensures
-    ∙ ap (λ (n : List ℕ). front ++ ended (port_fields c.args.number c.args.port.now.kind (escaped (component_name c.args.components.now c.args.port.now.component.0)) (escaped n))) c.as_str.ensures
+    ∙ port_put prefix number kind component name
+    ∙ ap (λ (k : List ℕ). prefix ++ ended (codes "port " ++ (number ++ (32 ∷ (k ++ (32 ∷ (component ++ (32 ∷ name)))))))) (c.as_bytes.ensures.value ∙ c.type_name.ensures)
+    ∙ ap (λ (n : List ℕ). prefix ++ ended (port_fields c.args.number c.args.port.now.kind (escaped n) name)) c.component_name.ensures
+    ∙ ap (λ (n : List ℕ). prefix ++ ended (port_fields c.args.number c.args.port.now.kind (escaped (component_name c.args.components.now c.args.port.now.component.0)) (escaped n))) c.as_str.ensures

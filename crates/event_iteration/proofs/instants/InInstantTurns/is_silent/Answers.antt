@@ -2,7 +2,7 @@ use Rattle.std.proofs.Common.{◌≡◌, ℕ, Bool, None, Some, Contains, length
 use Rattle.std.specs.Prelude.{slice_get}
 use Rattle.std.proofs.lemmas.Option.{same_Some}
 use Rattle.system_model.specs.declared.system.Port.{Port}
-use Rattle.system_model.specs.Ports.{numbers}
+use Rattle.system_model.specs.Ports.{port_numbers}
 use Rattle.system_model.specs.Values.{value}
 use Rattle.system_model.proofs.CallerLemmas.{all_at}
 use Rattle.event_iteration.specs.Clocks.{is_due_at}
@@ -35,6 +35,6 @@ returns c = λ silent x k others x_is of alike.
     let p = c.args.p in
     let port = c.index-as_slice-p.result in
     let is = port_at _ system.ports p port c.as_slice.ensures c.index-as_slice-p.is c.requires.port in
-    subst (λ (y : Port). slice_get system.components y.component.0 ≡ Some k → ((q : ℕ) → Contains (numbers y.clocks) q → value others q ≡ value c.args.values.now q) → asks_in_instant y.role y k.shape.has_event_mode c.args.self.now.is_first (is_due_at c.args.self.now.schedule.now c.args.self.now.t p) others ≡ None) (same_Some port x (sym is ∙ x_is))
+    subst (λ (y : Port). slice_get system.components y.component.0 ≡ Some k → ((q : ℕ) → Contains (port_numbers y.clocks) q → value others q ≡ value c.args.values.now q) → asks_in_instant y.role y k.shape.has_event_mode c.args.self.now.is_first (is_due_at c.args.self.now.schedule.now c.args.self.now.t p) others ≡ None) (same_Some port x (sym is ∙ x_is))
     (λ own same. silent_in_instant port c.args.values.now others same port.role k.shape.has_event_mode c.args.self.now.is_first (is_due_at c.args.self.now.schedule.now c.args.self.now.t p)
     (ap (λ (b : Bool). is_silent_in_instant port.role port b c.args.values.now) (sym (c.has_event_mode-has_event_mode.ensures k own)) ∙ sym c.is_silent.ensures ∙ silent)) of alike

@@ -23,12 +23,12 @@ loop-i-preserved c =
     let more = changes_more t back i k within refl in
     elim c.match-as_slice-connection.branch [
       | in-Some+in_ok-copy+in_ok-push w ↦ record {
-        upto = omega (arith, within);
+        up_to = omega (arith, within);
         made = ap (λ z. z.items) w.changes-is ∙ w.in_ok-push.ensures.items ∙ ap (λ (zs : List Change). zs ++ w.in_ok-copy.field-0 ∷ []) c.loop-i.invariant.made
             ∙ ap (λ (zs : List Change). filter_map (change_at t) (reverse (drop (length back - i) back)) ++ zs) (sym (change_here t k e (Some w.in_ok-copy.field-0) at (ap (λ (z : Connection). z.change) c.index-as_slice-connection.is ∙ w.in-Some.is ∙ ap Some (sym w.in_ok-copy.ensures)))) ∙ sym more;
       }
       | in_default w ↦ record {
-        upto = omega (arith, within);
+        up_to = omega (arith, within);
         made = ap (λ z. z.items) w.changes-is ∙ c.loop-i.invariant.made ∙ sym (append-nil (filter_map (change_at t) (reverse (drop (length back - i) back))))
             ∙ ap (λ (zs : List Change). filter_map (change_at t) (reverse (drop (length back - i) back)) ++ zs) (sym (change_here t k e None at (ap (λ (z : Connection). z.change) c.index-as_slice-connection.is ∙ w.in_default.is))) ∙ sym more;
       }

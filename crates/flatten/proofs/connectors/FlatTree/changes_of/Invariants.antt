@@ -5,6 +5,6 @@ use Rattle.flatten.proofs.connectors.FlatTree.changes_of.Given as goal
 
 abbrev pub invariant-loop-i : goal.invariant-loop-i
 invariant-loop-i l = record {
-  upto : l.i ≤ length l.back;
+  up_to : l.i ≤ length l.back;
   made : l.changes.items ≡ filter_map (change_at l.self.tree.now) (reverse (drop (length l.back - l.i) l.back));
 }

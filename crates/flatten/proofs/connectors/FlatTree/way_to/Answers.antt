@@ -1,7 +1,8 @@
-use Rattle.std.proofs.Common.{◌≡◌, ◌≤◌, ℕ, List, length, get_or, None, sym, ap, subst, arith}
+use Rattle.std.proofs.Common.{◌≡◌, ◌≤◌, ℕ, List, length, Some, None, sym, ap, ◌∙◌, subst, arith}
 use Rattle.std.proofs.lemmas.Bool.{iff_false}
 use Rattle.std.proofs.lemmas.List.{length-map}
 use Rattle.flatten.specs.Indexed.{ends_of}
+use Rattle.flatten.specs.Ports.{at_number}
 use Rattle.flatten.proofs.BridgeLemmas.{point_at}
 use Rattle.flatten.proofs.WayLemmas.{IsOnWay, finds_none, step_start, step_within, way_ended, way_found, way_long, way_none, way_onward, way_stopped}
 use Rattle.flatten.proofs.connectors.FlatTree.way_to.Goals as goal
@@ -19,11 +20,9 @@ loop-connection-init c =
 pub returns-in_default : goal.returns-in_default
 returns-in_default c =
     let f = c.args.self.now in
-    let within = c.point_number.ensures.within in
-    let len = c.requires.last.len in
-    let none : get_or c.args.last.now c.point_number.result None ≡ None = c.in_default.is in
+    let none : at_number c.args.last.now c.point_number.result ≡ None = sym c.get.ensures.value ∙ sym c.copied.ensures ∙ c.in_default.is in
     finds_none f c.requires.indexed c.requires.fitting c.args.connector
-    (way_ended f c.requires.indexed c.args.last.now c.requires.last c.requires.fitting c.args.connector c.loop-connection.back.items c.loop-connection.at c.loop-connection.invariant.way c.point_number.result (omega (arith, len, within))
+    (way_ended f c.requires.indexed (at_number c.args.last.now) c.requires.last c.requires.fitting c.args.connector c.loop-connection.back.items c.loop-connection.at c.loop-connection.invariant.way c.point_number.result
     c.point_number.ensures.number none)
 
 -- as many connections follow it as there are
@@ -38,50 +37,38 @@ returns c =
 pub index-requires : goal.index-requires
 index-requires c =
     let f = c.args.self.now in
-    let within = c.point_number.ensures.within in
-    let len = c.requires.last.len in
     let ok = f.connections.ok.0 in
-    let less = step_within f c.requires.indexed c.args.last.now c.requires.last c.requires.fitting c.args.connector c.loop-connection.back.items c.loop-connection.at c.loop-connection.invariant.way c.point_number.result (omega (arith, len, within)) c.point_number.ensures.number c.in-Some.connection c.in-Some.is in
+    let less = step_within f c.requires.indexed (at_number c.args.last.now) c.requires.last c.requires.fitting c.args.connector c.loop-connection.back.items c.loop-connection.at c.loop-connection.invariant.way c.point_number.result c.point_number.ensures.number c.in-Some.connection (sym c.get.ensures.value ∙ sym c.copied.ensures ∙ c.in-Some.is) in
     omega (arith, less, ok)
 
 pub is_output-requires-clause-connector : goal.is_output-requires-clause-connector
 is_output-requires-clause-connector c =
     let f = c.args.self.now in
-    let within = c.point_number.ensures.within in
-    let len = c.requires.last.len in
-    step_start f c.requires.indexed c.args.last.now c.requires.last c.requires.fitting c.args.connector c.loop-connection.back.items c.loop-connection.at c.loop-connection.invariant.way c.point_number.result (omega (arith, len, within)) c.point_number.ensures.number c.in-Some.connection c.in-Some.is c.index.result.now c.index.ensures
+    step_start f c.requires.indexed (at_number c.args.last.now) c.requires.last c.requires.fitting c.args.connector c.loop-connection.back.items c.loop-connection.at c.loop-connection.invariant.way c.point_number.result c.point_number.ensures.number c.in-Some.connection (sym c.get.ensures.value ∙ sym c.copied.ensures ∙ c.in-Some.is) c.index.result.now c.index.ensures
 
 pub is_of_system-requires-clause-connector : goal.is_of_system-requires-clause-connector
 is_of_system-requires-clause-connector c =
     let f = c.args.self.now in
-    let within = c.point_number.ensures.within in
-    let len = c.requires.last.len in
-    step_start f c.requires.indexed c.args.last.now c.requires.last c.requires.fitting c.args.connector c.loop-connection.back.items c.loop-connection.at c.loop-connection.invariant.way c.point_number.result (omega (arith, len, within)) c.point_number.ensures.number c.in-Some.connection c.in-Some.is c.index.result.now c.index.ensures
+    step_start f c.requires.indexed (at_number c.args.last.now) c.requires.last c.requires.fitting c.args.connector c.loop-connection.back.items c.loop-connection.at c.loop-connection.invariant.way c.point_number.result c.point_number.ensures.number c.in-Some.connection (sym c.get.ensures.value ∙ sym c.copied.ensures ∙ c.in-Some.is) c.index.result.now c.index.ensures
 
 pub returns-then-is_output : goal.returns-then-is_output
 returns-then-is_output c =
     let f = c.args.self.now in
-    let within = c.point_number.ensures.within in
-    let len = c.requires.last.len in
-    way_found f c.requires.indexed c.args.last.now c.requires.last c.requires.fitting c.args.connector c.loop-connection.back.items c.loop-connection.at c.loop-connection.invariant.way c.point_number.result (omega (arith, len, within)) c.point_number.ensures.number c.in-Some.connection c.in-Some.is c.index.result.now c.index.ensures c.push.new.self.items c.in_ok-push.ensures.items
+    way_found f c.requires.indexed (at_number c.args.last.now) c.requires.last c.requires.fitting c.args.connector c.loop-connection.back.items c.loop-connection.at c.loop-connection.invariant.way c.point_number.result c.point_number.ensures.number c.in-Some.connection (sym c.get.ensures.value ∙ sym c.copied.ensures ∙ c.in-Some.is) c.index.result.now c.index.ensures c.push.new.self.items c.in_ok-push.ensures.items
     (c.is_output.ensures.0 c.if-is_output.true)
 
 pub returns-then-not-is_of_system : goal.returns-then-not-is_of_system
 returns-then-not-is_of_system c =
     let f = c.args.self.now in
-    let within = c.point_number.ensures.within in
-    let len = c.requires.last.len in
     finds_none f c.requires.indexed c.requires.fitting c.args.connector
-    (way_stopped f c.requires.indexed c.args.last.now c.requires.last c.requires.fitting c.args.connector c.loop-connection.back.items c.loop-connection.at c.loop-connection.invariant.way c.point_number.result (omega (arith, len, within)) c.point_number.ensures.number c.in-Some.connection c.in-Some.is c.index.result.now c.index.ensures
+    (way_stopped f c.requires.indexed (at_number c.args.last.now) c.requires.last c.requires.fitting c.args.connector c.loop-connection.back.items c.loop-connection.at c.loop-connection.invariant.way c.point_number.result c.point_number.ensures.number c.in-Some.connection (sym c.get.ensures.value ∙ sym c.copied.ensures ∙ c.in-Some.is) c.index.result.now c.index.ensures
     (iff_false c.is_output.ensures c.if-is_output.false) (iff_false c.is_of_system.ensures c.if-not-is_of_system.true))
 
 pub loop-connection-preserved : goal.loop-connection-preserved
 loop-connection-preserved c =
     let f = c.args.self.now in
-    let within = c.point_number.ensures.within in
-    let len = c.requires.last.len in
     record {
-      within = step_start f c.requires.indexed c.args.last.now c.requires.last c.requires.fitting c.args.connector c.loop-connection.back.items c.loop-connection.at c.loop-connection.invariant.way c.point_number.result (omega (arith, len, within)) c.point_number.ensures.number c.in-Some.connection c.in-Some.is c.index.result.now c.index.ensures;
-      way = way_onward f c.requires.indexed c.args.last.now c.requires.last c.requires.fitting c.args.connector c.loop-connection.back.items c.loop-connection.at c.loop-connection.invariant.way c.point_number.result (omega (arith, len, within)) c.point_number.ensures.number c.in-Some.connection c.in-Some.is c.index.result.now c.index.ensures c.push.new.self.items c.in_ok-push.ensures.items
+      within = step_start f c.requires.indexed (at_number c.args.last.now) c.requires.last c.requires.fitting c.args.connector c.loop-connection.back.items c.loop-connection.at c.loop-connection.invariant.way c.point_number.result c.point_number.ensures.number c.in-Some.connection (sym c.get.ensures.value ∙ sym c.copied.ensures ∙ c.in-Some.is) c.index.result.now c.index.ensures;
+      way = way_onward f c.requires.indexed (at_number c.args.last.now) c.requires.last c.requires.fitting c.args.connector c.loop-connection.back.items c.loop-connection.at c.loop-connection.invariant.way c.point_number.result c.point_number.ensures.number c.in-Some.connection (sym c.get.ensures.value ∙ sym c.copied.ensures ∙ c.in-Some.is) c.index.result.now c.index.ensures c.push.new.self.items c.in_ok-push.ensures.items
           (c.is_of_system.ensures.0 c.if-not-is_of_system.false);
     }

@@ -1,6 +1,6 @@
 use Rattle.std.proofs.Common.{ℕ, ◌<◌, ◌↔◌, IsTrue, List, length, All, false, get_or, subst, sym}
 use Rattle.fmu_description.specs.Elements.{name_key}
-use Rattle.fmu_description.specs.Names.{Named, StandsBehind}
+use Rattle.fmu_description.specs.Names.{Named, StandsAfter}
 use Rattle.fmu_description.proofs.NameLemmas.{named_within, stands_repeated}
 use Rattle.fmu_description.proofs.TableLemmas.{name_key_within}
 use Rattle.fmu_description.proofs.names.RepeatedNames.new.Goals as goal
@@ -17,6 +17,6 @@ returns c = λ k.
     let named = c.in_ok-named.named.items in
     let marks = c.in_ok-marks.field-0.items in
     let repeated = stands_repeated (name_key c.args.tree.now) named c.in_ok-named.ensures.named c.in_ok-named.ensures.sorted k in
-    let marked : IsTrue (get_or marks k false) ↔ StandsBehind named k =
-    subst (λ (xs : List Named). IsTrue (get_or marks k false) ↔ StandsBehind xs k) c.as_slice.ensures.value (c.in_ok-marks.ensures k) in
+    let marked : IsTrue (get_or marks k false) ↔ StandsAfter named k =
+    subst (λ (xs : List Named). IsTrue (get_or marks k false) ↔ StandsAfter xs k) c.as_slice.ensures.value (c.in_ok-marks.ensures k) in
     (λ h. repeated.0 (marked.0 h), λ r. marked.1 (repeated.1 r))

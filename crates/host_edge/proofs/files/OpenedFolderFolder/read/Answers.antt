@@ -1,5 +1,5 @@
 use Rattle.std.specs.Prelude.{None, ◌∷◌, []}
-use Rattle.sim_base.specs.ReadNotes.{read_of, told_answer}
+use Rattle.sim_base.specs.ReadNotes.{read_of}
 use Rattle.sim_base.proofs.ReadLemmas.{read_kept, read_noted}
 use Rattle.host_edge.proofs.files.OpenedFolderFolder.read.Goals as goal
 
@@ -9,7 +9,7 @@ returns-clause-noted g c =
 
 pub returns-clause-opened : goal.returns-clause-opened
 returns-clause-opened g c =
-    let answer = told_answer c.answer.result in (
+    let answer = c.answer.result in (
       read_of c.args.path.now answer ∷ [],
       read_kept c.args.self.now.book c.ask.new.self c.answer.new.self c.args.path.now answer c.in-Ok.ensures.ok c.answer.ensures.reads,
       c.open-opened.ensures,

@@ -7,7 +7,7 @@ use Rattle.nested_documents.specs.Between.{waiting_places}
 use Rattle.nested_documents.specs.Inlining.{seam_of}
 use Rattle.nested_documents.specs.Nest.{earlier_place, lacking_in}
 use Rattle.nested_documents.specs.Numbers.{with_elements}
-use Rattle.nested_documents.proofs.NestLemmas.{placed_added, rest_behind, taken, waits_added, within_parts}
+use Rattle.nested_documents.proofs.NestLemmas.{placed_added, rest_after, taken, waits_added, within_parts}
 use Rattle.nested_documents.proofs.SeamLemmas.{component_at, connectors_within}
 use Rattle.nested_documents.proofs.held.Nest.add.Goals as goal
 
@@ -33,10 +33,10 @@ invariant_of-result c =
     let at = component_at nest.parts.components.items next.component less in
     let seam = seam_of outer next.component at.0 inner document.elements in
     let inside : AreBetween 0 (length document.parts.components.items) (places_of document.nested.items) = subst (λ (n : ℕ). AreBetween 0 n (places_of document.nested.items)) document.parts.components.ok.0 document.placed in
-    let behind : AreBetween (suc next.component) (length nest.parts.components.items) (waiting_places rest) =
-    subst (λ (n : ℕ). AreBetween (suc next.component) n (waiting_places rest)) nest.parts.components.ok.0 (rest_behind nest.parts.components.len nest.waiting.items next rest waits nest.placed) in
+    let after : AreBetween (suc next.component) (length nest.parts.components.items) (waiting_places rest) =
+    subst (λ (n : ℕ). AreBetween (suc next.component) n (waiting_places rest)) nest.parts.components.ok.0 (rest_after nest.parts.components.len nest.waiting.items next rest waits nest.placed) in
     let all = waits_added c.seam_of-seam.result seam next.component nest.documents next.level document.nested.items rest c.in_ok-waits.waits.items c.in_ok-rest.rest.items c.append.new.self.items (c.seam_of-seam.ensures at.0 at.1) c.in_ok-waits.ensures c.in_ok-rest.ensures c.in_ok-append.ensures.items in
-    let placed = placed_added outer inner (tree_of c.in_ok-parts.parts) next.component document.elements nest.documents (suc next.level) at.0 c.in_ok-frame.frame document.nested.items rest c.append.new.self.items less inside behind (c.in_ok-parts.ensures at.0 at.1) all in record {
+    let placed = placed_added outer inner (tree_of c.in_ok-parts.parts) next.component document.elements nest.documents (suc next.level) at.0 c.in_ok-frame.frame document.nested.items rest c.append.new.self.items less inside after (c.in_ok-parts.ensures at.0 at.1) all in record {
       placed = subst (λ (n : ℕ). AreBetween 0 n (waiting_places c.append.new.self.items)) (sym c.in_ok-parts.parts.components.ok.0) placed;
     }
 

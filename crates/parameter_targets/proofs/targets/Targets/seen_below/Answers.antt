@@ -41,11 +41,11 @@ loop-at-preserved c =
     let near = c.in_ok-ats.ensures in
     let in_row = near.only at (subst (λ z. Contains z at) c.deref-at-items.ensures.value (Contains-get_or ats i 0 c.loop-at-test.true)) in
     let is = read_at self.paths.all.items self.paths.all.items at c.index-path.result.now refl (c.requires.targets.paths.rows.within c.args.system at in_row) c.index-path.ensures in
-    elim c.match-behind.branch [
+    elim c.match-after.branch [
       | in-Some+in_ok-put_named w ↦ subst (λ (z : Vec Target Global). SeesBy self name (take (i + 1) ats) z.items) (sym w.seen-is)
           (sees_by_next self name ats i 0 c.loop-at.seen.items w.put_named.new.seen.items c.index-path.result.now w.in-Some.own.now c.loop-at-test.true is w.in-Some.ensures.found w.in_ok-put_named.ensures c.loop-at.invariant)
       | in_default w ↦ subst (λ (z : Vec Target Global). SeesBy self name (take (i + 1) ats) z.items) (sym w.seen-is)
-          (sees_by_other self name ats i 0 c.loop-at.seen.items c.index-path.result.now c.loop-at-test.true is (subst (λ o. IfNone o ((rest : List ℕ) → name ≡ c.index-path.result.now.text.now ++ 46 ∷ rest → ⊥)) w.in_default.is c.behind.ensures.none) c.loop-at.invariant)
+          (sees_by_other self name ats i 0 c.loop-at.seen.items c.index-path.result.now c.loop-at-test.true is (subst (λ o. IfNone o ((rest : List ℕ) → name ≡ c.index-path.result.now.text.now ++ 46 ∷ rest → ⊥)) w.in_default.is c.after.ensures.none) c.loop-at.invariant)
     ]
 
 pub returns : goal.returns

@@ -3,7 +3,7 @@ use Rattle.std.specs.List.{Contains}
 use Rattle.std.proofs.lemmas.List.{take_all}
 use Rattle.std.proofs.lemmas.List.Elements.{All-get_or}
 use Rattle.sim_base.specs.declared.numbers.PortId.{PortId}
-use Rattle.system_model.specs.Ports.{numbers}
+use Rattle.system_model.specs.Ports.{port_numbers}
 use Rattle.port_orders.specs.Gathered.{Adds}
 use Rattle.port_orders.proofs.GatherLemmas.{clocks_more}
 use Rattle.port_orders.proofs.gathering.Gathering.add_clocks.Goals as goal
@@ -18,4 +18,4 @@ loop-clock-preserved c =
 
 pub returns-clause-adds : goal.returns-clause-adds
 returns-clause-adds c =
-    subst (λ z. Adds c.args.taken.now c.args.port (λ q. (c.args.initializing ≡ false) × Contains (numbers z) q) c.args.self.now.lists c.loop-clock.self.lists) (take_all c.loop-clock.clock-index c.args.clocks.now (omega arith)) c.loop-clock.invariant.adds
+    subst (λ z. Adds c.args.taken.now c.args.port (λ q. (c.args.initializing ≡ false) × Contains (port_numbers z) q) c.args.self.now.lists c.loop-clock.self.lists) (take_all c.loop-clock.clock-index c.args.clocks.now (omega arith)) c.loop-clock.invariant.adds

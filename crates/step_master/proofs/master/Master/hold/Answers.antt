@@ -5,14 +5,14 @@ use Rattle.calling_sequence.specs.Holding.{HoldsSlots}
 use Rattle.calling_sequence.specs.Ready.{MayBegin}
 use Rattle.step_master.specs.Standing.{MayRun}
 use Rattle.step_master.proofs.Resuming.{can_keep}
-use Rattle.step_master.proofs.SeatLemmas.{written_back}
+use Rattle.step_master.proofs.FreshLemmas.{written_back}
 use Rattle.step_master.proofs.master.Master.hold.Goals as goal
 
 pub hold_slots-requires-after_bounds : goal.hold_slots-requires-after_bounds
 hold_slots-requires-after_bounds g c κs within =
     let view = g.L.Peer.view in
     let m = c.args.self.now in
-    let begins : MayBegin view m.experiment m.seats.slots.items m.buffers = subst (MayRun view m) c.requires.prepared c.requires.ready.begins in
+    let begins : MayBegin view m.experiment m.slot_table.slots.items m.buffers = subst (MayRun view m) c.requires.prepared c.requires.ready.begins in
     record {
       begins = subst (λ slots. MayBegin view m.experiment slots m.buffers) (sym c.deref_mut.ensures.value) begins;
       can = can_keep m.experiment.system m.experiment.plan begins.ready.may.sound c.requires.holdable;
@@ -29,7 +29,7 @@ returns g c =
     let e = c.args.self.now.experiment in
     let before : SinkView = g.O.Sink.view c.args.out.now in
     let after : SinkView = g.O.Sink.view c.hold_slots.new.out in
-    let slots = c.args.self.now.seats.slots in
+    let slots = c.args.self.now.slot_table.slots in
     let back = written_back slots.items c.hold_slots.new.slots slots.len (sym (ap length is) ∙ c.deref_mut.ensures.len) (c.hold_slots.auto.slots ∙ ap length is) in
     record {
       holds = subst (λ news. HoldsSlots e c.args.at (instances view slots.items) (instances view news) before after c.hold_slots.result) (sym back)

@@ -1,10 +1,10 @@
 use Rattle.std.proofs.Common.{refl, sym, subst, ◌≤◌, ◌<◌}
 use Rattle.step_master.proofs.Resuming.{binds_none, can_keep, few_states}
-use Rattle.step_master.proofs.Wholes.{states_each}
+use Rattle.step_master.proofs.SessionLemmas.{states_each}
 use Rattle.step_master.proofs.master.Master.resume.Goals as goal
 
-pub seat-requires-clause-may : goal.seat-requires-clause-may
-seat-requires-clause-may g c κs within = record {
+pub make_slots-requires-clause-may : goal.make_slots-requires-clause-may
+make_slots-requires-clause-may g c κs within = record {
   sound = c.requires.sound;
   binds = binds_none c.args.system c.in-Ok.bound c.as_slice.result.now c.as_slice.ensures c.in-Ok.ensures;
   plan = c.requires.plan;
@@ -19,7 +19,7 @@ returns-clause-ready g c =
       unrun = refl;
       begins = record {
         may = record {
-          ready = c.in_ok-seats.ensures.ready;
+          ready = c.in_ok-slot_table.ensures.ready;
           can = can_keep c.args.system c.args.plan c.requires.sound c.requires.holdable;
           each = states_each c.args.system held c.requires.can;
           few = few_states c.args.system.components held.states c.requires.can.states;
@@ -35,7 +35,7 @@ returns-clause-ready g c =
 
 pub returns-clause-ok : goal.returns-clause-ok
 returns-clause-ok g c =
-    let m = c.in_ok-seats.ensures.makes in
+    let m = c.in_ok-slot_table.ensures.makes in
     record {
       log = m.log;
       told = m.told;

@@ -5,7 +5,7 @@ use Rattle.slot_calls.specs.Log.{Told}
 use Rattle.calling_sequence.specs.Holding.{ResumesSlots, spot_in}
 use Rattle.step_master.specs.Standing.{IsResumed, MayRun}
 use Rattle.step_master.proofs.Resuming.{runs_rest, runs_whole}
-use Rattle.step_master.proofs.SeatLemmas.{written_back}
+use Rattle.step_master.proofs.FreshLemmas.{written_back}
 use Rattle.step_master.proofs.master.Master.run.Goals as goal
 
 pub returns-in-None : goal.returns-in-None
@@ -13,7 +13,7 @@ returns-in-None g c =
     let view = g.L.Peer.view in
     let is = c.deref_mut.ensures.value in
     let r = c.run_slots.ensures in
-    let slots = c.args.self.now.seats.slots in
+    let slots = c.args.self.now.slot_table.slots in
     let back = written_back slots.items c.run_slots.new.slots slots.len (sym (ap length is) ∙ c.deref_mut.ensures.len) (c.run_slots.auto.slots ∙ ap length is) in
     runs_whole c.args.self.now.held c.in-None.is (record {
       log = r.log;
@@ -34,7 +34,7 @@ returns-in-Some g c =
     let e = m.experiment in
     let held = c.in-Some.held in
     let is = c.deref_mut-in-Some.ensures.value in
-    let slots = m.seats.slots in
+    let slots = m.slot_table.slots in
     let before : SinkView = g.O.Sink.view c.args.out.now in
     let after : SinkView = g.O.Sink.view c.resume_slots.new.out in
     let count = c.resume_slots.new.buffers.instants in

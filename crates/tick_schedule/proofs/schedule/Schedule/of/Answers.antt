@@ -13,4 +13,4 @@ invariant_of-result c =
     let e = c.enter_points.ensures in
     kept_at_first c.args.start c.args.stop c.args.components c.in_ok-count.count c.args.states.items c.as_slice.result.now c.in_ok-events.events.items c.in_ok-points.points c.enter_points.new.points
     c.requires.run c.requires.stop c.requires.sound c.as_slice.ensures.value
-    (search rules) (search rules) c.in_ok-points.ensures e.len e.entered e.rest
+    (search rules) (search rules) c.in_ok-points.ensures.same e.len e.entered e.rest

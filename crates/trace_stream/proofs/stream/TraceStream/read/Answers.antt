@@ -6,7 +6,7 @@ use Rattle.trace_reading.specs.declared.trace.Header.{Header}
 use Rattle.trace_reading.specs.declared.trace.TraceLine.TheVariants.{At, Value}
 use Rattle.trace_reading.specs.declared.trace.TracePort.{TracePort}
 use Rattle.trace_reading.specs.Form.{instant_lines, kinds_of}
-use Rattle.trace_reading.specs.Walk.{place_behind}
+use Rattle.trace_reading.specs.Walk.{place_after}
 use Rattle.trace_reading.proofs.CallerLemmas.{unsome}
 use Rattle.trace_stream.specs.declared.fault.StreamFault.TheVariants.{Line}
 use Rattle.trace_stream.specs.declared.steps.Ahead.{Ahead}
@@ -29,8 +29,8 @@ lines-preserved g c =
     let port = c.in-Row-Value.port in
     let v = c.in-Row-Value.value in
     let item : c.in_ok-port.field-0 ≡ Row (Value port v) = cc (c.in-Row-Value.is, c.in-Row-Value.field-0-is) in
-    let step : place_behind (kinds_of ports) c.lines.self.rows.place (Row (Value port v)) ≡ Some c.next_item.new.rows.place =
-    ap (λ (i : Item). place_behind (kinds_of ports) c.lines.self.rows.place i) (sym item) ∙ c.in_ok-port.ensures.place in
+    let step : place_after (kinds_of ports) c.lines.self.rows.place (Row (Value port v)) ≡ Some c.next_item.new.rows.place =
+    ap (λ (i : Item). place_after (kinds_of ports) c.lines.self.rows.place i) (sym item) ∙ c.in_ok-port.ensures.place in
     let reads : (bytes : List ℕ) (items : List Item) → HasRead bytes header ports items c.lines.self.rows.place (remaining c.lines.self.lines.input) c.lines.self.lines.number → HasRead bytes header ports (items ++ (Row (Value port v) ∷ [])) c.next_item.new.rows.place (remaining c.next_item.new.lines.input) c.next_item.new.lines.number = λ bytes items read.
     let P : Item → Type 0 = λ i. HasRead bytes header ports (items ++ (i ∷ [])) c.next_item.new.rows.place (remaining c.next_item.new.lines.input) c.next_item.new.lines.number in
     subst P item (c.in_ok-port.ensures.read bytes header items read) in
@@ -84,8 +84,8 @@ returns-in-Row-At-clause-told g c = λ bytes before stands size.
     let started = start_within bytes old.header old.rows.ports before old.ahead moment.t moment.n old.rows.place (remaining old.lines.input) old.lines.number c.begin.new.self.values.items (length c.args.moment.now.values.items) stands.read stands.place begins c.begin.ensures.values in
     let sized : length c.begin.new.self.values.items ≡ length old.rows.ports = ap (λ (vs : List (Option ℤ)). length vs) c.begin.ensures.values ∙ length-replicate (length c.args.moment.now.values.items) None ∙ size in
     let within = c.lines.invariant.within bytes (before ++ (Row (At moment.t moment.n) ∷ [])) started sized in
-    let step : place_behind (kinds_of ports) c.lines.self.rows.place (item_ahead ahead) ≡ Some c.next_item.new.rows.place =
-    ap (λ (i : Item). place_behind (kinds_of ports) c.lines.self.rows.place i) (sym item) ∙ c.in_ok-port.ensures.place in
+    let step : place_after (kinds_of ports) c.lines.self.rows.place (item_ahead ahead) ≡ Some c.next_item.new.rows.place =
+    ap (λ (i : Item). place_after (kinds_of ports) c.lines.self.rows.place i) (sym item) ∙ c.in_ok-port.ensures.place in
     let reads : (items : List Item) → HasRead bytes old.header ports items c.lines.self.rows.place (remaining c.lines.self.lines.input) c.lines.self.lines.number → HasRead bytes old.header ports (items ++ (item_ahead ahead ∷ [])) c.next_item.new.rows.place (remaining c.next_item.new.lines.input) c.next_item.new.lines.number = λ items read.
     let P : Item → Type 0 = λ i. HasRead bytes old.header ports (items ++ (i ∷ [])) c.next_item.new.rows.place (remaining c.next_item.new.lines.input) c.next_item.new.lines.number in
     subst P item (c.in_ok-port.ensures.read bytes old.header items read) in
@@ -113,8 +113,8 @@ returns-in-End-clause-told g c = λ bytes before stands size.
     let started = start_within bytes old.header old.rows.ports before old.ahead moment.t moment.n old.rows.place (remaining old.lines.input) old.lines.number c.begin.new.self.values.items (length c.args.moment.now.values.items) stands.read stands.place begins c.begin.ensures.values in
     let sized : length c.begin.new.self.values.items ≡ length old.rows.ports = ap (λ (vs : List (Option ℤ)). length vs) c.begin.ensures.values ∙ length-replicate (length c.args.moment.now.values.items) None ∙ size in
     let within = c.lines.invariant.within bytes (before ++ (Row (At moment.t moment.n) ∷ [])) started sized in
-    let step : place_behind (kinds_of ports) c.lines.self.rows.place (item_ahead ahead) ≡ Some c.next_item.new.rows.place =
-    ap (λ (i : Item). place_behind (kinds_of ports) c.lines.self.rows.place i) (sym item) ∙ c.in_ok-port.ensures.place in
+    let step : place_after (kinds_of ports) c.lines.self.rows.place (item_ahead ahead) ≡ Some c.next_item.new.rows.place =
+    ap (λ (i : Item). place_after (kinds_of ports) c.lines.self.rows.place i) (sym item) ∙ c.in_ok-port.ensures.place in
     let reads : (items : List Item) → HasRead bytes old.header ports items c.lines.self.rows.place (remaining c.lines.self.lines.input) c.lines.self.lines.number → HasRead bytes old.header ports (items ++ (item_ahead ahead ∷ [])) c.next_item.new.rows.place (remaining c.next_item.new.lines.input) c.next_item.new.lines.number = λ items read.
     let P : Item → Type 0 = λ i. HasRead bytes old.header ports (items ++ (i ∷ [])) c.next_item.new.rows.place (remaining c.next_item.new.lines.input) c.next_item.new.lines.number in
     subst P item (c.in_ok-port.ensures.read bytes old.header items read) in

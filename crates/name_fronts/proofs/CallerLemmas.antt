@@ -1,2 +1,0 @@
--- The lemmas of this crate that others may cite.
-pub use Rattle.name_fronts.proofs.PushLemmas.{pushed, pushed_before, pushed_last}

@@ -1,0 +1,6 @@
+//! Which of some paths begin a name.
+#![tactic(auto)]
+
+mod prefixes;
+
+pub use prefixes::Prefixes;

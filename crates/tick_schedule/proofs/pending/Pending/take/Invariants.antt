@@ -1,0 +1,4 @@
+use Rattle.tick_schedule.proofs.pending.Pending.take.Given as goal
+
+abbrev pub ghosts-put_by : goal.ghosts-put_by
+ghosts-put_by a = record { name = a.blank.name; parts = a.blank.parts }
