@@ -1,12 +1,10 @@
 -- Input Clocks made inactive one by one.
-use Rattle.std.proofs.Common.{◌≡◌, ℕ, ◌+◌, ◌<◌, ◌==◌, Bool, true, false, ◌||◌, cond, List, [], ◌∷◌, ◌++◌, length, filter, map, take, get_or, append-nil, ℤ, pos, Some, None, unwrap_or, if◌then◌else◌, refl, sym, ap, ap₂, ◌∙◌, arith}
+use Rattle.std.proofs.Common.{◌≡◌, ℕ, ◌+◌, ◌<◌, ◌==◌, Bool, true, false, ◌||◌, List, [], ◌∷◌, ◌++◌, length, map, take, get_or, ℤ, pos, Some, None, unwrap_or, if◌then◌else◌, refl, sym, ap, ap₂, ◌∙◌, arith}
 use Rattle.std.specs.List.{list_any}
 use Rattle.std.proofs.lemmas.Bool.Decides.{nat_tests}
-use Rattle.std.proofs.lemmas.List.{length-map, map-append}
+use Rattle.std.proofs.lemmas.List.{length-map, take_more}
 use Rattle.std.proofs.lemmas.List.Folds.{list_any-append}
-use Rattle.std.proofs.lemmas.List.Elements.{filter_more}
 use Rattle.fmu_peer.specs.Machine.{all_written, written, zero_at}
-use Rattle.fmi_calls.specs.Permission.{is_input_clock}
 use Rattle.value_types.specs.declared.shape.Variable.{Variable}
 use Rattle.bench_fmus.specs.BuiltIn.{spread, value_of}
 
@@ -41,12 +39,13 @@ one_more_written (r ∷ rs) clocks clock (x ∷ xs) =
     (ap (λ (b : Bool). unwrap_or (if b then Some (pos 0) else None) x) (list_any-append (λ (c : ℕ). c == r) clocks (clock ∷ [])) ∙ one_value (list_any (λ (c : ℕ). c == r) clocks) r clock x)
     (one_more_written rs clocks clock xs)
 
-abbrev references_of : List Variable → List ℕ
+-- the references of variables
+abbrev pub references_of : List Variable → List ℕ
 references_of variables = map (λ (v : Variable). v.reference) variables
 
--- the values once the input Clocks among some variables are inactive
-abbrev pub silenced : List Variable → List ℤ → List Variable → List ℤ
-silenced variables values some = all_written (references_of variables) (zero_at (references_of (filter is_input_clock some))) (spread variables values)
+-- the values once these Clocks are inactive
+abbrev pub silenced : List Variable → List ℤ → List ℕ → List ℤ
+silenced variables values clocks = all_written (references_of variables) (zero_at clocks) (spread variables values)
 
 module _ (variables : List Variable) (values : List ℤ) where
   pub none_silenced : spread variables values ≡ silenced variables values []
@@ -54,25 +53,9 @@ module _ (variables : List Variable) (values : List ℤ) where
       sym (none_written (references_of variables) (spread variables values)
       (length-map variables (λ (v : Variable). value_of variables values v.reference) ∙ sym (length-map variables (λ (v : Variable). v.reference))))
 
-  module _ (i : ℕ) (v : Variable) (within : i < length variables) (is : v ≡ get_or variables i v) where
-    -- the input Clocks of one more variable
-    more : (b : Bool) → is_input_clock v ≡ b → references_of (filter is_input_clock (take (i + 1) variables)) ≡ references_of (filter is_input_clock (take i variables)) ++ cond b (v.reference ∷ []) []
-    more true ticks =
-        ap references_of (filter_more is_input_clock variables i v within ∙ ap (λ (w : Variable). filter is_input_clock (take i variables) ++ cond (is_input_clock w) (w ∷ []) []) (sym is)
-        ∙ ap (λ (b : Bool). filter is_input_clock (take i variables) ++ cond b (v ∷ []) []) ticks)
-        ∙ map-append (λ (w : Variable). w.reference) (filter is_input_clock (take i variables)) (v ∷ [])
-    more false other =
-        ap references_of (filter_more is_input_clock variables i v within ∙ ap (λ (w : Variable). filter is_input_clock (take i variables) ++ cond (is_input_clock w) (w ∷ []) []) (sym is)
-        ∙ ap (λ (b : Bool). filter is_input_clock (take i variables) ++ cond b (v ∷ []) []) other)
-        ∙ map-append (λ (w : Variable). w.reference) (filter is_input_clock (take i variables)) []
-
-    pub one_silenced : is_input_clock v ≡ true →
-        written (references_of variables) (silenced variables values (take i variables)) v.reference (pos 0) ≡ silenced variables values (take (i + 1) variables)
-    one_silenced ticks =
-        sym (ap (λ (clocks : List ℕ). all_written (references_of variables) (zero_at clocks) (spread variables values)) (more true ticks)
-        ∙ one_more_written (references_of variables) (references_of (filter is_input_clock (take i variables))) v.reference (spread variables values))
-
-    pub other_kept : is_input_clock v ≡ false → silenced variables values (take i variables) ≡ silenced variables values (take (i + 1) variables)
-    other_kept other =
-        sym (ap (λ (clocks : List ℕ). all_written (references_of variables) (zero_at clocks) (spread variables values))
-        (more false other ∙ append-nil (references_of (filter is_input_clock (take i variables)))))
+  -- one more Clock
+  pub one_silenced : (clocks : List ℕ) (i d : ℕ) → i < length clocks →
+      written (references_of variables) (silenced variables values (take i clocks)) (get_or clocks i d) (pos 0) ≡ silenced variables values (take (i + 1) clocks)
+  one_silenced clocks i d within =
+      sym (ap (silenced variables values) (take_more clocks i d within)
+      ∙ one_more_written (references_of variables) (take i clocks) (get_or clocks i d) (spread variables values))

@@ -1,7 +1,8 @@
 -- What the peers of this crate tell: a talk where it is kept, what a peer was started with, and the state of a built-in machine.
-use Rattle.std.specs.Prelude.{◌≡◌, ℤ, pos, Bool, true, false, List, length, Option, Some, None, option_map, if◌then◌else◌}
+use Rattle.std.specs.Prelude.{◌≡◌, ℤ, pos, Bool, true, false, List, filter, length, map, Option, Some, None, option_map, if◌then◌else◌}
 use Rattle.value_types.specs.declared.shape.Variable.{Variable}
 use Rattle.value_types.specs.declared.shape.Shape.{Shape}
+use Rattle.fmi_calls.specs.Permission.{is_input_clock}
 use Rattle.fmu_peer.specs.declared.talk_room.TalkRoom.{TalkRoom}
 use Rattle.fmu_peer.specs.declared.peer.Exchange.{Exchange}
 use Rattle.fmu_peer.specs.Machine.{MachineState, SavedMachine}
@@ -55,8 +56,10 @@ state_in variables s = record {
   slot = slot_in variables s.saved;
 }
 
--- there is a value for each variable, and room to save the values, and the order of references is that of the shape
+-- there is a value for each variable, and room to save the values, and the order of references is that of the shape, and the input Clocks are those of the shape
 pub record HasRoom (shape : Shape) (s : BuiltInState) : Type 0 where
   pub values : length s.values.items ≡ length shape.variables
   pub saved : length s.saved.values.items ≡ length shape.variables
   pub order : s.order.items ≡ ordered shape.variables
+  pub clocks : s.clocks.items ≡ map (λ (v : Variable). v.reference)
+      (filter is_input_clock shape.variables)

@@ -65,6 +65,8 @@ pub struct BuiltInState {
     pub saved: SavedState,
     /// the references with the places of their variables, in order
     pub order: Vec<(u32, usize)>,
+    /// the references of the input Clocks
+    pub clocks: Vec<u32>,
 }
 
 impl BuiltInState {
@@ -84,6 +86,7 @@ impl BuiltInState {
             values: first_values(alloc, shape.variables.as_slice())?,
             saved: SavedState::none(alloc, shape.variables.len())?,
             order: order_of(alloc, shape.variables.as_slice())?,
+            clocks: input_clocks(alloc, shape.variables.as_slice())?,
         })
     }
 
@@ -308,7 +311,7 @@ impl BuiltInState {
             }
             Call::Update => {
                 self.numbers = self.next_numbers(model, shape, phase, call);
-                untick(&shape.variables, &mut self.values);
+                untick(&shape.variables, self.clocks.as_slice(), &mut self.values);
             }
         }
     }
@@ -361,6 +364,7 @@ impl BuiltInState {
         ensures same { (self.new.numbers ≡ self.old.numbers) ×
             (self.new.values.items ≡ self.old.values.items) }
         ensures order { self.new.order.items ≡ self.old.order.items }
+        ensures clocks { self.new.clocks.items ≡ self.old.clocks.items }
     {
         self.saved.is_full = true;
         self.saved.numbers = self.numbers;
@@ -376,6 +380,7 @@ impl BuiltInState {
             self.old.values.items) }
         ensures same { self.new.saved ≡ self.old.saved }
         ensures order { self.new.order.items ≡ self.old.order.items }
+        ensures clocks { self.new.clocks.items ≡ self.old.clocks.items }
     {
         if self.saved.is_full {
             self.numbers = self.saved.numbers;
@@ -471,19 +476,32 @@ fn write_value(variables: &ByReference<Variable>, values: &mut [i128], reference
     }
 }
 
-// Makes the input Clocks inactive.
-fn untick(variables: &ByReference<Variable>, values: &mut [i128])
-    requires { length values.old ≡ length variables.now }
+// The references of the input Clocks.
+fn input_clocks(alloc: Global, variables: &[Variable]) -> Result<Vec<u32>, AllocError>
+    ensures { IfOk result (λ clocks. clocks.items ≡ map (λ v. v.reference)
+        (filter is_input_clock variables.now)) }
+{
+    let mut clocks = Vec::new(alloc);
+    for variable in variables {
+        if is_input_clock(variable) {
+            clocks.push(variable.reference)?;
+        }
+    }
+    Ok(clocks)
+}
+
+// Makes the input Clocks, whose references these are, inactive.
+fn untick(variables: &ByReference<Variable>, clocks: &[u32], values: &mut [i128])
+    requires clocks { clocks.now ≡ map (λ v. v.reference) (filter is_input_clock variables.now) }
+    requires room { length values.old ≡ length variables.now }
     ensures values { spread variables.now values.new ≡ all_written
         (map (λ v. v.reference) variables.now)
         (zero_at (map (λ v. v.reference) (filter is_input_clock variables.now)))
         (spread variables.now values.old) }
     ensures room { length values.new ≡ length values.old }
 {
-    for variable in variables.as_slice() {
-        if is_input_clock(variable) {
-            write_value(variables, values, variable.reference, 0);
-        }
+    for &reference in clocks {
+        write_value(variables, values, reference, 0);
     }
 }
 

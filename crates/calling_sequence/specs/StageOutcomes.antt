@@ -104,6 +104,11 @@ BreaksOff e olds past news after counted B.Write =
 
 -- ---- instants that may be put
 
+-- what is told by a value, or where there is none by what breaks the run off
+abbrev pub or_breaks : {T : Type 0} → Option T → Break → Result T Break
+or_breaks (Some x) broken = Ok x
+or_breaks None broken = Err broken
+
 -- a stage that takes an instant, and puts it or doesn't
 abbrev pub Puts : {T : Type 0} → Experiment → (puts : Bool) → Place → (T → Place) →
     (mids news : List Instance) → (present after : SinkView) → (count counted : ℕ) →

@@ -11,7 +11,7 @@ use crate::instants::take;
 use crate::steps::step_on;
 use crate::text::{conclude, put_head};
 use crate::{Break, Buffers, Ending, Experiment, RunEnd};
-use event_iteration::has_changes;
+use event_iteration::NO_ANSWER;
 use fmu_peer::{Peer, Slot};
 use sim_base::Sink;
 use std::thread::Threads;
@@ -130,17 +130,28 @@ pub(crate) fn come_to<R: Threads + Sync, L: Peer, O: Sink>(
         (O.view out.new) buffers.old.instants buffers.new.instants result }
 {
     let plan = &experiment.plan;
-    let has_changes = has_changes(&experiment.system);
     let mut t = from;
     let mut n = 0;
     let mut ending = Ending {
         end: RunEnd::Stop,
         point: plan.stop,
     };
+    let mut bad = NO_ANSWER;
+    let mut broken = Break::Write;
     'instants: loop {
-        let updated = match take(slots, experiment, buffers, t, n, has_changes, puts, out) {
-            Ok(updated) => updated,
-            Err(broken) => return Err(broken),
+        let updated = match take(
+            slots,
+            experiment,
+            buffers,
+            t,
+            n,
+            puts,
+            out,
+            &mut bad,
+            &mut broken,
+        ) {
+            Some(updated) => updated,
+            None => return Err(broken),
         };
         if updated.asked {
             return Err(Break::Ends(Ending {

@@ -1,5 +1,5 @@
 -- The least port on the way to which a value is lost, one port after another.
-use Rattle.std.proofs.Common.{◌≡◌, ◌↔◌, ℕ, ◌+◌, ◌<◌, ◌≤◌, ℤ, Bool, true, false, ◌&&◌, not, cond, List, [], ◌∷◌, Option, Some, None, get_or, length, refl, sym, ap, ◌∙◌, subst, arith, below_more}
+use Rattle.std.proofs.Common.{◌≡◌, ℕ, zero, suc, ◌+◌, ◌-◌, ◌<◌, ◌≤◌, ℤ, Bool, true, false, ◌&&◌, not, cond, List, [], ◌∷◌, Option, Some, None, get_or, length, refl, sym, ap, ◌∙◌, subst, arith, below_more}
 use Rattle.std.specs.Prelude.{is_some, nat_lt}
 use Rattle.std.specs.Option.{option_map}
 use Rattle.std.specs.List.{list_any, position, position_or_len, slice_get}
@@ -14,14 +14,19 @@ use Rattle.system_model.specs.declared.system.Port.{Port}
 use Rattle.system_model.specs.declared.system.Role.{Role}
 use Rattle.system_model.specs.declared.system.Role.TheVariants.{Input, Output, ClockInput, ClockOutput, TimeClock}
 use Rattle.system_model.specs.declared.system.System.{System}
+use Rattle.system_model.specs.Sound.{IsSound}
 use Rattle.system_model.specs.Needs.{is_unclocked, is_unclocked_at}
 use Rattle.system_model.specs.Values.{is_present}
 use Rattle.run_model.specs.Equations.{fed, is_bad, is_lost, source_value}
 use Rattle.run_model.specs.Initial.{is_bad_initially}
-use Rattle.run_model.specs.Plain.{HasNoChanges}
-use Rattle.run_model.proofs.CallerLemmas.{both}
-use Rattle.event_iteration.specs.Lost.{FindsLost, IsLostAt, IsPlain}
+use Rattle.run_model.specs.Machines.{AreFitting}
+use Rattle.run_model.proofs.CallerLemmas.{both, good_unchanged}
+use Rattle.event_iteration.specs.Lost.{FindsLost, IsLostAt}
+use Rattle.event_iteration.specs.Participants.{AreSkips, LacksAt, is_changed_input}
+use Rattle.event_iteration.specs.Settings.{port_order}
 use Rattle.event_iteration.specs.declared.lost.LostValue.{LostValue}
+use Rattle.event_iteration.proofs.Fmus.{got}
+use Rattle.event_iteration.proofs.Setting.{port_number}
 
 -- no port before this one is such
 abbrev pub NoneBefore : (Port → Bool) → List Port → ℕ → Type 0
@@ -115,29 +120,32 @@ pub told_of : (ports : List Port) (p : ℕ) (values : List (Option ℤ)) (port :
 told_of ports p values port before here is = λ target feed x at by came.
     ap (option_map (lost_at p)) (is feed (ap (λ (y : Port). feed_of y.role) (same_Some port target (sym here ∙ at)) ∙ by) ∙ came)
 
--- ---- where no path makes a change
+-- ---- inputs that are passed
 
--- none to the ports before this one does
-abbrev pub PlainBefore : List Port → ℕ → Type 0
-PlainBefore ports i =
-    (k : ℕ) (port : Port) (feed : Feed) → k < i → slice_get ports k ≡ Some port →
-    feed_of port.role ≡ Some feed → feed.changes ≡ []
-
-pub plain_more : (ports : List Port) (i : ℕ) (port : Port) → slice_get ports i ≡ Some port → IsPlain port.role → PlainBefore ports i → PlainBefore ports (i + 1)
-plain_more ports i port here plain was = λ k other feed l is by.
-    below_more (λ (j : ℕ). (x : Port) (f : Feed) → slice_get ports j ≡ Some x → feed_of x.role ≡ Some f → f.changes ≡ []) i (λ j m x f. was j x f m)
-    (λ x f at. subst (λ (y : Port). feed_of y.role ≡ Some f → f.changes ≡ []) (same_Some port x (sym here ∙ at)) (plain f)) k l other feed is by
-
-pub plain_all : (system : System) (i : ℕ) → length system.ports ≤ i → PlainBefore system.ports i → HasNoChanges system
-plain_all system i whole was = λ p port feed is by. was p port feed (let within = slice_get_within system.ports p port is in omega (arith, within, whole)) is by
-
-empty : {A : Type 0} (xs : List A) → length xs ≤ 0 → xs ≡ []
+empty : {A : Type 0} (xs : List A) → nat_lt 0 (length xs) ≡ false → xs ≡ []
 empty [] none = refl
-empty (x ∷ xs) none = absurd (omega (arith, none))
+empty (x ∷ xs) none = absurd (let few = ltb-false 0 (length (x ∷ xs)) none in omega (arith, few))
 
--- a list with a place for a change
-pub plain_by_count : (feed : Feed) (n : ℕ) → n ≡ length feed.changes → (nat_lt 0 n ≡ false) ↔ ((f : Feed) → Some feed ≡ Some f → f.changes ≡ [])
-plain_by_count feed n count = (
-  λ none f same. subst (λ (g : Feed). g.changes ≡ []) (same_Some feed f same) (empty feed.changes (let few = ltb-false 0 n none in omega (arith, few, count))),
-  λ plain. ap (nat_lt 0) (count ∙ ap length (plain feed refl)),
-)
+unchanged : (role : Role) (feed : Feed) → is_changed_input role ≡ false → role ≡ Input (Some feed) → feed.changes ≡ []
+unchanged role feed none is = empty feed.changes (sym (ap is_changed_input is) ∙ none)
+
+module _ (system : System) (sound : IsSound system) (next : List ℕ) (skips : AreSkips (length system.ports) (LacksAt system (port_order system) (λ (port : Port). is_changed_input port.role)) next) (values : List (Option ℤ)) (fits : AreFitting system values) where
+  -- the path to none of them makes a change
+  none_passed : (k m : ℕ) → k + m ≤ length system.ports → k + m ≤ get_or next k k → NoneBefore (is_bad values) system.ports k → NoneBefore (is_bad values) system.ports (k + m)
+  none_passed k zero within up_to none = subst (NoneBefore (is_bad values) system.ports) (let e : k ≡ k + 0 = omega arith in e) none
+  none_passed k (suc m) within up_to none =
+      let p = k + m in
+      let lt : p < length system.ports = omega (arith, within) in
+      let port = got system.ports p lt in
+      let other = skips.out_between k p (omega arith) (omega (arith, up_to)) p port.0 (port_number system p lt) port.1 in
+      subst (NoneBefore (is_bad values) system.ports) (let e : k + m + 1 ≡ k + suc m = omega arith in e)
+      (none_more (is_bad values) system.ports p port.0 (λ d. sym (get_or_from_slice_get system.ports p port.0 d port.1)) (good_unchanged system sound p port.0 port.1 (λ feed is. unchanged port.0.role feed other is) values fits)
+      (none_passed k m (omega (arith, within)) (omega (arith, up_to)) none))
+
+  -- up to the next that is looked at
+  pub none_up_to : (k p : ℕ) → k ≤ length system.ports → p ≡ get_or next k k → NoneBefore (is_bad values) system.ports k → NoneBefore (is_bad values) system.ports p
+  none_up_to k p within is none =
+      let low = skips.after k in
+      let high = skips.within k within in
+      let more : k + (p - k) ≡ p = omega (arith, is, low) in
+      subst (NoneBefore (is_bad values) system.ports) more (none_passed k (p - k) (omega (arith, more, is, high)) (omega (arith, more, is)) none)

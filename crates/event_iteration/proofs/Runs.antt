@@ -151,10 +151,11 @@ moves_sent f system rules w values taken next xs d y lt made made_is replies len
 )
 
 pub moves_failed : {A : Type 0} (f : A → Instance) (system : System) (rules : Rules) (w : Waiting) (values : List (Option ℤ)) (xs : List A) (d y : A) → w.component.0 < length xs → (made : List Call) →
-    ((before : List (Option ℤ)) (order : List ℕ) (olds : List Instance) (k : ℕ) (g : Gathers system rules before order olds k w values (map f xs)) → made ≡ g.calls) → (why : Why) → StopsAfter made why (f (get_or xs w.component.0 d)) (f y) →
-    Sends system rules w (emptied w) values values (map f xs) (map f (set xs w.component.0 y)) (Err (record { component = w.component; why = why }))
-moves_failed f system rules w values xs d y lt made made_is why stops order k before olds g =
-    run_failed f system rules before order olds k w values xs g d y lt made (made_is before order olds k g) why stops
+    ((before : List (Option ℤ)) (order : List ℕ) (olds : List Instance) (k : ℕ) (g : Gathers system rules before order olds k w values (map f xs)) → made ≡ g.calls) → (why : Why) → StopsAfter made why (f (get_or xs w.component.0 d)) (f y) → (bad : BadAnswer) → bad ≡ record { component = w.component; why = why } →
+    Sends system rules w (emptied w) values values (map f xs) (map f (set xs w.component.0 y)) (Err bad)
+moves_failed f system rules w values xs d y lt made made_is why stops bad told_is =
+    subst (λ (b : BadAnswer). Sends system rules w (emptied w) values values (map f xs) (map f (set xs w.component.0 y)) (Err b)) (sym told_is)
+    (λ order k before olds g. run_failed f system rules before order olds k w values xs g d y lt made (made_is before order olds k g) why stops)
 
 -- such a walk is somewhere
 pub somewhere : {system : System} {rules : Rules} {order : List ℕ} {k : ℕ} {w : Waiting} {values : List (Option ℤ)} {is : List Instance} → Gathered system rules order k w values is → GathersSome system rules w values is

@@ -139,12 +139,12 @@ module _ {A : Type 0} (f : A → Instance) (system : System) (rules : Rules) (p 
       }
 
   -- its call got an answer that isn't good
-  pub stopped : (call : Option Call) → call ≡ rules.asks p port c values → (bad : BadAnswer) → bad.component.0 ≡ port.component.0 → AsksIf call (f there) (f y) (Err bad.why) →
+  pub stopped : (call : Option Call) → call ≡ rules.asks p port c values → (why : Why) → AsksIf call (f there) (f y) (Err why) → (bad : BadAnswer) → bad ≡ record { component = port.component; why = why } →
       TakesTurn system rules p values values (map f xs) (map f (set xs port.component.0 y)) (Err bad)
-  stopped None call_is bad at o = absurd o
-  stopped (Some call) call_is bad at o = record {
+  stopped None call_is why o bad told = absurd o
+  stopped (Some call) call_is why o bad told_is = record {
     log = one_log port.component.0 o.exchange;
-    told = told_one_more o.exchange call (Err bad.why) o;
+    told = told_one_more o.exchange call (Err why) o;
     says = (
       record { component = port.component.0; exchange = o.exchange },
       refl,
@@ -156,8 +156,8 @@ module _ {A : Type 0} (f : A → Instance) (system : System) (rules : Rules) (p 
         of = of;
         asks = sym call_is ∙ ap Some (sym o.is);
         sent_to = refl;
-        told_of = at;
-        why = subst (λ (s : Shape). IsWhy s bad.why o.exchange) shape o.worth;
+        told_of = ap (λ (b : BadAnswer). b.component.0) told_is;
+        why = subst (λ (w : Why). IsWhy c.shape w o.exchange) (sym (ap (λ (b : BadAnswer). b.why) told_is)) (subst (λ (s : Shape). IsWhy s why o.exchange) shape o.worth);
       },
     );
   }

@@ -13,3 +13,4 @@ pub mod ByLog
 pub mod Waits
 pub mod Lost
 pub mod Participants
+pub mod BadEnds

@@ -29,7 +29,3 @@ IsLostAt ports p values lost =
     (target : Port) (feed : Feed) (x : ℤ) → slice_get ports p ≡ Some target →
     feed_of target.role ≡ Some feed → source_value feed values ≡ Some x →
     lost ≡ Some (record { port = record { 0 = p }; value = x })
-
--- what feeds a port of this role, if anything does, makes no change of values
-abbrev pub IsPlain : Role → Type 0
-IsPlain role = (feed : Feed) → feed_of role ≡ Some feed → feed.changes ≡ []

@@ -1,5 +1,5 @@
 -- What takes part in an instant, after it and in a step (FMI 3.0, 4.2.1: Event Mode, Step Mode; 2.2.8: clocked variables; SSP 1.0: connections). The turn of any other port sends nothing and leaves its value.
-use Rattle.std.specs.Prelude.{◌≡◌, ◌⊎◌, ℕ, ℤ, ◌<◌, ◌≤◌, ◌==◌, ◌&&◌, ◌||◌, Bool, true, false, not, List, [], length, Option, Some, None, Contains, slice_index_or}
+use Rattle.std.specs.Prelude.{◌≡◌, ◌⊎◌, ℕ, ℤ, ◌<◌, ◌≤◌, ◌==◌, ◌&&◌, ◌||◌, Bool, true, false, not, List, [], length, Option, Some, None, Contains, nat_lt, slice_index_or}
 use Rattle.std.specs.List.{slice_get}
 use Rattle.std.specs.Option.{option_map_or}
 use Rattle.sim_base.specs.declared.numbers.PortId.{PortId}
@@ -33,6 +33,15 @@ is_fed_input Output = false
 is_fed_input (ClockInput feed) = false
 is_fed_input ClockOutput = false
 is_fed_input (TimeClock timing) = false
+
+-- an input, and no Clock, whose path from its source makes a change of values
+abbrev pub is_changed_input : Role → Bool
+is_changed_input (Input None) = false
+is_changed_input (Input (Some feed)) = nat_lt 0 (length feed.changes)
+is_changed_input Output = false
+is_changed_input (ClockInput feed) = false
+is_changed_input ClockOutput = false
+is_changed_input (TimeClock timing) = false
 
 -- it takes part in each instant: a Clock, and what has no Clocks but an input that nothing feeds
 abbrev pub is_steady : Port → Bool
@@ -102,6 +111,9 @@ pub record AreParticipants (system : System) (it : Participants) : Type 0 where
   pub set_before_steps : AreSkips (length system.ports)
       (LacksAt system (port_order system) (is_set_before_step system))
       it.set_before_steps.next.items
+  pub changed_inputs : AreSkips (length system.ports)
+      (LacksAt system (port_order system) (λ (port : Port). is_changed_input port.role))
+      it.changed_inputs.next.items
 
 -- ---- values, and places that are still to be taken
 

@@ -16,6 +16,7 @@ ghost use Rattle.event_iteration.specs.Clocks.{AreTicks, StandsAt, is_due_at, ti
 ghost use Rattle.event_iteration.specs.Intervals.{TellsTicks};
 ghost use Rattle.event_iteration.specs.Participants.{AreParticipants, AreUnfedAwaited, IsIdleQueue, Passes};
 ghost use Rattle.event_iteration.specs.Questions.{AreActive, modes};
+ghost use Rattle.event_iteration.specs.BadEnds.{or_bad};
 ghost use Rattle.event_iteration.specs.Waits.{WalkOutcome};
 
 use crate::Participants;
@@ -291,7 +292,8 @@ fn walk_participants<L: Peer>(
     pending: &mut Pending,
     turns: &InInstant,
     values: &mut PortValues,
-) -> Result<(), BadAnswer>
+    bad: &mut BadAnswer,
+) -> Option<()>
     requires sound { IsSound system.now }
     requires stands { StandsAt system.now turns.now.t turns.now.is_first turns.now.schedule.now }
     requires participants { AreParticipants system.now participants.now }
@@ -302,30 +304,30 @@ fn walk_participants<L: Peer>(
     requires values { length values.old ≡ length system.now.ports }
     requires fitting { AreFitting system.now values.old }
     requires awaited { AreUnfedAwaited system.now values.old pending.old }
-    ensures live { OnOk result (All (LiveSlot L.view) slots.new) }
+    ensures live { OnOk (or_bad result bad.new) (All (LiveSlot L.view) slots.new) }
     ensures goes { WalkOutcome system.now (in_instant (is_due_at turns.now.schedule.now turns.now.t)
         turns.now.is_first) values.old (port_numbers system.now.instant_order) values.new
-        (instances L.view slots.old) (instances L.view slots.new) result }
+        (instances L.view slots.old) (instances L.view slots.new) (or_bad result bad.new) }
     ensures fitting { AreFitting system.now values.new }
     ensures pending { length pending.new ≡ length pending.old }
-    ensures idle { OnOk result (IsIdleQueue pending.new) }
+    ensures idle { OnOk (or_bad result bad.new) (IsIdleQueue pending.new) }
 {
     let order = system.instant_order.as_slice();
     let mut waiting = Waiting::none();
     let mut k = next_place(participants, pending, 0);
     while k < order.len() {
-        match go_on(slots, system, turns, order, values, k, &mut waiting) {
-            Ok(()) => {}
-            Err(bad) => return Err(bad),
+        match go_on(slots, system, turns, order, values, k, &mut waiting, bad) {
+            Some(()) => {}
+            None => return None,
         }
         let p = order[k].0 as usize;
         let ticks = is_active(values.at(p));
         pass_place(participants, pending, k, p, ticks);
         k = next_place(participants, pending, k + 1);
     }
-    match send_waiting(slots, system, turns, values, &mut waiting) {
-        Ok(()) => return Ok(()),
-        Err(bad) => return Err(bad),
+    match send_waiting(slots, system, turns, values, &mut waiting, bad) {
+        Some(()) => return Some(()),
+        None => return None,
     }
 }
 
@@ -335,10 +337,10 @@ fn walk_participants<L: Peer>(
 /// output that is present; a port that is absent keeps its value. Without event mode it reads each output in the first instant
 /// at a point alone, and inputs take what comes to them from their sources, without a call. Calls that read outputs of one
 /// FMU, or set inputs of it, and follow one another are handed on together, 64 at a time. It stops at the first answer that
-/// isn't good. The schedule has a place for each port and tells which time-based Clocks tick; `is_first` says that it is the
-/// first instant at the point, a count. Of the stored order it looks at the
-/// places of the participants alone, and at those with Clocks where one of them ticks: `pending` has a place for each of the
-/// order, and none of them is to be taken before or after a good instant.
+/// isn't good, which then stands in `bad`: so an instant that goes well moves one word. The schedule has a place for each port
+/// and tells which time-based Clocks tick; `is_first` says that it is the first instant at the point, a count. Of the stored
+/// order it looks at the places of the participants alone, and at those with Clocks where one of them ticks: `pending` has a
+/// place for each of the order, and none of them is to be taken before or after a good instant.
 pub fn instant<L: Peer>(
     slots: &mut [Slot<L>],
     system: &System,
@@ -348,7 +350,8 @@ pub fn instant<L: Peer>(
     t: u64,
     is_first: bool,
     values: &mut PortValues,
-) -> Result<(), BadAnswer>
+    bad: &mut BadAnswer,
+) -> Option<()>
     requires sound { IsSound system.now }
     requires participants { AreParticipants system.now participants.now }
     requires pending { length pending.old ≡ length system.now.instant_order }
@@ -359,21 +362,22 @@ pub fn instant<L: Peer>(
     requires values { length values.old ≡ length system.now.ports }
     requires fitting { AreFitting system.now values.old }
     requires awaited { AreUnfedAwaited system.now values.old pending.old }
-    ensures live { OnOk result (All (LiveSlot L.view) slots.new) }
+    ensures live { OnOk (or_bad result bad.new) (All (LiveSlot L.view) slots.new) }
     ensures walks { Walks system.now (in_instant (is_due_at schedule.now t) is_first) values.old
         (port_numbers system.now.instant_order) values.new (instances L.view slots.old)
-        (instances L.view slots.new) result }
-    ensures values { OnOk result (length values.new ≡ length system.now.ports) }
+        (instances L.view slots.new) (or_bad result bad.new) }
+    ensures values { OnOk (or_bad result bad.new) (length values.new ≡ length system.now.ports) }
     ensures fitting { AreFitting system.now values.new }
-    ensures awaited { OnOk result (AreUnfedAwaited system.now values.new pending.new) }
+    ensures awaited { OnOk (or_bad result bad.new)
+        (AreUnfedAwaited system.now values.new pending.new) }
     ensures pending { length pending.new ≡ length pending.old }
-    ensures idle { OnOk result (IsIdleQueue pending.new) }
+    ensures idle { OnOk (or_bad result bad.new) (IsIdleQueue pending.new) }
     ensures due { (n : ℕ) → (n == 0) ≡ is_first → AreTicks system.now schedule.now.start
         (timers_in schedule.now) t n (is_due_at schedule.now t) }
-    ensures ticks { OnOk result (TellsTicks system.now schedule.now t values.new) }
-    ensures active { OnOk result
+    ensures ticks { OnOk (or_bad result bad.new) (TellsTicks system.now schedule.now t values.new) }
+    ensures active { OnOk (or_bad result bad.new)
         (AreActive system.now values.new (modes (instances L.view slots.new))) }
-    ensures solved { OnOk result
+    ensures solved { OnOk (or_bad result bad.new)
         (SolvesInInstant system.now schedule.now t is_first values.old values.new
         (instances L.view slots.old) (instances L.view slots.new)) }
 {
@@ -382,8 +386,8 @@ pub fn instant<L: Peer>(
         t,
         is_first,
     };
-    match walk_participants(slots, system, participants, pending, &turns, values) {
-        Ok(()) => Ok(()),
-        Err(bad) => Err(bad),
+    match walk_participants(slots, system, participants, pending, &turns, values, bad) {
+        Some(()) => Some(()),
+        None => None,
     }
 }

@@ -1,16 +1,17 @@
 //! Values of sources that are lost on their way to inputs.
-ghost use Rattle.std.specs.Prelude.{◌≡◌, ◌↔◌, ◌<◌, ◌^◌, All, Some, false, length};
+ghost use Rattle.std.specs.Prelude.{◌≡◌, ◌<◌, ◌^◌, All, length};
 ghost use Rattle.std.specs.Option.{option_map};
 ghost use Rattle.system_model.specs.Ports.{feed_of};
 ghost use Rattle.system_model.specs.Sound.{IsSound};
 ghost use Rattle.run_model.specs.Equations.{is_bad, is_lost, source_value};
 ghost use Rattle.run_model.specs.Initial.{is_bad_initially};
 ghost use Rattle.run_model.specs.Machines.{AreFitting};
-ghost use Rattle.run_model.specs.Plain.{HasNoChanges};
 ghost use Rattle.event_iteration.specs.Initialization.{IsPlaced};
 ghost use Rattle.event_iteration.specs.Instants.{HasPlacedClocks};
-ghost use Rattle.event_iteration.specs.Lost.{FindsLost, IsLostAt, IsPlain};
+ghost use Rattle.event_iteration.specs.Lost.{FindsLost, IsLostAt};
+ghost use Rattle.event_iteration.specs.Participants.{AreParticipants};
 
+use crate::Participants;
 use crate::initialization::{fed, is_set_from};
 use crate::instants::is_present;
 use port_values::PortValues;
@@ -89,51 +90,26 @@ fn value_before(port: &Port, values: &PortValues) -> Option<i128>
     }
 }
 
-/// Whether a path of connections to some input makes a change of values. Where none does, no value is lost on its way.
-pub fn has_changes(system: &System) -> bool
-    ensures { (result ≡ false) ↔ HasNoChanges system.now }
-{
-    for port in system.ports.as_slice() {
-        if is_changed(&port.role) {
-            return true;
-        }
-    }
-    false
-}
-
-// Whether what feeds a port makes a change of values.
-fn is_changed(role: &Role) -> bool
-    ensures { (result ≡ false) ↔ IsPlain role.now }
-{
-    match role {
-        Role::Input { feed: Some(feed) } | Role::ClockInput { feed: Some(feed) } => {
-            feed.changes.len() > 0
-        }
-        Role::Input { feed: None }
-        | Role::Output
-        | Role::ClockInput { feed: None }
-        | Role::ClockOutput
-        | Role::TimeClock { .. } => false,
-    }
-}
-
-/// The least port that is a connected input of an instant whose source's value is lost on the way to it. `has_changes` tells
-/// whether some path makes a change: where none does, the ports aren't looked at.
-pub fn lost_in_instant(system: &System, has_changes: bool, values: &PortValues) -> Option<LostValue>
+/// The least port that is a connected input of an instant whose source's value is lost on the way to it. Of the ports it looks at
+/// the inputs whose path makes a change of values.
+pub fn lost_in_instant(
+    system: &System,
+    participants: &Participants,
+    values: &PortValues,
+) -> Option<LostValue>
     requires sound { IsSound system.now }
-    requires changes { has_changes ≡ false → HasNoChanges system.now }
+    requires participants { AreParticipants system.now participants.now }
     requires values { length values.now ≡ length system.now.ports }
     requires fitting { AreFitting system.now values.now }
     ensures { FindsLost (is_bad values.now) system.now.ports values.now result }
 {
-    if !has_changes {
-        return None;
-    }
     let ports = system.ports.as_slice();
-    for p in 0..ports.len() {
+    let mut p = participants.changed_inputs.from(0);
+    while p < ports.len() {
         if is_bad(&ports[p], values) {
             return lost_at(ports, p, values);
         }
+        p = participants.changed_inputs.from(p + 1);
     }
     None
 }

@@ -4,7 +4,7 @@ ghost use Rattle.sim_base.specs.declared.numbers.PortId.{PortId};
 ghost use Rattle.system_model.specs.Ports.{port_numbers};
 ghost use Rattle.system_model.specs.Sound.{IsSound};
 ghost use Rattle.event_iteration.specs.Intervals.{is_time_clock};
-ghost use Rattle.event_iteration.specs.Participants.{AreAtTicks, AreMarks, AreParticipants, AreSkips, AreUnfedAwaited, Awaits, LacksAt, is_fed_input, is_set_before_step, is_steady, is_unfed, waits_for_ticks};
+ghost use Rattle.event_iteration.specs.Participants.{AreAtTicks, AreMarks, AreParticipants, AreSkips, AreUnfedAwaited, Awaits, LacksAt, is_changed_input, is_fed_input, is_set_before_step, is_steady, is_unfed, waits_for_ticks};
 ghost use Rattle.event_iteration.specs.Settings.{port_order};
 
 use crate::Skips;
@@ -29,6 +29,8 @@ pub struct Participants {
     pub time_clocks: Skips,
     /// by port: the connected inputs of FMUs without event mode
     pub set_before_steps: Skips,
+    /// by port: the inputs that are no Clocks and whose path from their source makes a change of values
+    pub changed_inputs: Skips,
 }
 
 impl Participants {
@@ -42,6 +44,7 @@ impl Participants {
             at_ticks: places_at_ticks(alloc, system)?,
             time_clocks: time_clocks(alloc, system)?,
             set_before_steps: set_before_steps(alloc, system)?,
+            changed_inputs: changed_inputs(alloc, system)?,
         })
     }
 }
@@ -114,6 +117,18 @@ fn set_before_steps(alloc: Global, system: &System) -> Result<Skips, AllocError>
     Skips::of(alloc, keeps.as_slice())
 }
 
+// The inputs whose path makes a change of values.
+fn changed_inputs(alloc: Global, system: &System) -> Result<Skips, AllocError>
+    ensures { IfOk result (λ skips. AreSkips (length system.now.ports)
+        (LacksAt system.now (port_order system.now)
+        (λ (port : Port). is_changed_input port.role)) skips.next.items) }
+{
+    let ports = system.ports.as_slice();
+    let mut keeps = vec![in alloc; false; ports.len()]?;
+    mark_changed_inputs(ports, &mut keeps);
+    Skips::of(alloc, keeps.as_slice())
+}
+
 // Marks the time-based Clocks.
 fn mark_time_clocks(ports: &[Port], keeps: &mut [bool])
     requires { length keeps.old ≡ length ports.now }
@@ -123,6 +138,18 @@ fn mark_time_clocks(ports: &[Port], keeps: &mut [bool])
 {
     for p in 0..ports.len() {
         keeps[p] = is_time_clock(&ports[p].role);
+    }
+}
+
+// Marks the inputs whose path makes a change of values.
+fn mark_changed_inputs(ports: &[Port], keeps: &mut [bool])
+    requires { length keeps.old ≡ length ports.now }
+    ensures places { length keeps.new ≡ length keeps.old }
+    ensures marks { (p : ℕ) (port : Port) → slice_get ports.now p ≡ Some port →
+        slice_index_or keeps.new p false ≡ is_changed_input port.role }
+{
+    for p in 0..ports.len() {
+        keeps[p] = is_changed_input(&ports[p].role);
     }
 }
 
@@ -216,6 +243,20 @@ fn is_unfed(role: &Role) -> bool
     match role {
         Role::Input { feed: None } => true,
         Role::Input { feed: Some(_) }
+        | Role::Output
+        | Role::ClockInput { .. }
+        | Role::ClockOutput
+        | Role::TimeClock { .. } => false,
+    }
+}
+
+// Whether a port is an input, and no Clock, whose path makes a change of values.
+fn is_changed_input(role: &Role) -> bool
+    ensures { result ≡ is_changed_input role.now }
+{
+    match role {
+        Role::Input { feed: Some(feed) } => feed.changes.len() > 0,
+        Role::Input { feed: None }
         | Role::Output
         | Role::ClockInput { .. }
         | Role::ClockOutput

@@ -13,12 +13,13 @@ ghost use Rattle.system_model.specs.Sound.{IsSound};
 ghost use Rattle.run_model.specs.Machines.{AreFitting};
 ghost use Rattle.slot_calls.specs.Slots.{LiveSlot, instances};
 ghost use Rattle.slot_calls.specs.Stage.{shapes, shapes_of};
+ghost use Rattle.event_iteration.specs.BadEnds.{or_bad};
 ghost use Rattle.event_iteration.specs.Turns.{MayTurn, TakesTurn};
 ghost use Rattle.event_iteration.specs.Waits.{AreTurns, Gathered, GathersSome, IsOpen, IsReady, IsSilent, IsWay, IsWayOfCall, MayWalk, Moves, ReadsOrSets, Sends, StandsAfterReads, WalkOutcome, call_in, emptied, is_fed_by, passed_in, place, turned, waits_in};
 
 use crate::turn::ask_if;
 use fmi_calls::{BadStatus, Call, Kind, Reply};
-use fmu_peer::{Peer, Slot};
+use fmu_peer::{Peer, Slot, Why};
 use port_values::PortValues;
 use sim_base::{CompId, PortId};
 use slot_calls::{BadAnswer, send_many};
@@ -250,7 +251,8 @@ fn take<L: Peer, T: Turns>(
     values: &mut PortValues,
     p: usize,
     call: Option<Call>,
-) -> Result<(), BadAnswer>
+    bad: &mut BadAnswer,
+) -> Option<()>
     requires sound { IsSound system.now }
     requires holds { T.holds turns.now system.now }
     requires port { p < length system.now.ports }
@@ -264,21 +266,21 @@ fn take<L: Peer, T: Turns>(
         call ≡ (T.rules turns.now system.now).asks p port c values.old }
     requires may { MayTurn system.now (T.rules turns.now system.now) p values.old
         (instances L.view slots.old) }
-    ensures live { OnOk result (All (LiveSlot L.view) slots.new) }
+    ensures live { OnOk (or_bad result bad.new) (All (LiveSlot L.view) slots.new) }
     ensures turn { TakesTurn system.now (T.rules turns.now system.now) p values.old values.new
-        (instances L.view slots.old) (instances L.view slots.new) result }
+        (instances L.view slots.old) (instances L.view slots.new) (or_bad result bad.new) }
 {
     let port = &system.ports.as_slice()[p];
     match ask_if(&mut slots[port.component.0 as usize], call) {
         Ok(reply) => {
             let value = turns.value_of(system, p, values, values.at(p), &reply);
             values.put(p, value);
-            Ok(())
+            Some(())
         }
-        Err(why) => Err(BadAnswer {
-            component: port.component,
-            why,
-        }),
+        Err(why) => {
+            put_bad(bad, port.component, why);
+            None
+        }
     }
 }
 
@@ -289,6 +291,24 @@ const NO_REPLY: Reply = Reply::Refused {
     kind: Kind::FreeInstance,
     status: BadStatus::Fatal,
 };
+
+/// What stands at the place of an answer that isn't good as long as each is good.
+pub const NO_ANSWER: BadAnswer = BadAnswer {
+    component: CompId(0),
+    why: Why::Refused {
+        call: NO_CALL,
+        status: BadStatus::Fatal,
+    },
+};
+
+// Writes the answer of a component, which isn't good, to its place.
+#[cold]
+#[inline(never)]
+fn put_bad(bad: &mut BadAnswer, component: CompId, why: Why)
+    ensures { bad.new ≡ record { component = component; why = why } }
+{
+    *bad = BadAnswer { component, why };
+}
 
 // Makes the calls of ports that have one.
 fn make_calls<T: Turns>(
@@ -363,7 +383,8 @@ fn send_run<L: Peer, T: Turns>(
     waiting: &Waiting,
     calls: &mut [Call],
     replies: &mut [Reply],
-) -> Result<(), BadAnswer>
+    bad: &mut BadAnswer,
+) -> Option<()>
     requires sound { IsSound system.now }
     requires holds { T.holds turns.now system.now }
     requires live { All (LiveSlot L.view) slots.old }
@@ -372,10 +393,10 @@ fn send_run<L: Peer, T: Turns>(
     requires replies { length replies.old ≡ waiting.now.count }
     requires gathered { GathersSome system.now (T.rules turns.now system.now) waiting.now
         values.old (instances L.view slots.old) }
-    ensures live { OnOk result (All (LiveSlot L.view) slots.new) }
+    ensures live { OnOk (or_bad result bad.new) (All (LiveSlot L.view) slots.new) }
     ensures sends { Sends system.now (T.rules turns.now system.now) waiting.now
         (emptied waiting.now) values.old values.new (instances L.view slots.old)
-        (instances L.view slots.new) result }
+        (instances L.view slots.new) (or_bad result bad.new) }
 {
     let ports = waiting.as_slice();
     make_calls(system, turns, values, ports, calls);
@@ -383,12 +404,12 @@ fn send_run<L: Peer, T: Turns>(
         Ok(()) => {
             take_replied(system, turns, values, ports, replies);
             take_passed(system, turns, values, waiting.inputs());
-            Ok(())
+            Some(())
         }
-        Err(why) => Err(BadAnswer {
-            component: waiting.component,
-            why,
-        }),
+        Err(why) => {
+            put_bad(bad, waiting.component, why);
+            None
+        }
     }
 }
 
@@ -400,17 +421,18 @@ fn send_several<L: Peer, T: Turns>(
     turns: &T,
     values: &mut PortValues,
     waiting: &Waiting,
-) -> Result<(), BadAnswer>
+    bad: &mut BadAnswer,
+) -> Option<()>
     requires sound { IsSound system.now }
     requires holds { T.holds turns.now system.now }
     requires live { All (LiveSlot L.view) slots.old }
     requires some { 0 < waiting.now.count }
     requires gathered { GathersSome system.now (T.rules turns.now system.now) waiting.now
         values.old (instances L.view slots.old) }
-    ensures live { OnOk result (All (LiveSlot L.view) slots.new) }
+    ensures live { OnOk (or_bad result bad.new) (All (LiveSlot L.view) slots.new) }
     ensures sends { Sends system.now (T.rules turns.now system.now) waiting.now
         (emptied waiting.now) values.old values.new (instances L.view slots.old)
-        (instances L.view slots.new) result }
+        (instances L.view slots.new) (or_bad result bad.new) }
 {
     let mut calls = [NO_CALL; MOST];
     let mut replies = [NO_REPLY; MOST];
@@ -422,6 +444,7 @@ fn send_several<L: Peer, T: Turns>(
         waiting,
         &mut calls[..waiting.count],
         &mut replies[..waiting.count],
+        bad,
     )
 }
 
@@ -433,17 +456,18 @@ fn send_one<L: Peer, T: Turns>(
     turns: &T,
     values: &mut PortValues,
     waiting: &Waiting,
-) -> Result<(), BadAnswer>
+    bad: &mut BadAnswer,
+) -> Option<()>
     requires sound { IsSound system.now }
     requires holds { T.holds turns.now system.now }
     requires live { All (LiveSlot L.view) slots.old }
     requires one { waiting.now.count ≡ 1 }
     requires gathered { GathersSome system.now (T.rules turns.now system.now) waiting.now
         values.old (instances L.view slots.old) }
-    ensures live { OnOk result (All (LiveSlot L.view) slots.new) }
+    ensures live { OnOk (or_bad result bad.new) (All (LiveSlot L.view) slots.new) }
     ensures sends { Sends system.now (T.rules turns.now system.now) waiting.now
         (emptied waiting.now) values.old values.new (instances L.view slots.old)
-        (instances L.view slots.new) result }
+        (instances L.view slots.new) (or_bad result bad.new) }
 {
     let ports = waiting.as_slice();
     let calls = [waiting.first];
@@ -456,12 +480,12 @@ fn send_one<L: Peer, T: Turns>(
         Ok(()) => {
             take_replied(system, turns, values, ports, &replies);
             take_passed(system, turns, values, waiting.inputs());
-            Ok(())
+            Some(())
         }
-        Err(why) => Err(BadAnswer {
-            component: waiting.component,
-            why,
-        }),
+        Err(why) => {
+            put_bad(bad, waiting.component, why);
+            None
+        }
     }
 }
 
@@ -473,22 +497,23 @@ fn send_all<L: Peer, T: Turns>(
     turns: &T,
     values: &mut PortValues,
     waiting: &Waiting,
-) -> Result<(), BadAnswer>
+    bad: &mut BadAnswer,
+) -> Option<()>
     requires sound { IsSound system.now }
     requires holds { T.holds turns.now system.now }
     requires live { All (LiveSlot L.view) slots.old }
     requires some { 0 < waiting.now.count }
     requires gathered { GathersSome system.now (T.rules turns.now system.now) waiting.now
         values.old (instances L.view slots.old) }
-    ensures live { OnOk result (All (LiveSlot L.view) slots.new) }
+    ensures live { OnOk (or_bad result bad.new) (All (LiveSlot L.view) slots.new) }
     ensures sends { Sends system.now (T.rules turns.now system.now) waiting.now
         (emptied waiting.now) values.old values.new (instances L.view slots.old)
-        (instances L.view slots.new) result }
+        (instances L.view slots.new) (or_bad result bad.new) }
 {
     if waiting.count == 1 {
-        return send_one(slots, system, turns, values, waiting);
+        return send_one(slots, system, turns, values, waiting, bad);
     }
-    send_several(slots, system, turns, values, waiting)
+    send_several(slots, system, turns, values, waiting, bad)
 }
 
 /// Sends what waits, if anything does.
@@ -499,27 +524,29 @@ pub(crate) fn send_waiting<L: Peer, T: Turns>(
     turns: &T,
     values: &mut PortValues,
     waiting: &mut Waiting,
-) -> Result<(), BadAnswer>
+    bad: &mut BadAnswer,
+) -> Option<()>
     requires sound { IsSound system.now }
     requires holds { T.holds turns.now system.now }
     requires live { All (LiveSlot L.view) slots.old }
     requires gathered { GathersSome system.now (T.rules turns.now system.now) waiting.old
         values.old (instances L.view slots.old) }
-    ensures none { OnOk result (waiting.new.count ≡ 0) }
-    ensures live { OnOk result (All (LiveSlot L.view) slots.new) }
+    ensures none { OnOk (or_bad result bad.new) (waiting.new.count ≡ 0) }
+    ensures live { OnOk (or_bad result bad.new) (All (LiveSlot L.view) slots.new) }
     ensures sends { Sends system.now (T.rules turns.now system.now) waiting.old waiting.new
-        values.old values.new (instances L.view slots.old) (instances L.view slots.new) result }
+        values.old values.new (instances L.view slots.old) (instances L.view slots.new)
+        (or_bad result bad.new) }
 {
     if waiting.count == 0 {
-        return Ok(());
+        return Some(());
     }
-    match send_all(slots, system, turns, values, waiting) {
-        Ok(()) => {
+    match send_all(slots, system, turns, values, waiting, bad) {
+        Some(()) => {
             waiting.count = 0;
             waiting.passed = 0;
-            return Ok(());
+            return Some(());
         }
-        Err(bad) => return Err(bad),
+        None => return None,
     }
 }
 
@@ -534,7 +561,8 @@ fn advance<L: Peer, T: Turns>(
     k: usize,
     waiting: &mut Waiting,
     way: Way,
-) -> Result<(), BadAnswer>
+    bad: &mut BadAnswer,
+) -> Option<()>
     requires sound { IsSound system.now }
     requires holds { T.holds turns.now system.now }
     requires live { All (LiveSlot L.view) slots.old }
@@ -545,11 +573,11 @@ fn advance<L: Peer, T: Turns>(
     requires way { (d : PortId) → IsWay system.now (T.rules turns.now system.now) waiting.old
         (get_or order.now k d).0 values.old way }
     requires ready { IsReady way }
-    ensures live { OnOk result (All (LiveSlot L.view) slots.new) }
+    ensures live { OnOk (or_bad result bad.new) (All (LiveSlot L.view) slots.new) }
     ensures moves { Moves system.now (T.rules turns.now system.now) (port_numbers order.now)
         (place k waiting.old values.old (instances L.view slots.old))
         (place (k + 1) waiting.new values.new (instances L.view slots.new))
-        result }
+        (or_bad result bad.new) }
 {
     let number = order[k].0;
     let p = number as usize;
@@ -557,19 +585,19 @@ fn advance<L: Peer, T: Turns>(
         Way::Send => unreachable!(),
         Way::Skip => {
             waiting.pass(number);
-            return Ok(());
+            return Some(());
         }
         Way::Wait(call) => {
             let component = system.ports.as_slice()[p].component;
             waiting.push(number, component, call);
-            return Ok(());
+            return Some(());
         }
         Way::Quiet => {
             let value = turns.value_of(system, p, values, values.at(p), &None);
             values.put(p, value);
-            return Ok(());
+            return Some(());
         }
-        Way::Ask(call) => return take(slots, system, turns, values, p, Some(call)),
+        Way::Ask(call) => return take(slots, system, turns, values, p, Some(call), bad),
     }
 }
 
@@ -584,7 +612,8 @@ fn send_first<L: Peer, T: Turns>(
     values: &mut PortValues,
     k: usize,
     waiting: &mut Waiting,
-) -> Result<(), BadAnswer>
+    bad: &mut BadAnswer,
+) -> Option<()>
     requires sound { IsSound system.now }
     requires holds { T.holds turns.now system.now }
     requires live { All (LiveSlot L.view) slots.old }
@@ -592,19 +621,19 @@ fn send_first<L: Peer, T: Turns>(
     requires gathered { Gathered system.now (T.rules turns.now system.now) (port_numbers order.now)
         k
         waiting.old values.old (instances L.view slots.old) }
-    ensures live { OnOk result (All (LiveSlot L.view) slots.new) }
+    ensures live { OnOk (or_bad result bad.new) (All (LiveSlot L.view) slots.new) }
     ensures moves { Moves system.now (T.rules turns.now system.now) (port_numbers order.now)
         (place k waiting.old values.old (instances L.view slots.old))
         (place (k + 1) waiting.new values.new (instances L.view slots.new))
-        result }
+        (or_bad result bad.new) }
 {
-    match send_waiting(slots, system, turns, values, waiting) {
-        Ok(()) => {
+    match send_waiting(slots, system, turns, values, waiting, bad) {
+        Some(()) => {
             let p = order[k].0 as usize;
             let next = waiting.way_of(system, turns, p, values);
-            return advance(slots, system, turns, order, values, k, waiting, next);
+            return advance(slots, system, turns, order, values, k, waiting, next, bad);
         }
-        Err(bad) => return Err(bad),
+        None => return None,
     }
 }
 
@@ -618,7 +647,8 @@ pub(crate) fn go_on<L: Peer, T: Turns>(
     values: &mut PortValues,
     k: usize,
     waiting: &mut Waiting,
-) -> Result<(), BadAnswer>
+    bad: &mut BadAnswer,
+) -> Option<()>
     requires sound { IsSound system.now }
     requires holds { T.holds turns.now system.now }
     requires live { All (LiveSlot L.view) slots.old }
@@ -626,17 +656,17 @@ pub(crate) fn go_on<L: Peer, T: Turns>(
     requires gathered { Gathered system.now (T.rules turns.now system.now) (port_numbers order.now)
         k
         waiting.old values.old (instances L.view slots.old) }
-    ensures live { OnOk result (All (LiveSlot L.view) slots.new) }
+    ensures live { OnOk (or_bad result bad.new) (All (LiveSlot L.view) slots.new) }
     ensures moves { Moves system.now (T.rules turns.now system.now) (port_numbers order.now)
         (place k waiting.old values.old (instances L.view slots.old))
         (place (k + 1) waiting.new values.new (instances L.view slots.new))
-        result }
+        (or_bad result bad.new) }
 {
     let p = order[k].0 as usize;
     let way = waiting.way_of(system, turns, p, values);
     match way {
-        Way::Send => return send_first(slots, system, turns, order, values, k, waiting),
-        _ => return advance(slots, system, turns, order, values, k, waiting, way),
+        Way::Send => return send_first(slots, system, turns, order, values, k, waiting, bad),
+        _ => return advance(slots, system, turns, order, values, k, waiting, way, bad),
     }
 }
 
@@ -667,14 +697,24 @@ pub(crate) fn walk<L: Peer, T: Turns>(
     ensures fitting { AreFitting system.now values.new }
 {
     let mut waiting = Waiting::none();
+    let mut bad = NO_ANSWER;
     for k in 0..order.len() {
-        match go_on(slots, system, turns, order, values, k, &mut waiting) {
-            Ok(()) => {}
-            Err(bad) => return Err(bad),
+        match go_on(
+            slots,
+            system,
+            turns,
+            order,
+            values,
+            k,
+            &mut waiting,
+            &mut bad,
+        ) {
+            Some(()) => {}
+            None => return Err(bad),
         }
     }
-    match send_waiting(slots, system, turns, values, &mut waiting) {
-        Ok(()) => return Ok(()),
-        Err(bad) => return Err(bad),
+    match send_waiting(slots, system, turns, values, &mut waiting, &mut bad) {
+        Some(()) => return Ok(()),
+        None => return Err(bad),
     }
 }

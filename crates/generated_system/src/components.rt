@@ -3,7 +3,7 @@ ghost use Rattle.generated_system.specs.Generated.{component_of};
 
 use crate::drawn::DrawnMachine;
 use crate::shapes::shape;
-use sim_base::Text;
+use sim_base::{PartedText, Text};
 use std::alloc::{AllocError, Global};
 use system_model::Component;
 
@@ -15,8 +15,9 @@ pub(crate) fn component(
 ) -> Result<Component, AllocError>
     ensures { IfOk result (λ c. c ≡ component_of number machine) }
 {
+    let name = Text::from_string(format!(in alloc; "b{number}")?);
     Ok(Component {
-        name: Text::from_string(format!(in alloc; "b{number}")?),
+        name: PartedText::from_text(alloc, name)?,
         source: machine.source(),
         shape: shape(alloc, machine)?,
     })

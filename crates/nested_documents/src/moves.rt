@@ -3,20 +3,24 @@ ghost use Rattle.std.specs.Prelude.{◌≡◌, IfOk, length, map, option_map};
 ghost use Rattle.nested_documents.specs.Moves.{inner_file, moved_binding, moved_component_part, moved_connection, moved_connector_part, moved_origin, moved_parent, moved_system_part, name_below, outer_file, path_below, system_name, whole_name, whole_source};
 
 use crate::seam::{Frame, Seam, Side};
-use sim_base::Text;
+use sim_base::{PartedText, Text};
 use ssd_tree::{
     Binding, ComponentPart, Connection, Connector, Origin, Owner, SourceBase, SystemPart,
 };
 use std::alloc::{AllocError, Global};
 
-// A name below another.
-fn name_below(alloc: Global, above: &str, name: &str) -> Result<Text, AllocError>
+// A name below another, whose parts both share.
+fn name_below(
+    alloc: Global,
+    above: &PartedText,
+    name: &PartedText,
+) -> Result<PartedText, AllocError>
     ensures { IfOk result (λ full. full ≡ name_below above.now name.now) }
 {
-    let mut full = String::from_str(alloc, above)?;
-    full.push_str(".")?;
-    full.push_str(name)?;
-    Ok(Text::from_string(full))
+    let mut full = above.copy(alloc)?;
+    full.push(alloc, Text::from_str(alloc, ".")?)?;
+    full.append(name)?;
+    Ok(full)
 }
 
 // A path below a folder; the folder of the outermost document has no name.
@@ -310,12 +314,17 @@ impl Seam {
 }
 
 // The full name of a Component in the whole.
-fn full_name(alloc: Global, frame: &Frame, side: Side, name: Text) -> Result<Text, AllocError>
+fn full_name(
+    alloc: Global,
+    frame: &Frame,
+    side: Side,
+    name: PartedText,
+) -> Result<PartedText, AllocError>
     ensures { IfOk result (λ full. full ≡ whole_name frame.now side name) }
 {
     match side {
         Side::Outer => Ok(name),
-        Side::Inner => name_below(alloc, frame.name.as_str(), name.as_str()),
+        Side::Inner => name_below(alloc, &frame.name, &name),
     }
 }
 

@@ -179,7 +179,7 @@ impl Nest {
         Ok(Setting {
             nests: true,
             fmus: self.fmus(),
-            name_above: sum(component.name.as_str().len(), 1)?,
+            name_above: sum(component.name.len(), 1)?,
         })
     }
 

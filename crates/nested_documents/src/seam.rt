@@ -2,7 +2,7 @@
 ghost use Rattle.std.specs.Prelude.{◌≡◌, ◌+◌, IfOk, option_map};
 ghost use Rattle.nested_documents.specs.Moves.{after, moved_component, moved_connector, moved_node, moved_owner, moved_system};
 
-use sim_base::Text;
+use sim_base::{PartedText, Text};
 use ssd_tree::Owner;
 use std::alloc::AllocError;
 
@@ -38,7 +38,7 @@ pub struct Seam {
 #[derive(Drop)]
 pub struct Frame {
     /// its element names below the outermost System, joined with dots
-    pub name: Text,
+    pub name: PartedText,
     /// the last of them
     pub own_name: Text,
     /// the folder below which the inner document's paths stand; empty for that of the outermost document

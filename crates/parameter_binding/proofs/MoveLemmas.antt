@@ -22,7 +22,7 @@ use Rattle.parameter_binding.specs.declared.sets.BindingSets.{BindingSets}
 use Rattle.parameter_binding.specs.declared.walk.Walk.{Walk}
 use Rattle.parameter_binding.specs.Binds.{IsCandidate, IsLater, IsMapped, ReachesTarget, Triple, mapping_of, prefixed}
 use Rattle.parameter_binding.specs.Rules.{Breaks, Place}
-use Rattle.parameter_binding.specs.Walk.{AreGathered, FindsFault, IsCounted, IsGathered, IsNothing, IsUpToTriple, IsGatheredTo, IsWinner, best_of, names_in, triple_at}
+use Rattle.parameter_binding.specs.Walk.{AreAllGathered, AreGathered, FindsFault, IsCounted, IsGathered, IsNothing, IsUpToTriple, IsGatheredTo, IsWinner, best_of, names_in, triple_at}
 use Rattle.parameter_binding.proofs.GatherLemmas.{counted_as, counted_zero}
 
 -- a triple of a binding and a parameter that there are
@@ -172,6 +172,10 @@ gathered_none t shapes sets g nothing = record {
     none c (inl h) = omega (arith, h)
     none c (inr (x, inl y)) = omega (arith, y)
     none c (inr (x, inr y)) = let l = y.1 in omega (arith, l)
+
+-- where there are no bindings that is all
+pub gathered_nothing : (t : SystemTree) (shapes : List Shape) (sets : List BindingSets) (g : Gathered) → IsNothing g → length t.bindings ≡ 0 → AreAllGathered t shapes sets g
+gathered_nothing t shapes sets g nothing none = record { b = 0; come = gathered_none t shapes sets g nothing; all = λ e. omega (arith, none) }
 
 -- ---- which triples there are
 

@@ -15,6 +15,7 @@ use crate::fault::Fault;
 use crate::gathered::Gathered;
 use crate::walk::Walk;
 use doc_tree::{Refusal, Rule};
+use parameter_targets::full_names;
 use sim_base::Items;
 use ssd_tree::SystemTree;
 use std::alloc::{AllocError, Global};
@@ -22,6 +23,7 @@ use system_model::Bound;
 use value_types::Shape;
 
 // What all bindings give, up to the first with a fault.
+#[tactic(auto, using(crate::proofs::MoveLemmas::gathered_nothing))]
 fn gather(
     alloc: Global,
     tree: &SystemTree,
@@ -31,8 +33,12 @@ fn gather(
     requires { AreGiven tree.now shapes.now sets.now }
     ensures { IfOk result (AreAllGathered tree.now shapes.now sets.now) }
 {
-    let walk = Walk::new(alloc, tree, shapes, sets)?;
     let mut gathered = Gathered::new(alloc);
+    if tree.bindings.len() == 0 {
+        return Ok(gathered);
+    }
+    let names = full_names(alloc, tree)?;
+    let walk = Walk::new(alloc, tree, &names, shapes, sets)?;
     for b in 0..tree.bindings.len() {
         if gathered.fault.is_some() {
             return Ok(gathered);

@@ -9,7 +9,7 @@ ghost use Rattle.parameter_values.specs.Ready.{IsReady};
 ghost use Rattle.ssd_tree.specs.declared.tree.Binding.{Binding};
 ghost use Rattle.parameter_targets.specs.Chains.{AreChains};
 ghost use Rattle.ssd_tree.specs.Named.{IsOwner};
-ghost use Rattle.parameter_targets.specs.Tables.{text_of};
+ghost use Rattle.parameter_targets.specs.Tables.{AreFullNames, text_of};
 ghost use Rattle.parameter_binding.specs.declared.sets.BindingSets.{BindingSets};
 ghost use Rattle.parameter_binding.specs.Binds.{change_of};
 ghost use Rattle.parameter_binding.specs.Given.{AreGiven};
@@ -21,6 +21,7 @@ use crate::sets::MappingOf;
 use crate::visit::Visit;
 use parameter_targets::{Levels, NameChains, Targets};
 use parameter_values::{MappingEntry, Parameter, ReadyChange};
+use sim_base::Text;
 use ssd_tree::{Binding, SystemTree};
 use std::alloc::{AllocError, Global};
 use value_types::Shape;
@@ -92,10 +93,12 @@ impl<'a> Walk<'a> {
     pub(crate) fn new(
         alloc: Global,
         tree: &'a SystemTree,
+        names: &'a [Text],
         shapes: &'a [Shape],
         sets: &'a [BindingSets],
     ) -> Result<Walk<'a>, AllocError>
-        requires { AreGiven tree.now shapes.now sets.now }
+        requires names { AreFullNames tree.now names.now }
+        requires given { AreGiven tree.now shapes.now sets.now }
         ensures walk { IfOk result IsWalk }
         ensures tree { IfOk result (λ w. w.tree.now ≡ tree.now) }
         ensures shapes { IfOk result (λ w. w.shapes.now ≡ shapes.now) }
@@ -105,7 +108,7 @@ impl<'a> Walk<'a> {
             tree,
             shapes,
             sets,
-            targets: Targets::new(alloc, tree, shapes)?,
+            targets: Targets::new(alloc, tree, names, shapes)?,
             levels: Levels::of(alloc, tree)?,
         })
     }

@@ -1,10 +1,11 @@
 -- The paths of components, one more after another.
-use Rattle.std.proofs.Common.{◌≡◌, ◌⊎◌, ◌↔◌, ◌<◌, ◌≤◌, ◌+◌, ℕ, zero, suc, List, [], ◌∷◌, ◌++◌, length, set, get_or, replicate, Option, Some, None, refl, sym, ap, ◌∙◌, subst, inl, inr, arith}
+use Rattle.std.proofs.Common.{◌≡◌, ◌⊎◌, ◌↔◌, ◌<◌, ◌≤◌, ◌+◌, ℕ, zero, suc, List, [], ◌∷◌, ◌++◌, length, set, map, take, get_or, replicate, Option, Some, None, refl, sym, ap, ◌∙◌, subst, inl, inr, arith}
 use Rattle.std.specs.List.{slice_get, Contains}
 use Rattle.std.proofs.lemmas.Bool.{cases_lt}
-use Rattle.std.proofs.lemmas.List.{length-set, length_push, get_or-set_same}
+use Rattle.std.specs.Option.{option_map}
+use Rattle.std.proofs.lemmas.List.{length-map, length-set, length_push, get_or-set_same, map-append, take_all, take_more}
 use Rattle.std.proofs.lemmas.List.Elements.{All-contains, Contains-push}
-use Rattle.std.proofs.lemmas.Option.{same_Some, slice_get_within}
+use Rattle.std.proofs.lemmas.Option.{same_Some, slice_get-map, slice_get_within}
 use Rattle.ssd_tree.specs.declared.tree.SystemPart.{SystemPart}
 use Rattle.ssd_tree.specs.declared.tree.ComponentPart.{ComponentPart}
 use Rattle.ssd_tree.specs.declared.tree.SystemTree.{SystemTree}
@@ -14,7 +15,7 @@ use Rattle.parameter_targets.specs.declared.paths.Path.{Path}
 use Rattle.parameter_targets.specs.declared.paths.Paths.{Paths}
 use Rattle.ssd_tree.specs.Named.{BeginsWithScope, IsInScope, IsNamedTree}
 use Rattle.parameter_targets.specs.Scopes.{IsWithin, Same, Deeper}
-use Rattle.parameter_targets.specs.Tables.{AreRows, ArePaths, ArePathsBelow, IsPath, IsPathText, TellsPath}
+use Rattle.parameter_targets.specs.Tables.{AreFullNames, AreRows, ArePaths, ArePathsBelow, IsPath, IsPathText, TellsPath}
 use Rattle.parameter_targets.proofs.ListLemmas.{contains_at, push_cases}
 use Rattle.parameter_targets.proofs.PathLemmas.{begins_within, path_once}
 
@@ -206,3 +207,28 @@ ahead (Some u) = u + 1
 pub ahead_smaller : (t : SystemTree) (u : ℕ) (part : SystemPart) (o : Option ℕ) → IsNamedTree t → slice_get t.systems u ≡ Some part → o ≡ part.parent → ahead o < u + 1
 ahead_smaller t u part None named is e = omega arith
 ahead_smaller t u part (Some above) named is e = let l = named.outer u above part is (sym e) in omega (arith, l)
+
+-- ---- full names
+
+pub name_at : (t : SystemTree) (names : List (List ℕ)) (component : ℕ) (part : ComponentPart) (name : List ℕ) → AreFullNames t names → slice_get t.components component ≡ Some part → slice_get names component ≡ Some name → name ≡ part.name
+name_at t names component part name are is at =
+    let mapped : slice_get names component ≡ option_map name_of (slice_get t.components component) = ap (λ (z : List (List ℕ)). slice_get z component) are ∙ slice_get-map name_of t.components component in
+    same_Some name part.name (sym at ∙ mapped ∙ ap (option_map name_of) is)
+  where
+    name_of : ComponentPart → List ℕ
+    name_of c = c.name
+
+pub names_long : (t : SystemTree) (names : List (List ℕ)) → AreFullNames t names → length names ≡ length t.components
+names_long t names are = ap length are ∙ length-map t.components (λ (c : ComponentPart). c.name)
+
+pub names_more : (xs ys : List ComponentPart) (i : ℕ) (part : ComponentPart) (old new : List (List ℕ)) (name : List ℕ) → ys ≡ xs → i < length ys → part ≡ get_or ys i part → name ≡ part.name
+    → old ≡ map (λ (c : ComponentPart). c.name) (take i xs) → new ≡ old ++ name ∷ [] → new ≡ map (λ (c : ComponentPart). c.name) (take (i + 1) xs)
+names_more xs ys i part old new name same within is named was grown =
+    let inside : i < length xs = omega (arith, within, ap length same) in
+    let here : get_or xs i part ≡ part = ap (λ (z : List ComponentPart). get_or z i part) (sym same) ∙ sym is in
+    let step : take (i + 1) xs ≡ take i xs ++ part ∷ [] = take_more xs i part inside ∙ ap (λ z. take i xs ++ z ∷ []) here in
+    grown ∙ ap (λ z. z ++ name ∷ []) was ∙ ap (λ z. map (λ (c : ComponentPart). c.name) (take i xs) ++ z ∷ []) named
+    ∙ sym (map-append (λ (c : ComponentPart). c.name) (take i xs) (part ∷ [])) ∙ ap (map (λ (c : ComponentPart). c.name)) (sym step)
+
+pub names_all : (xs : List ComponentPart) (i : ℕ) (names : List (List ℕ)) → length xs ≤ i → names ≡ map (λ (c : ComponentPart). c.name) (take i xs) → names ≡ map (λ (c : ComponentPart). c.name) xs
+names_all xs i names past was = was ∙ ap (map (λ (c : ComponentPart). c.name)) (take_all i xs past)

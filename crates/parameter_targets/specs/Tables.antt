@@ -78,6 +78,10 @@ pub record IsNamedIn (shapes : List Shape) (component : ℕ) (name : List ℕ)
 
 -- ---- paths
 
+-- they are the full names of the components
+abbrev pub AreFullNames : SystemTree → List (List ℕ) → Type 0
+AreFullNames t names = names ≡ map (λ (c : ComponentPart). c.name) t.components
+
 -- what is left of the name after the scope of the System
 pub record IsPathText (t : SystemTree) (s : ℕ) (name text : List ℕ) : Type 0 where
   pub scope : List ℕ

@@ -11,5 +11,6 @@ mod targets;
 
 pub use chains::NameChains;
 pub use levels::Levels;
+pub use paths::full_names;
 pub use target::Target;
 pub use targets::Targets;

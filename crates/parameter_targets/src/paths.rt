@@ -4,9 +4,10 @@ ghost use Rattle.ssd_tree.specs.declared.tree.SystemTree.{SystemTree};
 ghost use Rattle.ssd_tree.specs.declared.tree.ComponentPart.{ComponentPart};
 ghost use Rattle.ssd_tree.specs.Named.{IsNamedTree, BeginsWithScope};
 ghost use Rattle.parameter_targets.specs.Scopes.{IsWithin};
-ghost use Rattle.parameter_targets.specs.Tables.{ArePaths, AreRows, IsPath, IsPathText, TellsPath};
+ghost use Rattle.parameter_targets.specs.Tables.{AreFullNames, ArePaths, AreRows, IsPath, IsPathText, TellsPath};
 
 use dependency_order::Lists;
+use sim_base::Text;
 use ssd_tree::SystemTree;
 use std::alloc::{AllocError, Global};
 
@@ -23,6 +24,17 @@ pub struct Paths<'a> {
     pub(crate) all: Vec<Path<'a>>,
     /// for each System the places of its paths
     pub(crate) below: Lists,
+}
+
+/// The full names of the components of a tree, each as one text.
+pub fn full_names(alloc: Global, tree: &SystemTree) -> Result<Vec<Text>, AllocError>
+    ensures { IfOk result (λ names. AreFullNames tree.now names.items) }
+{
+    let mut names = Vec::with_capacity(alloc, tree.components.len())?;
+    for part in tree.components.as_slice() {
+        names.push(part.name.text(alloc)?)?;
+    }
+    Ok(names)
 }
 
 // What is left after an element's name and its dot.
@@ -63,8 +75,14 @@ impl<'a> Paths<'a> {
     }
 
     // Puts the paths of a component from all Systems that it stands in.
-    fn put_component(&mut self, tree: &'a SystemTree, component: usize) -> Result<(), AllocError>
+    fn put_component(
+        &mut self,
+        tree: &SystemTree,
+        names: &'a [Text],
+        component: usize,
+    ) -> Result<(), AllocError>
         requires tree { IsNamedTree tree.now }
+        requires names { AreFullNames tree.now names.now }
         requires within { component < length tree.now.components }
         requires rows { AreRows (length tree.now.systems) self.old }
         ensures rows { OnOk result (AreRows (length tree.now.systems) self.new) }
@@ -73,21 +91,23 @@ impl<'a> Paths<'a> {
             ((c ≡ component) × IsPath tree.now s c text))) }
     {
         let part = &tree.components.as_slice()[component];
+        let name = names[component].as_str();
         let mut current = Some(part.system);
         while let Some(system) = current {
-            self.put(
-                system,
-                component,
-                path_from(tree, system, part.name.as_str()),
-            )?;
+            self.put(system, component, path_from(tree, system, name))?;
             current = tree.systems.as_slice()[system].parent;
         }
         Ok(())
     }
 
     /// The paths of all components.
-    pub(crate) fn of(alloc: Global, tree: &'a SystemTree) -> Result<Paths<'a>, AllocError>
-        requires { IsNamedTree tree.now }
+    pub(crate) fn of(
+        alloc: Global,
+        tree: &SystemTree,
+        names: &'a [Text],
+    ) -> Result<Paths<'a>, AllocError>
+        requires tree { IsNamedTree tree.now }
+        requires names { AreFullNames tree.now names.now }
         ensures { IfOk result (ArePaths tree.now) }
     {
         let mut paths = Paths {
@@ -95,7 +115,7 @@ impl<'a> Paths<'a> {
             below: Lists::new(alloc, tree.systems.len())?,
         };
         for component in 0..tree.components.len() {
-            paths.put_component(tree, component)?;
+            paths.put_component(tree, names, component)?;
         }
         Ok(paths)
     }

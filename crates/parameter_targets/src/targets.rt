@@ -4,12 +4,13 @@ ghost use Rattle.value_types.specs.declared.shape.Shape.{Shape};
 ghost use Rattle.parameter_targets.specs.declared.target.Target.{Target};
 ghost use Rattle.ssd_tree.specs.Named.{IsNamedTree, IsOwner};
 ghost use Rattle.parameter_targets.specs.Scopes.{Sees};
-ghost use Rattle.parameter_targets.specs.Tables.{AreAllPrefixes, AreNear, AreRows, AreTargets, IsNamedIn, IsSeenBelow, row_texts};
+ghost use Rattle.parameter_targets.specs.Tables.{AreAllPrefixes, AreFullNames, AreNear, AreRows, AreTargets, IsNamedIn, IsSeenBelow, row_texts};
 
 use crate::Target;
 use crate::paths::{Paths, after};
 use crate::shared::SharedNames;
 use name_prefixes::Prefixes;
+use sim_base::Text;
 use ssd_tree::{Owner, SystemTree};
 use std::alloc::{AllocError, Global};
 use value_types::Shape;
@@ -55,19 +56,21 @@ fn all_prefixes<'a>(alloc: Global, paths: &Paths<'a>) -> Result<Vec<Prefixes<'a>
 }
 
 impl<'a> Targets<'a> {
-    /// The parameters of all components, where each shape is a component's.
+    /// The parameters of all components, where each shape is a component's, and each name a component's full name.
     pub fn new(
         alloc: Global,
         tree: &'a SystemTree,
+        names: &'a [Text],
         shapes: &'a [Shape],
     ) -> Result<Targets<'a>, AllocError>
         requires tree { IsNamedTree tree.now }
+        requires names { AreFullNames tree.now names.now }
         requires shapes { length shapes.now ≡ length tree.now.components }
         ensures targets { IfOk result AreTargets }
         ensures tree { IfOk result (λ targets. targets.tree.now ≡ tree.now) }
         ensures shapes { IfOk result (λ targets. targets.shapes.now ≡ shapes.now) }
     {
-        let paths = Paths::of(alloc, tree)?;
+        let paths = Paths::of(alloc, tree, names)?;
         let prefixes = all_prefixes(alloc, &paths)?;
         Ok(Targets {
             tree,

@@ -7,7 +7,7 @@ pub use Rattle.run_model.proofs.Initially.{none_outside, read_unclocked, unclock
 pub use Rattle.run_model.proofs.InitiallySolvable.{solvable_initially}
 pub use Rattle.run_model.proofs.Midst.{all_at_last, all_at_last_initially, is-taken, keeps_beside, looks_in_midst, looks_initially, nothing_at_first, taken-is, writes_at_port}
 pub use Rattle.run_model.proofs.OneTrace.{ends_or_goes, situation_of, trace_same}
-pub use Rattle.run_model.proofs.PlainTraces.{none_bad}
+pub use Rattle.run_model.proofs.PlainTraces.{good_unchanged}
 pub use Rattle.run_model.proofs.Solvable.{solvable}
 pub use Rattle.run_model.proofs.States.{each-get, fmu_before, written-length}
 pub use Rattle.run_model.proofs.Unique.{IsClosed, closed-push, none_in, push_cases}

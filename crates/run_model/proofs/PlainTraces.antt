@@ -3,6 +3,7 @@ use Rattle.std.proofs.Common.{◌≡◌, ◌↔◌, ◌≤ℤ◌, ℕ, suc, ℤ,
 use Rattle.std.specs.Prelude.{IfSome, is_some, option_and_then, if◌then◌else◌, slice_get, int_le, ◌==◌, ◌-◌, ◌^◌, T}
 use Rattle.std.specs.List.{list_any}
 use Rattle.std.proofs.lemmas.Int.{ints}
+use Rattle.std.proofs.lemmas.Option.{same_Some}
 use Rattle.value_types.specs.Values.{Fits, greatest_of, least_of}
 use Rattle.value_types.specs.declared.values.PortType.{PortType}
 use Rattle.value_types.specs.declared.values.PortType.TheVariants.{Boolean, Clock, Enumeration, Int16, Int32, Int64, Int8, UInt16, UInt32, UInt64, UInt8}
@@ -123,54 +124,56 @@ none_so : (test : Port → Bool) (ports : List Port) → ((p : ℕ) (port : Port
 none_so test [] h = refl
 none_so test (port ∷ ports) h = ap (λ (b : Bool). b || list_any test ports) (h 0 port refl) ∙ none_so test ports (λ p q is. h (suc p) q is)
 
-module _ (system : System) (sound : IsSound system) (plain : HasNoChanges system) where
+module _ (system : System) (sound : IsSound system) where
   -- each value of its source is one of an input's type
-  within_feed : (p : ℕ) (port : Port) (feed : Feed) → slice_get system.ports p ≡ Some port → feed_of port.role ≡ Some feed → source_of port.role ≡ Some feed.from.0 → (V : List (Option ℤ)) → AreFitting system V → IfSome (source_value feed V) (Fits port.kind)
-  within_feed p port feed is by from V fit =
+  within_feed : (p : ℕ) (port : Port) (feed : Feed) → slice_get system.ports p ≡ Some port → feed_of port.role ≡ Some feed → feed.changes ≡ [] → source_of port.role ≡ Some feed.from.0 → (V : List (Option ℤ)) → AreFitting system V → IfSome (source_value feed V) (Fits port.kind)
+  within_feed p port feed is by none from V fit =
       let source = source_at system sound p feed.from.0 port is from in
-      wider source.source.kind port.kind (value V feed.from.0) (source.feed.range (plain p port source.by is source.by_is)) (fit feed.from.0 source.source source.is)
+      wider source.source.kind port.kind (value V feed.from.0) (source.feed.range (subst (λ (f : Feed). f.changes ≡ []) (same_Some feed source.by (sym by ∙ source.by_is)) none)) (fit feed.from.0 source.source source.is)
 
-  fed_is : (p : ℕ) (port : Port) (feed : Feed) → slice_get system.ports p ≡ Some port → port.role ≡ Input (Some feed) → (V : List (Option ℤ)) → AreFitting system V → fed port.kind feed V ≡ source_value feed V
-  fed_is p port feed is same V fit =
-      handed_fed port.kind feed V (plain p port feed is (ap feed_of same)) (within_feed p port feed is (ap feed_of same) (ap source_of same) V fit)
+  fed_is : (p : ℕ) (port : Port) (feed : Feed) → slice_get system.ports p ≡ Some port → port.role ≡ Input (Some feed) → feed.changes ≡ [] → (V : List (Option ℤ)) → AreFitting system V → fed port.kind feed V ≡ source_value feed V
+  fed_is p port feed is same none V fit =
+      handed_fed port.kind feed V none (within_feed p port feed is (ap feed_of same) none (ap source_of same) V fit)
 
-  not_lost : (p : ℕ) (port : Port) (feed : Feed) → slice_get system.ports p ≡ Some port → port.role ≡ Input (Some feed) → (V : List (Option ℤ)) → AreFitting system V → is_lost port.kind feed V ≡ false
-  not_lost p port feed is same V fit =
-      ap (λ (o : Option ℤ). is_some (source_value feed V) && not (is_some o)) (fed_is p port feed is same V fit) ∙ kept_some (source_value feed V)
+  not_lost : (p : ℕ) (port : Port) (feed : Feed) → slice_get system.ports p ≡ Some port → port.role ≡ Input (Some feed) → feed.changes ≡ [] → (V : List (Option ℤ)) → AreFitting system V → is_lost port.kind feed V ≡ false
+  not_lost p port feed is same none V fit =
+      ap (λ (o : Option ℤ). is_some (source_value feed V) && not (is_some o)) (fed_is p port feed is same none V fit) ∙ kept_some (source_value feed V)
 
-  is_good : (p : ℕ) (port : Port) → slice_get system.ports p ≡ Some port → (V : List (Option ℤ)) → AreFitting system V → is_bad V port ≡ false
-  is_good p port is V fit = by port.role refl
+  -- an input whose path makes no change loses no value
+  pub good_unchanged : (p : ℕ) (port : Port) → slice_get system.ports p ≡ Some port → ((feed : Feed) → port.role ≡ Input (Some feed) → feed.changes ≡ []) → (V : List (Option ℤ)) → AreFitting system V → is_bad V port ≡ false
+  good_unchanged p port is none V fit = by port.role refl
     where
       by : (role : Role) → port.role ≡ role → is_bad V port ≡ false
       by (Input None) e = ap (λ (x : Role). is_bad V (record port { role = x })) e
       by (Input (Some feed)) e =
           ap (λ (x : Role). is_bad V (record port { role = x })) e
-          ∙ ap (λ (b : Bool). is_present (record port { role = Input (Some feed) }) V && b) (not_lost p port feed is e V fit)
+          ∙ ap (λ (b : Bool). is_present (record port { role = Input (Some feed) }) V && b) (not_lost p port feed is e (none feed e) V fit)
           ∙ and_false (is_present (record port { role = Input (Some feed) }) V)
       by Output e = ap (λ (x : Role). is_bad V (record port { role = x })) e
       by (ClockInput feed) e = ap (λ (x : Role). is_bad V (record port { role = x })) e
       by ClockOutput e = ap (λ (x : Role). is_bad V (record port { role = x })) e
       by (TimeClock timing) e = ap (λ (x : Role). is_bad V (record port { role = x })) e
 
-  good_initially : (p : ℕ) (port : Port) → slice_get system.ports p ≡ Some port → (V : List (Option ℤ)) → AreFitting system V → is_bad_initially system V port ≡ false
-  good_initially p port is V fit = by port.role refl
+  good_initially : (p : ℕ) (port : Port) → slice_get system.ports p ≡ Some port → ((feed : Feed) → port.role ≡ Input (Some feed) → feed.changes ≡ []) → (V : List (Option ℤ)) → AreFitting system V → is_bad_initially system V port ≡ false
+  good_initially p port is none V fit = by port.role refl
     where
       by : (role : Role) → port.role ≡ role → is_bad_initially system V port ≡ false
       by (Input None) e = ap (λ (x : Role). is_bad_initially system V (record port { role = x })) e
       by (Input (Some feed)) e =
           ap (λ (x : Role). is_bad_initially system V (record port { role = x })) e
-          ∙ ap (λ (b : Bool). is_unclocked (record port { role = Input (Some feed) }) && is_unclocked_at system.ports feed.from.0 && b) (not_lost p port feed is e V fit)
+          ∙ ap (λ (b : Bool). is_unclocked (record port { role = Input (Some feed) }) && is_unclocked_at system.ports feed.from.0 && b) (not_lost p port feed is e (none feed e) V fit)
           ∙ and_false (is_unclocked (record port { role = Input (Some feed) }) && is_unclocked_at system.ports feed.from.0)
       by Output e = ap (λ (x : Role). is_bad_initially system V (record port { role = x })) e
       by (ClockInput feed) e = ap (λ (x : Role). is_bad_initially system V (record port { role = x })) e
       by ClockOutput e = ap (λ (x : Role). is_bad_initially system V (record port { role = x })) e
       by (TimeClock timing) e = ap (λ (x : Role). is_bad_initially system V (record port { role = x })) e
 
+module _ (system : System) (sound : IsSound system) (plain : HasNoChanges system) where
   pub none_bad : (V : List (Option ℤ)) → AreFitting system V → list_any (is_bad V) system.ports ≡ false
-  none_bad V fit = none_so (is_bad V) system.ports (λ p port is. is_good p port is V fit)
+  none_bad V fit = none_so (is_bad V) system.ports (λ p port is. good_unchanged system sound p port is (λ feed e. plain p port feed is (ap feed_of e)) V fit)
 
   pub none_bad_initially : (V : List (Option ℤ)) → AreFitting system V → list_any (is_bad_initially system V) system.ports ≡ false
-  none_bad_initially V fit = none_so (is_bad_initially system V) system.ports (λ p port is. good_initially p port is V fit)
+  none_bad_initially V fit = none_so (is_bad_initially system V) system.ports (λ p port is. good_initially system sound p port is (λ feed e. plain p port feed is (ap feed_of e)) V fit)
 
 module _ (r : Run) (sound : IsSound r.system) (plain : HasNoChanges r.system) where
   follows_whole : (s : Situation) (V : List (Option ℤ)) → AreFitting r.system V → following r s V ≡ following_whole r s V
@@ -183,7 +186,7 @@ module _ (r : Run) (sound : IsSound r.system) (plain : HasNoChanges r.system) wh
     where
       at : (p : ℕ) (port : Port) → slice_get r.system.ports p ≡ Some port → (role : Role) → port.role ≡ role → SolvesAt role r s V p port (value s.before p) (value V p) → HandsOnAt role r s V p port (value s.before p) (value V p)
       at p port is (Input None) e h = h
-      at p port is (Input (Some feed)) e h = h ∙ ap (λ (o : Option ℤ). if is_present port V then o else value s.before p) (fed_is r.system sound plain p port feed is e V fit)
+      at p port is (Input (Some feed)) e h = h ∙ ap (λ (o : Option ℤ). if is_present port V then o else value s.before p) (fed_is r.system sound p port feed is e (plain p port feed is (ap feed_of e)) V fit)
       at p port is Output e h = h
       at p port is (ClockInput feed) e h = h
       at p port is ClockOutput e h = h
@@ -194,7 +197,7 @@ module _ (r : Run) (sound : IsSound r.system) (plain : HasNoChanges r.system) wh
     where
       at : (p : ℕ) (port : Port) → slice_get r.system.ports p ≡ Some port → (role : Role) → port.role ≡ role → HandsOnAt role r s V p port (value s.before p) (value V p) → SolvesAt role r s V p port (value s.before p) (value V p)
       at p port is (Input None) e h = h
-      at p port is (Input (Some feed)) e h = h ∙ ap (λ (o : Option ℤ). if is_present port V then o else value s.before p) (sym (fed_is r.system sound plain p port feed is e V fit))
+      at p port is (Input (Some feed)) e h = h ∙ ap (λ (o : Option ℤ). if is_present port V then o else value s.before p) (sym (fed_is r.system sound p port feed is e (plain p port feed is (ap feed_of e)) V fit))
       at p port is Output e h = h
       at p port is (ClockInput feed) e h = h
       at p port is ClockOutput e h = h
@@ -238,7 +241,7 @@ module _ (r : Run) (sound : IsSound r.system) (plain : HasNoChanges r.system) wh
     where
       at : (p : ℕ) (port : Port) → slice_get r.system.ports p ≡ Some port → (role : Role) → port.role ≡ role → I.initial_value role r W p port ≡ handed_initially role r W p port
       at p port is (Input None) e = refl
-      at p port is (Input (Some feed)) e = ap (λ (o : Option ℤ). if is_unclocked port && is_unclocked_at r.system.ports feed.from.0 then o else None) (fed_is r.system sound plain p port feed is e W fit)
+      at p port is (Input (Some feed)) e = ap (λ (o : Option ℤ). if is_unclocked port && is_unclocked_at r.system.ports feed.from.0 then o else None) (fed_is r.system sound p port feed is e (plain p port feed is (ap feed_of e)) W fit)
       at p port is Output e = refl
       at p port is (ClockInput feed) e = refl
       at p port is ClockOutput e = refl
@@ -249,7 +252,7 @@ module _ (r : Run) (sound : IsSound r.system) (plain : HasNoChanges r.system) wh
     where
       at : (p : ℕ) (port : Port) → slice_get r.system.ports p ≡ Some port → (role : Role) → port.role ≡ role → handed_initially role r W p port ≡ I.initial_value role r W p port
       at p port is (Input None) e = refl
-      at p port is (Input (Some feed)) e = ap (λ (o : Option ℤ). if is_unclocked port && is_unclocked_at r.system.ports feed.from.0 then o else None) (sym (fed_is r.system sound plain p port feed is e W fit))
+      at p port is (Input (Some feed)) e = ap (λ (o : Option ℤ). if is_unclocked port && is_unclocked_at r.system.ports feed.from.0 then o else None) (sym (fed_is r.system sound p port feed is e (plain p port feed is (ap feed_of e)) W fit))
       at p port is Output e = refl
       at p port is (ClockInput feed) e = refl
       at p port is ClockOutput e = refl

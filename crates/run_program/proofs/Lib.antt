@@ -24,3 +24,4 @@ pub mod Finishing
 pub mod Generated
 pub mod HeldRuns
 pub mod RestRuns
+pub mod GivingUp

@@ -16,7 +16,7 @@ use fmi_calls::{Reply, Status};
 use fmu_peer::Why;
 use itoa::Buffer;
 use link_frames::put_reply;
-use sim_base::{PortId, escape};
+use sim_base::{PartedText, PortId, escape};
 use system_files::FileFault;
 use system_model::{Port, Role, System};
 use trace_check::Verdict;
@@ -73,27 +73,36 @@ pub(crate) fn write_checkpoint_message(path: &str, byte: u64, text: &mut [u8]) -
 
 /// Writes at the start of `text` the line of a component whose peer wasn't started, and answers its length.
 #[tactic(auto, unfolding(crate::specs::Message::start_message))]
-pub(crate) fn write_start_message(component: &str, fault: StartCause, text: &mut [u8]) -> usize
+pub(crate) fn write_start_message(
+    component: &PartedText,
+    fault: StartCause,
+    text: &mut [u8],
+) -> usize
     requires { room_for (length component.now) ≤ length text.old }
     ensures length { result ≤ length text.new }
     ensures text { take result text.new ≡ start_message component.now fault }
 {
     match fault {
-        StartCause::Failed => write_named(b"link ", component, b" start\n", text),
-        StartCause::Unknown => write_named(b"unknown ", component, b"\n", text),
+        StartCause::Failed => write_component(b"link ", component, b" start\n", text),
+        StartCause::Unknown => write_component(b"unknown ", component, b"\n", text),
     }
 }
 
 /// Writes at the start of `text` the line of a step that a component can't make, and answers its length. Point and end
 /// are counts.
 #[tactic(auto, unfolding(crate::specs::Message::fixed_message))]
-pub(crate) fn write_fixed_message(component: &str, point: u64, end: u64, text: &mut [u8]) -> usize
+pub(crate) fn write_fixed_message(
+    component: &PartedText,
+    point: u64,
+    end: u64,
+    text: &mut [u8],
+) -> usize
     requires { room_for (length component.now) ≤ length text.old }
     ensures length { result ≤ length text.new }
     ensures text { take result text.new ≡ fixed_message component.now point end }
 {
     let at = append(b"fixed ", text, 0);
-    let at = append_name(component, text, at);
+    let at = append_parts(component, text, at);
     let at = append(b" ", text, at);
     let at = append_number(point, text, at);
     let at = append(b" ", text, at);
@@ -104,7 +113,7 @@ pub(crate) fn write_fixed_message(component: &str, point: u64, end: u64, text: &
 /// Writes at the start of `text` the line of a variable on the way to which a value is lost, and answers its length.
 #[tactic(auto, unfolding(crate::specs::Message::range_message))]
 pub(crate) fn write_range_message(
-    component: &str,
+    component: &PartedText,
     variable: &str,
     value: i128,
     text: &mut [u8],
@@ -114,7 +123,7 @@ pub(crate) fn write_range_message(
     ensures text { take result text.new ≡ range_message component.now variable.now value }
 {
     let at = append(b"range ", text, 0);
-    let at = append_name(component, text, at);
+    let at = append_parts(component, text, at);
     let at = append(b" ", text, at);
     let at = append_name(variable, text, at);
     let at = append(b" ", text, at);
@@ -137,7 +146,7 @@ pub(crate) fn write_limit_message(point: u64, text: &mut [u8]) -> usize
 
 /// Writes at the start of `text` the line of a component's answer that isn't good, and answers its length.
 #[tactic(auto, unfolding(crate::specs::Message::bad_message))]
-pub(crate) fn write_bad_message(component: &str, why: &Why, text: &mut [u8]) -> usize
+pub(crate) fn write_bad_message(component: &PartedText, why: &Why, text: &mut [u8]) -> usize
     requires { room_for (length component.now) ≤ length text.old }
     ensures length { result ≤ length text.new }
     ensures text { take result text.new ≡ bad_message component.now why.now }
@@ -177,7 +186,7 @@ fn frame_digits(reply: &Reply) -> [u8; 48]
 }
 
 // What stands before the answer: a word, the component and the call.
-fn write_call(word: &[u8], component: &str, call: &str, text: &mut [u8]) -> usize
+fn write_call(word: &[u8], component: &PartedText, call: &str, text: &mut [u8]) -> usize
     requires word { length word.now ≤ 9 }
     requires call { length call.now ≤ 19 }
     requires room { 3 * length component.now + 29 ≤ length text.old }
@@ -186,7 +195,7 @@ fn write_call(word: &[u8], component: &str, call: &str, text: &mut [u8]) -> usiz
         call.now }
 {
     let at = append(word, text, 0);
-    let at = append_name(component, text, at);
+    let at = append_parts(component, text, at);
     let at = append(b" ", text, at);
     append(call.as_bytes(), text, at)
 }
@@ -200,6 +209,18 @@ fn write_named(prefix: &[u8], name: &str, back: &[u8], text: &mut [u8]) -> usize
 {
     let at = append(prefix, text, 0);
     let at = append_name(name, text, at);
+    append(back, text, at)
+}
+
+// The same for a component's full name.
+fn write_component(prefix: &[u8], name: &PartedText, back: &[u8], text: &mut [u8]) -> usize
+    requires pieces { length prefix.now + length back.now ≤ 16 }
+    requires room { 3 * length name.now + 16 ≤ length text.old }
+    ensures length { result ≤ length text.new }
+    ensures text { take result text.new ≡ prefix.now ++ escaped name.now ++ back.now }
+{
+    let at = append(prefix, text, 0);
+    let at = append_parts(name, text, at);
     append(back, text, at)
 }
 
@@ -222,6 +243,20 @@ fn append_name(name: &str, text: &mut [u8], at: usize) -> usize
 {
     let length = escape(name, &mut text[at..]);
     at + length
+}
+
+// The same for a name in parts.
+fn append_parts(name: &PartedText, text: &mut [u8], at: usize) -> usize
+    requires { at + 3 * length name.now ≤ length text.old }
+    ensures end { result ≤ at + 3 * length name.now }
+    ensures text { take result text.new ≡ take at text.old ++ escaped name.now }
+{
+    let mut end = at;
+    let mut parts = name.parts();
+    while let Some(part) = parts.next() {
+        end = append_name(part, text, end);
+    }
+    end
 }
 
 // Puts the digits of a number after what stands in the text up to `at`, and answers where they end.

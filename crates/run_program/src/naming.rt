@@ -4,7 +4,7 @@ ghost use Rattle.system_files.specs.Rooms.{room_for};
 
 use crate::outcome::{End, Outcome, StartCause};
 use crate::report::Report;
-use sim_base::{CompId, PortId, Text};
+use sim_base::{CompId, PartedText, PortId, Text};
 use std::alloc::Global;
 use step_master::RunEnd;
 use system_files::{NoMemory, make_room};
@@ -20,7 +20,7 @@ pub(crate) struct PortName {
 /// The names of a system's components and ports, and room for each line that names one of them.
 #[derive(Drop)]
 pub(crate) struct Naming {
-    pub names: Vec<Text>,
+    pub names: Vec<PartedText>,
     pub ports: Vec<PortName>,
     text: Vec<u8>,
     ghost holds: { All (λ name. All (λ (port : PortName).
@@ -30,7 +30,7 @@ pub(crate) struct Naming {
 
 /// The names of a port and its component, and room for each line that names them.
 struct NamedPort {
-    component: Text,
+    component: PartedText,
     name: Text,
     text: Vec<u8>,
     ghost holds: { room_for (length component + length name) ≤ length text.items },
@@ -38,7 +38,7 @@ struct NamedPort {
 
 /// A component's name, and room for each line that names it.
 struct Named {
-    name: Text,
+    name: PartedText,
     text: Vec<u8>,
     ghost holds: { room_for (length name) ≤ length text.items },
 }
@@ -179,15 +179,18 @@ impl Naming {
     }
 }
 
-// The names of components, and the greatest of their lengths.
-fn component_names(alloc: Global, components: &[Component]) -> Result<(Vec<Text>, usize), NoMemory>
+// The names of components, which share their parts, and the greatest of their lengths.
+fn component_names(
+    alloc: Global,
+    components: &[Component],
+) -> Result<(Vec<PartedText>, usize), NoMemory>
     ensures names { IfOk result (λ found. found.0.items ≡ map (λ c. c.name) components.now) }
     ensures longest { IfOk result (λ found. All (λ name. length name ≤ found.1) found.0.items) }
 {
     let mut names = Vec::with_capacity(alloc, components.len())?;
     let mut longest = 0;
     for component in components {
-        longest = longer(longest, component.name.as_str().len());
+        longest = longer(longest, component.name.len());
         names.push_reserved(component.name.copy(alloc)?);
     }
     Ok((names, longest))

@@ -1,5 +1,5 @@
 use fmu_peer::Why;
-use sim_base::Text;
+use sim_base::{PartedText, Text};
 use system_files::FileFault;
 
 /// How a command ends.
@@ -10,11 +10,19 @@ pub(crate) enum Outcome {
     /// Memory ran out before any FMU was called.
     Memory,
     /// A file wasn't taken.
-    File { path: Text, fault: FileFault },
+    File {
+        path: Text,
+        fault: FileFault,
+    },
     /// The peer of the component of this name wasn't started.
-    Start { component: Text, fault: StartCause },
+    Start {
+        component: PartedText,
+        fault: StartCause,
+    },
     /// All peers were started, and the run ended so.
-    Ran { end: End },
+    Ran {
+        end: End,
+    },
     /// The size of a system, or the numbers of a run, were told.
     Checked,
     /// They couldn't be put.
@@ -50,13 +58,13 @@ pub(crate) enum End {
     },
     /// before the step from a point to an end, whose size isn't the plan's, where this component takes no other
     FixedStep {
-        component: Text,
+        component: PartedText,
         at: u64,
         end: u64,
     },
     /// where a value of a source is lost on its way to this variable of a component, the least of those
     Range {
-        component: Text,
+        component: PartedText,
         variable: Text,
         value: i128,
     },
@@ -66,7 +74,7 @@ pub(crate) enum End {
     },
     /// by the first answer that isn't good, of this component
     Bad {
-        component: Text,
+        component: PartedText,
         why: Why,
     },
     /// by a put that failed

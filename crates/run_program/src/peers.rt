@@ -1,4 +1,5 @@
 ghost use Rattle.std.specs.Prelude.{◌≡◌, ◌+◌, ◌≤◌, [], All, IfErr, IfOk, length, map, vec_capacity};
+ghost use Rattle.fmu_peer.specs.Start.{AnswersUnknown, IsMade, IsStarted, NotesStart};
 ghost use Rattle.system_files.specs.Loads.{IsNamed};
 ghost use Rattle.run_program.specs.Peers.{StartsEach, StartsUpTo, with_all_retired};
 
@@ -37,13 +38,7 @@ pub(crate) fn start_each<S: Spawner>(
     let mut peers = room;
     for place in 0..components.len() {
         let component = &components[place];
-        match spawner.start(
-            alloc,
-            host,
-            component.name.as_str(),
-            folders[place].as_str(),
-            &component.shape,
-        ) {
+        match start_one(alloc, host, folders[place].as_str(), component, spawner) {
             Ok(peer) => peers.push_reserved(peer),
             Err(fault) => {
                 return Err(Unstarted {
@@ -55,6 +50,29 @@ pub(crate) fn start_each<S: Spawner>(
         }
     }
     Ok(peers)
+}
+
+// Starts a peer for a component, whose FMU lies in a folder.
+fn start_one<S: Spawner>(
+    alloc: Global,
+    host: &str,
+    folder: &str,
+    component: &Component,
+    spawner: &mut S,
+) -> Result<S::Link, StartFault>
+    requires { IsNamed component.now }
+    ensures fresh { IfOk result (λ link. IsStarted host.now component.now.name folder.now
+        component.now.shape (S.Link.view link)) }
+    ensures made { IfOk result (λ link. IsMade (S.view spawner.old) host.now component.now.shape
+        (S.Link.view link)) }
+    ensures unknown { AnswersUnknown ((S.view spawner.old).knows host.now
+        component.now.shape.identifier) result }
+    ensures noted { NotesStart (S.view spawner.old) (S.view spawner.new) result }
+{
+    let Ok(name) = component.name.text(alloc) else {
+        return Err(StartFault::Memory);
+    };
+    spawner.start(alloc, host, name.as_str(), folder, &component.shape)
 }
 
 /// Takes the peers back, in their order.

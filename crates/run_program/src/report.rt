@@ -9,7 +9,7 @@ use crate::message::{
 };
 use crate::outcome::{End, Outcome, StartCause};
 use fmu_peer::Why;
-use sim_base::{Sink, Text};
+use sim_base::{PartedText, Sink, Text};
 use std::alloc::Global;
 use system_files::FileFault;
 
@@ -105,12 +105,17 @@ fn file_status(fault: &FileFault) -> u8
     }
 }
 
-fn put_start_line<E: Sink>(component: &Text, fault: StartCause, text: &mut [u8], err: &mut E) -> u8
+fn put_start_line<E: Sink>(
+    component: &PartedText,
+    fault: StartCause,
+    text: &mut [u8],
+    err: &mut E,
+) -> u8
     requires { room_for (length component.now) ≤ length text.old }
     ensures { Reports (Some (start_message component.now fault)) 5 result (E.view err.old)
         (E.view err.new) }
 {
-    let length = write_start_message(component.as_str(), fault, text);
+    let length = write_start_message(component, fault, text);
     put_line(&text[..length], 5, err)
 }
 
@@ -123,7 +128,7 @@ fn put_end_line<E: Sink>(end: &End, text: &mut [u8], err: &mut E) -> u8
         End::Stop | End::Asked | End::Held { .. } => 0,
         End::EventLimit { point } => put_limit_line(*point, err),
         End::FixedStep { component, at, end } => {
-            let length = write_fixed_message(component.as_str(), *at, *end, text);
+            let length = write_fixed_message(component, *at, *end, text);
             put_line(&text[..length], 9, err)
         }
         End::Range {
@@ -131,11 +136,11 @@ fn put_end_line<E: Sink>(end: &End, text: &mut [u8], err: &mut E) -> u8
             variable,
             value,
         } => {
-            let length = write_range_message(component.as_str(), variable.as_str(), *value, text);
+            let length = write_range_message(component, variable.as_str(), *value, text);
             put_line(&text[..length], 13, err)
         }
         End::Bad { component, why } => {
-            let length = write_bad_message(component.as_str(), why, text);
+            let length = write_bad_message(component, why, text);
             put_line(&text[..length], why_status(why), err)
         }
         End::WriteFault => put_line(b"write\n", 10, err),

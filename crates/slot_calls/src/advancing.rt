@@ -126,6 +126,7 @@ fn send_in_step<L: Peer>(slot: &mut Slot<L>, ask: Ask) -> Result<bool, Why>
     }
 }
 
+// Each transition stands on its own and is not inlined, so that none pays for the room of the others.
 fn advance_held<L: Peer>(held: Held<L>, ask: Ask) -> (Held<L>, Result<bool, Why>)
     requires live { IsLive L.view held }
     requires permitted { MayBeAsked ask (L.view (peer_in held)) }
@@ -158,6 +159,7 @@ fn advance_held<L: Peer>(held: Held<L>, ask: Ask) -> (Held<L>, Result<bool, Why>
     }
 }
 
+#[inline(never)]
 fn instantiate<L: Peer>(fmu: Fmu<L, Fresh>, link: u32) -> (Held<L>, Result<bool, Why>)
     requires state { (L.view fmu.peer).phase.state ≡ P.Fresh }
     ensures { Moves L.view (Held.Fresh fmu) (instantiate_of link (L.view fmu.peer).fixed.shape)
@@ -172,6 +174,7 @@ fn instantiate<L: Peer>(fmu: Fmu<L, Fresh>, link: u32) -> (Held<L>, Result<bool,
     }
 }
 
+#[inline(never)]
 fn enter_initialization<L: Peer>(
     fmu: Fmu<L, Instantiated>,
     start: u64,
@@ -191,6 +194,7 @@ fn enter_initialization<L: Peer>(
     }
 }
 
+#[inline(never)]
 fn exit_initialization<L: Peer>(fmu: Fmu<L, Initializing>) -> (Held<L>, Result<bool, Why>)
     requires permitted { Permitted (L.view fmu.peer).fixed.shape
         (L.view fmu.peer).phase C.ExitInitialization }
@@ -216,6 +220,7 @@ fn held_running<L: Peer>(running: Running<L>) -> Held<L>
     }
 }
 
+#[inline(never)]
 fn enter_event<L: Peer>(fmu: Fmu<L, Stepping>) -> (Held<L>, Result<bool, Why>)
     requires permitted { Permitted (L.view fmu.peer).fixed.shape
         (L.view fmu.peer).phase C.EnterEvent }
@@ -230,6 +235,7 @@ fn enter_event<L: Peer>(fmu: Fmu<L, Stepping>) -> (Held<L>, Result<bool, Why>)
     }
 }
 
+#[inline(never)]
 fn enter_step<L: Peer>(fmu: Fmu<L, Eventing>) -> (Held<L>, Result<bool, Why>)
     requires permitted { Permitted (L.view fmu.peer).fixed.shape
         (L.view fmu.peer).phase C.EnterStep }

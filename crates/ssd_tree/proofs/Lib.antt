@@ -11,4 +11,5 @@ mod RootLemmas
 mod RuleLemmas
 mod MisreadLemmas
 mod PartLemmas
+mod ScopeLemmas
 mod ReadLemmas

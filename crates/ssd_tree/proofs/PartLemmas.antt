@@ -1,9 +1,8 @@
 -- What soundness gives the parts: names, kinds and ends that are there.
-use Rattle.std.proofs.Common.{◌≡◌, ◌⊎◌, ℕ, ◌<◌, Bool, true, false, ◌||◌, if◌then◌else◌, ◌+◌, ◌-◌, take, get_or, List, [], ◌∷◌, ◌++◌, length, Option, Some, None, IsSome, MatchOption, unwrap_or, codes, refl, sym, ap, ◌∙◌, subst, inl, inr}
+use Rattle.std.proofs.Common.{◌≡◌, ◌⊎◌, ℕ, ◌<◌, Bool, true, false, ◌||◌, if◌then◌else◌, ◌+◌, take, get_or, List, [], ◌∷◌, ◌++◌, length, Option, Some, None, IsSome, MatchOption, unwrap_or, codes, refl, sym, ap, ◌∙◌, subst, inl, inr}
 use Rattle.std.specs.List.{AllZip, Contains, find, list_any}
-use Rattle.std.specs.Option.{option_to_list}
 use Rattle.std.proofs.lemmas.Bool.{both_ways}
-use Rattle.std.proofs.lemmas.List.{take_more, append-nil}
+use Rattle.std.proofs.lemmas.List.{take_more}
 use Rattle.std.proofs.lemmas.List.Elements.{Contains-get_or}
 use Rattle.std.proofs.lemmas.Slice.Zip.{all_zipped_more}
 use Rattle.std.proofs.lemmas.Option.{same_Some, none-some}
@@ -15,8 +14,7 @@ use Rattle.doc_tables.proofs.CallerLemmas.{or_cases, key_if_true}
 use Rattle.ssd_tree.specs.Elements.{first_child, has_child, holder, both, element_key, mapping_key, kind_of, IsSystem, Outermost, Inner, IsComponent, IsPart, IsOfPart, IsConnector, IsConnection, IsBinding, IsMappingOf}
 use Rattle.ssd_tree.specs.Listings.{IsListing}
 use Rattle.ssd_tree.specs.Ends.{IsPartNamed, IsEnd}
-use Rattle.ssd_tree.specs.Parts.{IsFullName, InOutermost, InInner}
-use Rattle.ssd_tree.specs.Paths.{Climbs, LeadsOut}
+use Rattle.ssd_tree.specs.Paths.{Climbs}
 use Rattle.ssd_tree.specs.Rules.{IsSoundStructure}
 use Rattle.ssd_tree.proofs.ElementLemmas.{key_if_is}
 use Rattle.ssd_tree.proofs.OneLemmas.{alone_in_root, mapping_keyed}
@@ -171,43 +169,20 @@ climbs_last t k (y ∷ ys) x end way =
     let rest = climbs_last t way.1.0 ys x end way.1.2 in
     ((way.0, (way.1.0, way.1.1, rest.0)), rest.1)
 
+-- all on the way out of a System are Systems
+pub climbs_system : (t : List Node) (k : ℕ) (xs : List ℕ) (x end : ℕ) → IsSoundStructure t → IsSystem t k → Climbs t k (xs ++ x ∷ []) end → IsSystem t x
+climbs_system t k [] x end sound is way = subst (IsSystem t) (sym way.0) is
+climbs_system t k (y ∷ ys) x end sound is way = climbs_system t way.1.0 ys x end sound (part_inside t k way.1.0 sound (inl is) way.1.1) way.1.2
+
 -- the outermost System stands in no list
 pub outermost_alone : (t : List Node) (k : ℕ) → IsPart t k → holder t k (codes "Elements") ≡ None → parent t k ≡ Some 0
 outermost_alone t k (inl (Outermost _ named up)) h = up
 outermost_alone t k (inl (Inner _ outer named up is)) h = absurd (none-some outer (sym h ∙ up))
 outermost_alone t k (inr is) h = absurd (none-some is.1.0 (sym h ∙ is.1.1))
 
--- each on the way out is a part
-pub climbs_part : (t : List Node) (k : ℕ) (xs : List ℕ) (x end : ℕ) → IsSoundStructure t → IsPart t k → Climbs t k (xs ++ x ∷ []) end → IsPart t x
-climbs_part t k [] x end sound is way = subst (IsPart t) (sym way.0) is
-climbs_part t k (y ∷ ys) x end sound is way = climbs_part t way.1.0 ys x end sound (inl (part_inside t k way.1.0 sound is way.1.1)) way.1.2
-
 pub part_has_name : (t : List Node) (k : ℕ) → IsSoundStructure t → IsPart t k → attribute t k (codes "name") ≡ Some (text_of t k (codes "name"))
 part_has_name t k sound (inl is) = is_text (attribute t k (codes "name")) (system_named t k sound is)
 part_has_name t k sound (inr is) = is_text (attribute t k (codes "name")) (component_named t k sound is)
-
--- a Component has a way out
-pub leads_some : (t : List Node) (k : ℕ) → IsSoundStructure t → IsComponent t k → LeadsOut t k [] → ⊥
-leads_some t k sound is way = alone_in_root t k is.1.0 sound (subst (λ (z : ℕ). parent t z ≡ Some 0) (sym way.1) way.2) is.1.1
-
--- the element that is last on the way out has its own name
-pub first_name : (t : List Node) (k : ℕ) (xs ys : List ℕ) (x : ℕ) (name : List ℕ) → IsSoundStructure t → IsComponent t k → LeadsOut t k ys → ys ≡ xs ++ x ∷ [] → name ≡ text_of t x (codes "name")
-    → (last : ℕ) × ((outer : ℕ) × Climbs t k xs last × (holder t last (codes "Elements") ≡ Some outer) × IsFullName t last name)
-first_name t k xs ys x name sound is way split same =
-    let climbs : Climbs t k (xs ++ x ∷ []) way.0 = subst (λ (zs : List ℕ). Climbs t k zs way.0) split way.1 in
-    let parts = climbs_last t k xs x way.0 climbs in
-    let named : attribute t x (codes "name") ≡ Some name = part_has_name t x sound (climbs_part t k xs x way.0 sound (inr is) climbs) ∙ ap (λ (z : List ℕ). Some z) (sym same) in
-    (x, (way.0, parts.0, parts.1, InOutermost x way.0 name parts.1 way.2 named))
-
--- the next one's name comes after it
-pub next_name : (t : List Node) (k : ℕ) (xs ys : List ℕ) (x : ℕ) (old new : List ℕ) → IsSoundStructure t → IsComponent t k
-    → (last : ℕ) × ((outer : ℕ) × Climbs t k ys last × (holder t last (codes "Elements") ≡ Some outer) × IsFullName t last old) → ys ≡ xs ++ x ∷ [] → new ≡ old ++ 46 ∷ text_of t x (codes "name")
-    → (last : ℕ) × ((outer : ℕ) × Climbs t k xs last × (holder t last (codes "Elements") ≡ Some outer) × IsFullName t last new)
-next_name t k xs ys x old new sound is (last, (outer, way, up, full)) split same =
-    let climbs : Climbs t k (xs ++ x ∷ []) last = subst (λ (zs : List ℕ). Climbs t k zs last) split way in
-    let parts = climbs_last t k xs x last climbs in
-    let named : attribute t x (codes "name") ≡ Some (text_of t x (codes "name")) = part_has_name t x sound (climbs_part t k xs x last sound (inr is) climbs) in
-    (x, (last, parts.0, parts.1, subst (IsFullName t x) (sym same) (InInner x last outer old (text_of t x (codes "name")) parts.1 up full named)))
 
 -- ---- one part more
 
@@ -222,9 +197,3 @@ part_more {B} R xs ys ps qs i p same within all one grown =
     let step : AllZip R (take i xs ++ get_or xs i 0 ∷ []) (ps ++ p ∷ []) = all_zipped_more R (take i xs) ps (get_or xs i 0) p all here in
     subst (λ (zs : List B). AllZip R (take (i + 1) xs) zs) (sym grown)
     (subst (λ (zs : List ℕ). AllZip R zs (ps ++ p ∷ [])) (sym (take_more xs i 0 inside)) step)
-
--- something is taken from a list that isn't empty
-pub pop_some : (xs ys : List ℕ) (n : ℕ) (o : Option ℕ) → xs ≡ ys ++ option_to_list o → ys ≡ take (n - 1) xs → (o ≡ None → n ≡ 0) → (xs ≡ [] → ⊥) → IsSome o
-pop_some xs ys n None split rest zero some =
-    absurd (some (split ∙ append-nil ys ∙ rest ∙ ap (λ (m : ℕ). take (m - 1) xs) (zero refl)))
-pop_some xs ys n (Some x) split rest zero some = refl

@@ -1,12 +1,13 @@
 //! What a sound document says: its systems, components, connectors, connections and bindings.
-ghost use Rattle.std.specs.Prelude.{◌≡◌, ℕ, IfOk, IsSome, codes, slice_get, vec_len};
+ghost use Rattle.std.specs.Prelude.{◌≡◌, ℕ, IfOk, IsSome, Some, codes, slice_get, vec_len};
 ghost use Rattle.std.specs.List.{AllZip};
 ghost use Rattle.doc_tables.specs.Elements.{attribute, Lacks};
 ghost use Rattle.ssd_tree.specs.Elements.{holder, IsBinding, IsComponent, IsConnection, IsConnector, IsOfPart, IsPart, IsSystem};
 ghost use Rattle.ssd_tree.specs.Indexed.{IsIndexed, nodes_of};
 ghost use Rattle.ssd_tree.specs.Lists.{tree_of};
-ghost use Rattle.ssd_tree.specs.Parts.{base_of, Describes, HasPath, IsBindingPart, IsChangeBy, IsComponentPart, IsConnectionPart, IsConnectorPart, IsFullName, IsMappingOrigin, IsOrigin, IsPlaceOf, IsSystemPart, IsValuesOrigin, owner_node};
+ghost use Rattle.ssd_tree.specs.Names.{AreDotted, IsDotted, IsNameScope};
 ghost use Rattle.ssd_tree.specs.Paths.{LeadsOut};
+ghost use Rattle.ssd_tree.specs.Parts.{base_of, Describes, HasPath, IsBindingPart, IsChangeBy, IsComponentPart, IsConnectionPart, IsConnectorPart, IsFullName, IsMappingOrigin, IsOrigin, IsPlaceOf, IsSystemPart, IsValuesOrigin, owner_node};
 ghost use Rattle.ssd_tree.specs.Rules.{IsSoundStructure};
 ghost use Rattle.transformations.specs.Elements.{first_transformation};
 
@@ -20,7 +21,7 @@ use crate::tree::{
 use doc_tables::{attribute, lacks, text_of};
 use doc_tree::Tree;
 use parameter_values::Change;
-use sim_base::{Items, Text, plain_path};
+use sim_base::{Items, PartedText, Text, plain_path};
 use std::alloc::{AllocError, Global};
 use transformations::{first_transformation, read_transformation};
 
@@ -97,36 +98,13 @@ fn path_out(alloc: Global, tree: &Tree, node: usize) -> Result<Vec<usize>, Alloc
     Ok(path)
 }
 
-// The names of these elements, the last first, joined with dots.
-fn joined_names(
-    alloc: Global,
-    tree: &Tree,
-    path: Vec<usize>,
-    node: usize,
-) -> Result<Text, AllocError>
-    requires leads { LeadsOut tree.now node path.items }
-    requires component { IsComponent tree.now node }
-    requires sound { IsSoundStructure tree.now }
-    ensures { IfOk result (IsFullName tree.now node) }
+// The name of an element, with a dot after it.
+fn dotted(alloc: Global, tree: &Tree, node: usize) -> Result<PartedText, AllocError>
+    ensures { IfOk result (IsDotted tree.now node) }
 {
-    let mut path = path;
-    let outermost = path.pop().unwrap();
-    let mut name = String::from_str(alloc, text_of(tree, outermost, "name"))?;
-    while let Some(inner) = path.pop() {
-        name.push_str(".")?;
-        name.push_str(text_of(tree, inner, "name"))?;
-    }
-    Ok(Text::from_string(name))
-}
-
-// The element names below the outermost System, joined with dots.
-fn full_name(alloc: Global, tree: &Tree, node: usize) -> Result<Text, AllocError>
-    requires component { IsComponent tree.now node }
-    requires sound { IsSoundStructure tree.now }
-    ensures { IfOk result (IsFullName tree.now node) }
-{
-    let path = path_out(alloc, tree, node)?;
-    joined_names(alloc, tree, path, node)
+    let mut name = String::from_str(alloc, text_of(tree, node, "name"))?;
+    name.push_str(".")?;
+    PartedText::from_text(alloc, Text::from_string(name))
 }
 
 // What a connection does to values, by the first of its transformations.
@@ -219,16 +197,77 @@ impl IndexedTree<'_> {
         })
     }
 
-    fn component_part(&self, alloc: Global, node: usize) -> Result<ComponentPart, AllocError>
+    // The name of each System, with a dot after it.
+    fn dotted_names(&self, alloc: Global) -> Result<Vec<PartedText>, AllocError>
+        requires indexed { IsIndexed self.now }
+        requires sound { IsSoundStructure self.now.tree.now }
+        ensures { IfOk result
+            (λ v. AreDotted self.now.tree.now self.now.lists.systems.items v.items) }
+    {
+        let mut names = Vec::new(alloc);
+        for node in &self.lists.systems {
+            names.push(dotted(alloc, self.tree, *node)?)?;
+        }
+        Ok(names)
+    }
+
+    // What stands before the names of a System's elements, which shares the names of the Systems.
+    fn scope(
+        &self,
+        alloc: Global,
+        system: usize,
+        names: &[PartedText],
+    ) -> Result<PartedText, AllocError>
+        requires indexed { IsIndexed self.now }
+        requires sound { IsSoundStructure self.now.tree.now }
+        requires is { IsSystem self.now.tree.now system }
+        requires names { AreDotted self.now.tree.now self.now.lists.systems.items names.now }
+        ensures { IfOk result (IsNameScope self.now.tree.now system) }
+    {
+        let mut path = path_out(alloc, self.tree, system)?;
+        let mut scope = PartedText::new(alloc);
+        while let Some(inner) = path.pop() {
+            let place = self.system_place(inner);
+            scope.append(&names[place])?;
+        }
+        Ok(scope)
+    }
+
+    // The element names below the outermost System, joined with dots.
+    fn full_name(
+        &self,
+        alloc: Global,
+        node: usize,
+        names: &[PartedText],
+    ) -> Result<PartedText, AllocError>
         requires indexed { IsIndexed self.now }
         requires sound { IsSoundStructure self.now.tree.now }
         requires is { IsComponent self.now.tree.now node }
+        requires names { AreDotted self.now.tree.now self.now.lists.systems.items names.now }
+        ensures { IfOk result (IsFullName self.now.tree.now node) }
+    {
+        let system = holder(self.tree, node, "Elements").unwrap();
+        let mut name = self.scope(alloc, system, names)?;
+        name.push(alloc, text(alloc, self.tree, node, "name")?)?;
+        Ok(name)
+    }
+
+    fn component_part(
+        &self,
+        alloc: Global,
+        node: usize,
+        names: &[PartedText],
+    ) -> Result<ComponentPart, AllocError>
+        requires indexed { IsIndexed self.now }
+        requires sound { IsSoundStructure self.now.tree.now }
+        requires is { IsComponent self.now.tree.now node }
+        requires names { AreDotted self.now.tree.now self.now.lists.systems.items names.now }
         ensures { IfOk result (IsComponentPart self.now.tree.now (nodes_of self.now.lists) node) }
     {
         Ok(ComponentPart {
             node,
             system: self.system_of(node),
-            name: full_name(alloc, self.tree, node)?,
+            name: self.full_name(alloc, node, names)?,
             source: source(alloc, self.tree, node)?,
         })
     }
@@ -312,9 +351,10 @@ impl IndexedTree<'_> {
             (λ v. AllZip (IsComponentPart self.now.tree.now (nodes_of self.now.lists))
             self.now.lists.components.items v.items) }
     {
+        let names = self.dotted_names(alloc)?;
         let mut parts = Vec::new(alloc);
         for node in &self.lists.components {
-            parts.push(self.component_part(alloc, *node)?)?;
+            parts.push(self.component_part(alloc, *node, names.as_slice())?)?;
         }
         Ok(parts)
     }

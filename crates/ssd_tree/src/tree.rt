@@ -1,5 +1,5 @@
 use parameter_values::Change;
-use sim_base::{Items, Text};
+use sim_base::{Items, PartedText, Text};
 
 /// What a connector is for (SSP 1.0, Connector: `kind`).
 #[derive(Clone, Copy, Debug, PartialEq, Eq)]
@@ -75,8 +75,8 @@ pub struct ComponentPart {
     pub node: usize,
     /// the place of the System that it stands in
     pub system: usize,
-    /// the element names below the outermost System, joined with dots
-    pub name: Text,
+    /// the element names below the outermost System, joined with dots; it shares those of the Systems around
+    pub name: PartedText,
     /// the path that it names without the segments that lead nowhere: two sources are one where these are equal
     pub source: Text,
 }

@@ -6,7 +6,7 @@ ghost use Rattle.system_loading.specs.Outlines.{binding_tree, document_in, eleme
 use crate::documents::{SystemDocument, document_at, place_at, place_in_tree, whole_place};
 use doc_tree::{Place, Tree};
 use nested_documents::Numbers;
-use sim_base::{Items, Text};
+use sim_base::{Items, PartedText, Text};
 use ssd_tree::{ComponentPart, SystemPart, SystemTree};
 use std::alloc::{AllocError, Global};
 
@@ -85,7 +85,7 @@ pub fn lone_outline(alloc: Global) -> Result<Outline, AllocError>
     components.push_reserved(ComponentPart {
         node: 0,
         system: 0,
-        name: Text::from_str(alloc, "fmu")?,
+        name: PartedText::from_text(alloc, Text::from_str(alloc, "fmu")?)?,
         source: Text::from_str(alloc, "")?,
     });
     Ok(Outline {

@@ -1,14 +1,14 @@
 ghost use Rattle.std.specs.Prelude.{◌≡◌, [], IfOk};
 
 use parameter_values::Change;
-use sim_base::{CompId, Items, PortId, SourceId, Text};
+use sim_base::{CompId, Items, PartedText, PortId, SourceId, Text};
 use std::alloc::{AllocError, Global};
 use value_types::{PortType, Shape};
 
 /// A component: one FMU instance under its full name.
 #[derive(Debug, Drop)]
 pub struct Component {
-    pub name: Text,
+    pub name: PartedText,
     pub source: SourceId,
     pub shape: Shape,
 }

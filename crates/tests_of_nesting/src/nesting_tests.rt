@@ -55,7 +55,7 @@ fn says_inlined(alloc: Global, lists: &str, documents: &[(&str, &str)], inlined:
         return false;
     };
     match finish(alloc, nest) {
-        Some(Ok(whole)) => same_trees(&whole.systems, &wanted),
+        Some(Ok(whole)) => same_trees(alloc, &whole.systems, &wanted),
         _ => false,
     }
 }

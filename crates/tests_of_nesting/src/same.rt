@@ -1,4 +1,6 @@
+use sim_base::PartedText;
 use ssd_tree::{Binding, ComponentPart, Connection, Connector, Origin, SystemPart, SystemTree};
+use std::alloc::Global;
 
 fn same_systems(one: &[SystemPart], other: &[SystemPart]) -> bool {
     one.len() == other.len()
@@ -7,11 +9,18 @@ fn same_systems(one: &[SystemPart], other: &[SystemPart]) -> bool {
         })
 }
 
-fn same_components(one: &[ComponentPart], other: &[ComponentPart]) -> bool {
+fn same_name(alloc: Global, one: &PartedText, other: &PartedText) -> bool {
+    match other.text(alloc) {
+        Ok(text) => one.is(text.as_str().as_bytes()),
+        Err(_) => false,
+    }
+}
+
+fn same_components(alloc: Global, one: &[ComponentPart], other: &[ComponentPart]) -> bool {
     one.len() == other.len()
         && one.iter().zip(other).all(|(a, b)| {
             a.system == b.system
-                && a.name.as_str() == b.name.as_str()
+                && same_name(alloc, &a.name, &b.name)
                 && a.source.as_str() == b.source.as_str()
         })
 }
@@ -67,9 +76,13 @@ fn same_bindings(one: &[Binding], other: &[Binding]) -> bool {
 }
 
 /// Whether two trees are the same but for the numbers of elements.
-pub(crate) fn same_trees(one: &SystemTree, other: &SystemTree) -> bool {
+pub(crate) fn same_trees(alloc: Global, one: &SystemTree, other: &SystemTree) -> bool {
     same_systems(one.systems.as_slice(), other.systems.as_slice())
-        && same_components(one.components.as_slice(), other.components.as_slice())
+        && same_components(
+            alloc,
+            one.components.as_slice(),
+            other.components.as_slice(),
+        )
         && same_connectors(one.connectors.as_slice(), other.connectors.as_slice())
         && same_connections(one.connections.as_slice(), other.connections.as_slice())
         && same_bindings(one.bindings.as_slice(), other.bindings.as_slice())

@@ -360,7 +360,7 @@ fn are_systems(read: &SystemTree) -> bool {
 fn are_components(read: &SystemTree) -> bool {
     read.components.len() == COMPONENTS.len()
         && read.components.as_slice().iter().zip(&COMPONENTS).all(|(component, row)| {
-            component.name.as_str() == row.0
+            component.name.is(row.0.as_bytes())
                 && component.source.as_str() == row.1
                 && component.system == row.2
         })
@@ -456,7 +456,7 @@ fn thirty_systems(alloc: Global) -> Result<String, AllocError> {
 
 fn is_deep(component: Option<&ComponentPart>) -> bool {
     match component {
-        Some(component) => component.name.as_str().len() == 59 && component.system == 29,
+        Some(component) => component.name.len() == 59 && component.system == 29,
         None => false,
     }
 }

@@ -9,7 +9,7 @@ fn told_components(alloc: Global, made: &GeneratedSystem) -> Result<String, Allo
     let components = made.system.components.as_slice();
     let bound = made.bound.components.as_slice();
     for (component, values) in components.iter().zip(bound) {
-        told.push_str(component.name.as_str())?;
+        told.push_str(component.name.text(alloc)?.as_str())?;
         told.push_str(" ")?;
         told.push_str(component.shape.identifier.as_str())?;
         for value in values.as_slice() {

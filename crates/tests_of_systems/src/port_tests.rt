@@ -1,5 +1,5 @@
 use port_orders::{OrderFault, Orders, are_placed, order_system};
-use sim_base::{CompId, Items, PortId, SourceId, Text};
+use sim_base::{CompId, Items, PartedText, PortId, SourceId, Text};
 use std::alloc::{AllocError, Global};
 use std::test::Fail;
 use system_model::{Component, Feed, Port, Role, Timing};
@@ -99,7 +99,7 @@ fn component(
     variables: Vec<Variable>,
     listed: Option<&[u32]>,
 ) -> Result<Component, AllocError> {
-    let name = Text::from_str(alloc, "g")?;
+    let name = PartedText::from_text(alloc, Text::from_str(alloc, "g")?)?;
     Ok(Component {
         name,
         source: SourceId(0),

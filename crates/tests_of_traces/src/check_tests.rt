@@ -2,7 +2,7 @@ ghost use Rattle.std.specs.Prelude.{IsTrue};
 ghost use Rattle.trace_check.specs.Ticks.{HasLimitedClocks, HasLimits};
 
 use clock_fraction::Fraction;
-use sim_base::{CompId, Items, PortId, SourceId, Text};
+use sim_base::{CompId, Items, PartedText, PortId, SourceId, Text};
 use std::alloc::{AllocError, Global};
 use std::test::Fail;
 use system_model::{Component, Feed, Port, Role, System, Timing};
@@ -102,7 +102,7 @@ fn sampler(
     interval: Fraction,
     shift: Fraction,
 ) -> Result<Component, AllocError> {
-    let name = Text::from_str(alloc, name)?;
+    let name = PartedText::from_text(alloc, Text::from_str(alloc, name)?)?;
     Ok(Component {
         name,
         source: SourceId(0),

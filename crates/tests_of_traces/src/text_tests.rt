@@ -3,7 +3,7 @@ ghost use Rattle.system_model.specs.Text.{end_text};
 ghost use Rattle.trace_text.specs.Room.{AreValues, HoldsEach};
 
 use port_values::PortValues;
-use sim_base::{CompId, Items, SourceId, Text};
+use sim_base::{CompId, Items, PartedText, SourceId, Text};
 use std::alloc::{AllocError, Global};
 use system_model::{Component, EndKind, Port, Role, System};
 use trace_text::{put_end, put_header, put_instant, room_for};
@@ -98,7 +98,7 @@ fn put_end_in(_system: &System, kind: EndKind, t: u64, out: &mut [u8]) -> usize
 }
 
 fn component(alloc: Global, name: &str) -> Result<Component, AllocError> {
-    let name = Text::from_str(alloc, name)?;
+    let name = PartedText::from_text(alloc, Text::from_str(alloc, name)?)?;
     Ok(Component {
         name,
         source: SourceId(0),

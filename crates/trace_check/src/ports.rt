@@ -45,16 +45,16 @@ fn is_port(components: &[Component], port: &Port, told: &TracePort) -> bool
     ensures { IsTrue result ↔ (told.now ≡ port_told components.now port.now) }
 {
     told.kind == port.kind
-        && told.component.as_slice() == component_name(components, port.component).as_bytes()
+        && is_component_name(told.component.as_slice(), components, port.component)
         && told.variable.as_slice() == port.name.as_str().as_bytes()
 }
 
-// A component's full name; empty where there is no such component.
-fn component_name(components: &[Component], id: CompId) -> &str
-    ensures { result.now ≡ component_name components.now id.0 }
+// Whether these bytes are a component's full name, which is empty where there is no such component.
+fn is_component_name(bytes: &[u8], components: &[Component], id: CompId) -> bool
+    ensures { IsTrue result ↔ (bytes.now ≡ component_name components.now id.0) }
 {
     match components.get(id.0 as usize) {
-        Some(component) => component.name.as_str(),
-        None => "",
+        Some(component) => component.name.is(bytes),
+        None => bytes.is_empty(),
     }
 }

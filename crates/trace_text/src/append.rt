@@ -4,7 +4,7 @@ ghost use Rattle.std.specs.Fmt.{signed_decimal};
 ghost use Rattle.sim_base.specs.Escape.{escaped};
 
 use itoa::Buffer;
-use sim_base::escaped_byte;
+use sim_base::{PartedText, escaped_byte};
 
 pub(crate) fn append(piece: &[u8], out: &mut [u8], at: usize) -> usize
     requires { at + length piece.now ≤ length out.old }
@@ -44,6 +44,19 @@ pub(crate) fn append_name(name: &str, out: &mut [u8], mut at: usize) -> usize
 {
     for byte in name.as_bytes() {
         at = append(escaped_byte(*byte).as_slice(), out, at);
+    }
+    at
+}
+
+// The same for a name in parts.
+pub(crate) fn append_parts(name: &PartedText, out: &mut [u8], mut at: usize) -> usize
+    requires { at + length (escaped name.now) ≤ length out.old }
+    ensures end { result ≡ at + length (escaped name.now) }
+    ensures text { take result out.new ≡ take at out.old ++ escaped name.now }
+{
+    let mut parts = name.parts();
+    while let Some(part) = parts.next() {
+        at = append_name(part, out, at);
     }
     at
 }

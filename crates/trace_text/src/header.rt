@@ -1,8 +1,9 @@
 ghost use Rattle.std.specs.Prelude.{◌≡◌, ◌+◌, ◌≤◌, ◌++◌, length, take};
+ghost use Rattle.sim_base.specs.Escape.{escaped};
 ghost use Rattle.system_model.specs.Text.{component_name, header_line, header_text, port_line, type_name};
 ghost use Rattle.trace_text.specs.Lines.{ended};
 
-use crate::append::{append, append_name, append_number};
+use crate::append::{append, append_name, append_number, append_parts};
 use sim_base::CompId;
 use system_model::{Component, Port, System};
 use value_types::PortType;
@@ -53,19 +54,22 @@ fn append_port_line(
     let at = append(b" ", out, at);
     let at = append(type_name(port.kind).as_bytes(), out, at);
     let at = append(b" ", out, at);
-    let at = append_name(component_name(components, port.component), out, at);
+    let at = append_component_name(components, port.component, out, at);
     let at = append(b" ", out, at);
     let at = append_name(port.name.as_str(), out, at);
     append(b"\n", out, at)
 }
 
-// A component's full name; empty where there is no such component.
-pub(crate) fn component_name(components: &[Component], id: CompId) -> &str
-    ensures { result.now ≡ component_name components.now id.0 }
+// Puts a component's full name, escaped; nothing where there is no such component.
+fn append_component_name(components: &[Component], id: CompId, out: &mut [u8], at: usize) -> usize
+    requires { at + length (escaped (component_name components.now id.0)) ≤ length out.old }
+    ensures end { result ≡ at + length (escaped (component_name components.now id.0)) }
+    ensures text { take result out.new ≡ take at out.old ++ escaped
+        (component_name components.now id.0) }
 {
     match components.get(id.0 as usize) {
-        Some(component) => component.name.as_str(),
-        None => "",
+        Some(component) => append_parts(&component.name, out, at),
+        None => at,
     }
 }
 

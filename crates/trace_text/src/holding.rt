@@ -1,12 +1,12 @@
-ghost use Rattle.std.specs.Prelude.{◌≡◌, ◌≤◌, ◌*◌, ℕ, None, IfSome, IsSomeAnd, length, decimal};
+ghost use Rattle.std.specs.Prelude.{◌≡◌, ◌≤◌, ◌*◌, ◌^◌, ℕ, None, IfSome, IsSomeAnd, length, decimal};
 ghost use Rattle.sim_base.specs.Escape.{escaped};
-ghost use Rattle.system_model.specs.Text.{header_line, header_text, port_line};
+ghost use Rattle.system_model.specs.Text.{component_name, header_line, header_text, port_line};
 ghost use Rattle.trace_text.specs.Holding.{PassesWith, held_header_max};
 ghost use Rattle.trace_text.specs.Lines.{ended};
 
-use crate::header::{component_name, type_name};
+use crate::header::type_name;
 use itoa::Buffer;
-use sim_base::{CompId, escaped_byte};
+use sim_base::{CompId, PartedText, escaped_byte};
 use system_model::{Component, Plan, Port, System};
 
 // The most bytes of a header for which a checkpoint has room.
@@ -49,9 +49,9 @@ fn port_line_length(components: &[Component], number: usize, port: &Port) -> u12
     ensures length { result ≡ length (ended (port_line components.now number port.now)) }
     ensures short { result ≤ 1000000000000000000000 }
 {
-    let component = component_name(components, port.component);
     let fields = number_length(number as u64) + type_name(port.kind).len() as u128;
-    let names = name_length(component) + name_length(port.name.as_str());
+    let component = component_name_length(components, port.component);
+    let names = component + name_length(port.name.as_str());
     b"port ".len() as u128 + fields + names + 4
 }
 
@@ -73,4 +73,28 @@ fn name_length(name: &str) -> u128
         length += escaped_byte(*byte).as_slice().len() as u128;
     }
     length
+}
+
+// The same for a name in parts.
+fn parts_length(name: &PartedText) -> u128
+    ensures length { result ≡ length (escaped name.now) }
+    ensures short { result ≤ 3 * 2 ^ 64 }
+{
+    let mut length: u128 = 0;
+    let mut parts = name.parts();
+    while let Some(part) = parts.next() {
+        length += name_length(part);
+    }
+    length
+}
+
+// The same for a component's full name; 0 where there is no such component.
+fn component_name_length(components: &[Component], id: CompId) -> u128
+    ensures length { result ≡ length (escaped (component_name components.now id.0)) }
+    ensures short { result ≤ 3 * 2 ^ 64 }
+{
+    match components.get(id.0 as usize) {
+        Some(component) => parts_length(&component.name),
+        None => 0,
+    }
 }

@@ -1,7 +1,8 @@
-ghost use Rattle.std.specs.Prelude.{◌≡◌, ◌↔◌, ◌^◌, ◌<◌, IsSome, IfSome};
+ghost use Rattle.std.specs.Prelude.{◌≡◌, ◌↔◌, ◌^◌, ◌<◌, IsSome, IfSome, length};
+ghost use Rattle.system_model.specs.Text.{component_name};
 ghost use Rattle.trace_text.specs.Room.{port_room, room_of, HoldsEach};
 
-use crate::header::component_name;
+use sim_base::CompId;
 use system_model::{Component, Port, System};
 
 // The room for a line that has no name in it.
@@ -32,9 +33,19 @@ fn port_room(components: &[Component], port: &Port) -> Option<usize>
     ensures found { IsSome result ↔ (port_room components.now port.now < 2 ^ 64) }
     ensures room { IfSome result (λ room. room ≡ port_room components.now port.now) }
 {
-    let component = component_name(components, port.component);
-    let name_bytes = component.len().checked_add(port.name.as_str().len())?;
+    let component_bytes = component_name_bytes(components, port.component);
+    let name_bytes = component_bytes.checked_add(port.name.as_str().len())?;
     name_bytes
         .checked_mul(MOST_ESCAPE_BYTES)?
         .checked_add(FIELDS_ROOM)
+}
+
+// How many bytes a component's full name has; none where there is no such component.
+fn component_name_bytes(components: &[Component], id: CompId) -> usize
+    ensures { result ≡ length (component_name components.now id.0) }
+{
+    match components.get(id.0 as usize) {
+        Some(component) => component.name.len(),
+        None => 0,
+    }
 }

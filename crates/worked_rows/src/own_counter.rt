@@ -31,7 +31,8 @@ impl OwnCounter {
     ) -> Result<OwnCounter, AllocError>
         ensures { IfOk result (λ peer. IsNew component.now.shape (own_view peer)) }
     {
-        let origin = Origin::from_texts(alloc, "host", component.name.as_str(), "fmus/c")?;
+        let name = component.name.text(alloc)?;
+        let origin = Origin::from_texts(alloc, "host", name.as_str(), "fmus/c")?;
         let inner = BuiltIn::new(alloc, model, origin, &component.shape, None)?;
         Ok(OwnCounter { inner })
     }

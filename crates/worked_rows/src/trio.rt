@@ -8,7 +8,7 @@ ghost use Rattle.step_master.specs.System.{ArePeersOf, IsNew};
 ghost use Rattle.worked_rows.specs.Trio.{AreIncValues, component, counting, in_turn, inc_value, number, on_nothing, port, trio};
 
 use fmu_peer::{Peer, Spawner, StartFault};
-use sim_base::{CompId, Items, MemSink, PortId, SourceId, Text};
+use sim_base::{CompId, Items, MemSink, PartedText, PortId, SourceId, Text};
 use std::alloc::{AllocError, Global};
 use std::process::Abort;
 use std::thread::Threads;
@@ -77,7 +77,7 @@ pub(crate) fn make_component(
     ensures { IfOk result (λ c. c ≡ component name.now source shape) }
 {
     Ok(Component {
-        name: Text::from_str(alloc, name)?,
+        name: PartedText::from_text(alloc, Text::from_str(alloc, name)?)?,
         source: SourceId(source),
         shape,
     })
@@ -171,7 +171,10 @@ pub(crate) fn start<S: Spawner>(
 ) -> Result<S::Link, StartFault>
     ensures { IfOk result (λ link. IsNew component.now.shape (S.Link.view link)) }
 {
-    let name = component.name.as_str();
+    let Ok(name) = component.name.text(alloc) else {
+        return Err(StartFault::Memory);
+    };
+    let name = name.as_str();
     let shape = &component.shape;
     assert!(rt; name.len() >= 1 && name.len() <= 1 << 24);
     assert!(rt; shape.token.as_str().len() <= 1 << 24);

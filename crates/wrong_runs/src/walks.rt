@@ -1,5 +1,6 @@
 //! The walks through the ports of a system, and what follows an instant.
 ghost use Rattle.std.specs.Prelude.{All, OnOk, length, ℕ, ◌==◌, ◌^◌, ◌≡◌, ◌≤◌};
+ghost use Rattle.event_iteration.specs.BadEnds.{or_bad};
 ghost use Rattle.event_iteration.specs.Clocks.{AreTicks, StandsAt, is_due_at, timers_in};
 ghost use Rattle.event_iteration.specs.Explains.{Walks};
 ghost use Rattle.event_iteration.specs.Instants.{BeginsInstant, IsRunning, SolvesInInstant, in_instant};
@@ -31,7 +32,8 @@ pub fn take_instant<L: Peer>(
     t: u64,
     is_first: bool,
     values: &mut PortValues,
-) -> Result<(), BadAnswer>
+    bad: &mut BadAnswer,
+) -> Option<()>
     requires sound { IsSound system.now }
     requires participants { AreParticipants system.now participants.now }
     requires pending { length pending.old ≡ length system.now.instant_order }
@@ -42,21 +44,22 @@ pub fn take_instant<L: Peer>(
     requires values { length values.old ≡ length system.now.ports }
     requires fitting { AreFitting system.now values.old }
     requires awaited { AreUnfedAwaited system.now values.old pending.old }
-    ensures live { OnOk result (All (LiveSlot L.view) slots.new) }
+    ensures live { OnOk (or_bad result bad.new) (All (LiveSlot L.view) slots.new) }
     ensures walks { Walks system.now (in_instant (is_due_at schedule.now t) is_first) values.old
         (port_numbers system.now.instant_order) values.new (instances L.view slots.old)
-        (instances L.view slots.new) result }
-    ensures values { OnOk result (length values.new ≡ length system.now.ports) }
+        (instances L.view slots.new) (or_bad result bad.new) }
+    ensures values { OnOk (or_bad result bad.new) (length values.new ≡ length system.now.ports) }
     ensures fitting { AreFitting system.now values.new }
-    ensures awaited { OnOk result (AreUnfedAwaited system.now values.new pending.new) }
+    ensures awaited { OnOk (or_bad result bad.new)
+        (AreUnfedAwaited system.now values.new pending.new) }
     ensures pending { length pending.new ≡ length pending.old }
-    ensures idle { OnOk result (IsIdleQueue pending.new) }
+    ensures idle { OnOk (or_bad result bad.new) (IsIdleQueue pending.new) }
     ensures due { (n : ℕ) → (n == 0) ≡ is_first → AreTicks system.now schedule.now.start
         (timers_in schedule.now) t n (is_due_at schedule.now t) }
-    ensures ticks { OnOk result (TellsTicks system.now schedule.now t values.new) }
-    ensures active { OnOk result
+    ensures ticks { OnOk (or_bad result bad.new) (TellsTicks system.now schedule.now t values.new) }
+    ensures active { OnOk (or_bad result bad.new)
         (AreActive system.now values.new (modes (instances L.view slots.new))) }
-    ensures solved { OnOk result
+    ensures solved { OnOk (or_bad result bad.new)
         (SolvesInInstant system.now schedule.now t is_first values.old values.new
         (instances L.view slots.old) (instances L.view slots.new)) }
 {
@@ -69,6 +72,7 @@ pub fn take_instant<L: Peer>(
         t,
         is_first,
         values,
+        bad,
     )
 }
 

@@ -18,7 +18,7 @@ use Rattle.event_iteration.specs.Updates.{updated_by}
 use Rattle.event_iteration.specs.declared.updates.Updated.{Updated}
 use Rattle.calling_sequence.specs.Ends.{RunsIn}
 use Rattle.calling_sequence.specs.Course.{InstantDone}
-use Rattle.calling_sequence.specs.StageOutcomes.{spot}
+use Rattle.calling_sequence.specs.StageOutcomes.{BreaksOff, spot}
 use Rattle.calling_sequence.specs.Here.{Here}
 use Rattle.calling_sequence.specs.Place.{IsAt, IsSettled, IsTaking}
 use Rattle.calling_sequence.specs.Puts.{PutsPrefixOf}
@@ -31,7 +31,8 @@ use Rattle.calling_sequence.proofs.instants.show.Goals as goal
 
 pub returns-in-Err-clause-puts : goal.returns-in-Err-clause-puts
 returns-in-Err-clause-puts g c olds past so h =
-    badly_updated c.args.experiment.now (spot c.args.t c.args.n c.args.buffers.now) _ _ c.requires.ready.shapes_are c.in-Err.bad c.in-Err.ensures.updates.stage _ _ olds past h
+    subst (BreaksOff c.args.experiment.now olds past (instances g.L.Peer.view c.update.new.slots) (g.O.Sink.view c.args.out.now) c.args.buffers.now.instants) (sym c.break_badly.ensures)
+    (badly_updated c.args.experiment.now (spot c.args.t c.args.n c.args.buffers.now) _ _ c.requires.ready.shapes_are c.in-Err.bad c.in-Err.ensures.updates.stage _ _ olds past h)
 
 pub put_values-requires-clause-wide : goal.put_values-requires-clause-wide
 put_values-requires-clause-wide g c =
@@ -113,8 +114,9 @@ returns-in-Err-put_values-clause-puts g c olds past so h =
     let v : Updated = record { again = c.in-Ok.updated.again || c.args.is_armed; asked = c.in-Ok.updated.asked } in
     let again = ap (λ (x : Bool). c.in-Ok.updated.again || x) c.requires.armed in
     let put = c.in-Err-put_values.ensures.cut in
-    subst (λ (k : ℕ). RunsIn e.system e.bound e.plan past.extent olds (instances g.L.Peer.view c.update.new.slots) past.sink (g.O.Sink.view c.put_values.new.out) k E.WriteFault) (sym c.in-Err-put_values.ensures.uncounted)
-    (by_cut e (spot c.args.t c.args.n c.args.buffers.now) c.update.new.schedule.events c.in-Ok.updated v again refl _ _ c.requires.ready.shapes_are c.in-Ok.ensures.updates olds past _ _ h (so ∙ c.if-not-puts.false) _ put)
+    subst (BreaksOff e olds past (instances g.L.Peer.view c.update.new.slots) (g.O.Sink.view c.put_values.new.out) c.put_values.new.instants) (sym c.break_by_put.ensures)
+    (subst (λ (k : ℕ). RunsIn e.system e.bound e.plan past.extent olds (instances g.L.Peer.view c.update.new.slots) past.sink (g.O.Sink.view c.put_values.new.out) k E.WriteFault) (sym c.in-Err-put_values.ensures.uncounted)
+    (by_cut e (spot c.args.t c.args.n c.args.buffers.now) c.update.new.schedule.events c.in-Ok.updated v again refl _ _ c.requires.ready.shapes_are c.in-Ok.ensures.updates olds past _ _ h (so ∙ c.if-not-puts.false) _ put))
 
 -- where instants aren't put
 

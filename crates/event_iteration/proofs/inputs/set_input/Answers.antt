@@ -72,4 +72,4 @@ returns-in-Err-clause-turn g c =
     let within : port.component.0 < length c.args.slots.now = (let m = slots_many (λ s. instance_in g.L.Peer.view s) system c.args.slots.now c.requires.shapes in let w = there.within in omega (arith, m, w)) in
     stopped (λ s. instance_in g.L.Peer.view s) system (before_step values) c.args.p port there.component c.args.slots.now c.index-slots-port.result c.ask_if.new.slot values is there.is within
     (shape_in_slot (λ s. instance_in g.L.Peer.view s) system c.args.slots.now port.component.0 c.index-slots-port.result there.component c.requires.shapes within there.is)
-    c.call_of-call.result (c.call_of-call.ensures ∙ ap (λ (v : Option ℤ). if c.has_event_mode-has_event_mode.result then None else sets_to port.role port v) c.at.ensures ∙ ap (λ b. if b then None else sets_to port.role port (value values c.args.p)) (c.has_event_mode-has_event_mode.ensures there.component there.is)) (record { component = port.component; why = c.in-Err.why }) refl c.in-Err.ensures.asks
+    c.call_of-call.result (c.call_of-call.ensures ∙ ap (λ (v : Option ℤ). if c.has_event_mode-has_event_mode.result then None else sets_to port.role port v) c.at.ensures ∙ ap (λ b. if b then None else sets_to port.role port (value values c.args.p)) (c.has_event_mode-has_event_mode.ensures there.component there.is)) c.in-Err.why c.in-Err.ensures.asks (record { component = port.component; why = c.in-Err.why }) refl

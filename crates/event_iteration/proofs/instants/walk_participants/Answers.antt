@@ -82,7 +82,7 @@ loop-k-preserved g c =
     let at : slice_get (port_numbers system.instant_order) k ≡ Some p = subst (λ (xs : List PortId). slice_get (port_numbers xs) k ≡ Some p) same (number_at order order k (record { 0 = 0 }) refl c.loop-k-test.true) in
     let was = subst (λ (xs : List PortId). Gathers system rules values (port_numbers xs) olds k c.loop-k.waiting c.loop-k.values mids) (sym same) c.loop-k.invariant.gathers in
     let moved = subst (λ (xs : List PortId). Gathers system rules values (port_numbers xs) olds (k + 1) c.go_on.new.waiting c.go_on.new.values news × KeepsOthers system (port_numbers xs) (place k c.loop-k.waiting c.loop-k.values mids) (place (k + 1) c.go_on.new.waiting c.go_on.new.values news))
-    same (c.in-Ok.ensures.moves values olds was) in
+    same (c.in-Some.ensures.moves values olds was) in
     let before : Knows system rules values olds c.args.pending.now k c.loop-k.waiting c.loop-k.values mids c.loop-k.pending = record { gathers = c.loop-k.invariant.gathers; awaits = c.loop-k.invariant.awaits; untaken = c.loop-k.invariant.untaken; left = c.loop-k.invariant.left } in
     let more = c.pass_place.new.pending in
     let passes = c.pass_place.ensures in
@@ -93,7 +93,7 @@ loop-k-preserved g c =
     let next = knows_next system c.requires.sound c.args.participants.now c.requires.participants ticks turns.is_first values c.args.pending.now c.requires.awaited olds (k + 1) c.next_place-k-in-loop-k.result c.go_on.new.waiting c.go_on.new.values news more (omega (arith, low, long)) c.next_place-k-in-loop-k.ensures.after c.next_place-k-in-loop-k.ensures.steady c.next_place-k-in-loop-k.ensures.idle
     after in
     record {
-      live = c.in-Ok.ensures.live;
+      live = c.in-Some.ensures.live;
       gathers = next.gathers;
       room = passes.size ∙ c.loop-k.invariant.room;
       ahead = λ j due. due_from more c.next_place-k-in-loop-k.result j c.next_place-k-in-loop-k.ensures.idle due;
@@ -106,62 +106,62 @@ pub send_waiting-requires-clause-gathered : goal.send_waiting-requires-clause-ga
 send_waiting-requires-clause-gathered g c κs lives =
     record { before = c.args.values.now; order = port_numbers c.args.system.now.instant_order; olds = map (λ s. instance_in g.L.Peer.view s) c.args.slots.now; k = c.loop-k.k; gathers = c.loop-k.invariant.gathers }
 
-pub returns-in-Ok-send_waiting-clause-goes : goal.returns-in-Ok-send_waiting-clause-goes
-returns-in-Ok-send_waiting-clause-goes g c =
+pub returns-in-Some-send_waiting-clause-goes : goal.returns-in-Some-send_waiting-clause-goes
+returns-in-Some-send_waiting-clause-goes g c =
     let system = c.args.system.now in
     let turns = c.args.turns.now in
     let rules = in_instant (is_due_at turns.schedule.now turns.t) turns.is_first in
     let order = port_numbers system.instant_order in
     let before = c.args.values.now in
     let olds = map (λ s. instance_in g.L.Peer.view s) c.args.slots.now in
-    let last = (c.in-Ok-send_waiting.ensures.sends order c.loop-k.k before olds c.loop-k.invariant.gathers).0 in (
+    let last = (c.in-Some-send_waiting.ensures.sends order c.loop-k.k before olds c.loop-k.invariant.gathers).0 in (
       last.log,
       last.told,
       subst (λ (l : List ℕ). Walked system rules before l c.send_waiting.new.values last.log) (take_all c.loop-k.k order (let past = c.loop-k-test.false in let long = ap length c.as_slice-order.ensures in let n = length-map system.instant_order (λ (x : PortId). x.0) in omega (arith, past, long, n)))
-          (walked_now system rules before order olds c.loop-k.k c.send_waiting.new.waiting c.send_waiting.new.values (map (λ s. instance_in g.L.Peer.view s) c.send_waiting.new.slots) last c.in-Ok-send_waiting.ensures.none),
+          (walked_now system rules before order olds c.loop-k.k c.send_waiting.new.waiting c.send_waiting.new.values (map (λ s. instance_in g.L.Peer.view s) c.send_waiting.new.slots) last c.in-Some-send_waiting.ensures.none),
     )
 
-pub returns-in-Ok-send_waiting-clause-fitting : goal.returns-in-Ok-send_waiting-clause-fitting
-returns-in-Ok-send_waiting-clause-fitting g c =
-    (c.in-Ok-send_waiting.ensures.sends (port_numbers c.args.system.now.instant_order) c.loop-k.k c.args.values.now (map (λ s. instance_in g.L.Peer.view s) c.args.slots.now) c.loop-k.invariant.gathers).0.fits
+pub returns-in-Some-send_waiting-clause-fitting : goal.returns-in-Some-send_waiting-clause-fitting
+returns-in-Some-send_waiting-clause-fitting g c =
+    (c.in-Some-send_waiting.ensures.sends (port_numbers c.args.system.now.instant_order) c.loop-k.k c.args.values.now (map (λ s. instance_in g.L.Peer.view s) c.args.slots.now) c.loop-k.invariant.gathers).0.fits
 
-pub returns-in-Ok-send_waiting-clause-idle : goal.returns-in-Ok-send_waiting-clause-idle
-returns-in-Ok-send_waiting-clause-idle g c = none_pending c.loop-k.pending (length c.args.system.now.instant_order) c.loop-k.k (c.loop-k.invariant.room ∙ c.requires.pending) (let past = c.loop-k-test.false in let long = ap length c.as_slice-order.ensures in omega (arith, past, long)) c.loop-k.invariant.ahead
+pub returns-in-Some-send_waiting-clause-idle : goal.returns-in-Some-send_waiting-clause-idle
+returns-in-Some-send_waiting-clause-idle g c = none_pending c.loop-k.pending (length c.args.system.now.instant_order) c.loop-k.k (c.loop-k.invariant.room ∙ c.requires.pending) (let past = c.loop-k-test.false in let long = ap length c.as_slice-order.ensures in omega (arith, past, long)) c.loop-k.invariant.ahead
 
-pub returns-in-Err-send_waiting-clause-goes : goal.returns-in-Err-send_waiting-clause-goes
-returns-in-Err-send_waiting-clause-goes g c =
-    (c.in-Err-send_waiting.ensures.sends (port_numbers c.args.system.now.instant_order) c.loop-k.k c.args.values.now (map (λ s. instance_in g.L.Peer.view s) c.args.slots.now) c.loop-k.invariant.gathers).1
+pub returns-in-None-send_waiting-clause-goes : goal.returns-in-None-send_waiting-clause-goes
+returns-in-None-send_waiting-clause-goes g c =
+    (c.in-None-send_waiting.ensures.sends (port_numbers c.args.system.now.instant_order) c.loop-k.k c.args.values.now (map (λ s. instance_in g.L.Peer.view s) c.args.slots.now) c.loop-k.invariant.gathers).1
 
-pub returns-in-Err-send_waiting-clause-fitting : goal.returns-in-Err-send_waiting-clause-fitting
-returns-in-Err-send_waiting-clause-fitting g c =
-    (c.in-Err-send_waiting.ensures.sends (port_numbers c.args.system.now.instant_order) c.loop-k.k c.args.values.now (map (λ s. instance_in g.L.Peer.view s) c.args.slots.now) c.loop-k.invariant.gathers).0
+pub returns-in-None-send_waiting-clause-fitting : goal.returns-in-None-send_waiting-clause-fitting
+returns-in-None-send_waiting-clause-fitting g c =
+    (c.in-None-send_waiting.ensures.sends (port_numbers c.args.system.now.instant_order) c.loop-k.k c.args.values.now (map (λ s. instance_in g.L.Peer.view s) c.args.slots.now) c.loop-k.invariant.gathers).0
 
-pub returns-in-Ok-send_waiting-clause-pending : goal.returns-in-Ok-send_waiting-clause-pending
-returns-in-Ok-send_waiting-clause-pending g c = c.loop-k.invariant.room
+pub returns-in-Some-send_waiting-clause-pending : goal.returns-in-Some-send_waiting-clause-pending
+returns-in-Some-send_waiting-clause-pending g c = c.loop-k.invariant.room
 
-pub returns-in-Err-send_waiting-clause-pending : goal.returns-in-Err-send_waiting-clause-pending
-returns-in-Err-send_waiting-clause-pending g c = c.loop-k.invariant.room
+pub returns-in-None-send_waiting-clause-pending : goal.returns-in-None-send_waiting-clause-pending
+returns-in-None-send_waiting-clause-pending g c = c.loop-k.invariant.room
 
-pub returns-in-Err-clause-pending : goal.returns-in-Err-clause-pending
-returns-in-Err-clause-pending g c = c.loop-k.invariant.room
+pub returns-in-None-clause-pending : goal.returns-in-None-clause-pending
+returns-in-None-clause-pending g c = c.loop-k.invariant.room
 
-pub returns-in-Err-clause-goes : goal.returns-in-Err-clause-goes
-returns-in-Err-clause-goes g c =
+pub returns-in-None-clause-goes : goal.returns-in-None-clause-goes
+returns-in-None-clause-goes g c =
     let system = c.args.system.now in
     let turns = c.args.turns.now in
     let rules = in_instant (is_due_at turns.schedule.now turns.t) turns.is_first in
     let olds = map (λ s. instance_in g.L.Peer.view s) c.args.slots.now in
-    subst (λ (xs : List PortId). EndsBadly system rules c.args.values.now (port_numbers xs) olds (map (λ s. instance_in g.L.Peer.view s) c.go_on.new.slots) c.in-Err.bad) c.as_slice-order.ensures
-    (c.in-Err.ensures.moves c.args.values.now olds
+    subst (λ (xs : List PortId). EndsBadly system rules c.args.values.now (port_numbers xs) olds (map (λ s. instance_in g.L.Peer.view s) c.go_on.new.slots) c.go_on.new.bad) c.as_slice-order.ensures
+    (c.in-None.ensures.moves c.args.values.now olds
     (subst (λ (xs : List PortId). Gathers system rules c.args.values.now (port_numbers xs) olds c.loop-k.k c.loop-k.waiting c.loop-k.values (map (λ s. instance_in g.L.Peer.view s) c.loop-k.slots)) (sym c.as_slice-order.ensures) c.loop-k.invariant.gathers)).1
 
-pub returns-in-Err-clause-fitting : goal.returns-in-Err-clause-fitting
-returns-in-Err-clause-fitting g c =
+pub returns-in-None-clause-fitting : goal.returns-in-None-clause-fitting
+returns-in-None-clause-fitting g c =
     let system = c.args.system.now in
     let turns = c.args.turns.now in
     let rules = in_instant (is_due_at turns.schedule.now turns.t) turns.is_first in
     let olds = map (λ s. instance_in g.L.Peer.view s) c.args.slots.now in
-    (c.in-Err.ensures.moves c.args.values.now olds
+    (c.in-None.ensures.moves c.args.values.now olds
     (subst (λ (xs : List PortId). Gathers system rules c.args.values.now (port_numbers xs) olds c.loop-k.k c.loop-k.waiting c.loop-k.values (map (λ s. instance_in g.L.Peer.view s) c.loop-k.slots)) (sym c.as_slice-order.ensures) c.loop-k.invariant.gathers)).0
 
 pub pass_place-requires-clause-place : goal.pass_place-requires-clause-place

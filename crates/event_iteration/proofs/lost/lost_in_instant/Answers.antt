@@ -1,22 +1,20 @@
-use Rattle.std.proofs.Common.{ℕ, List, length, sym, ap, ◌∙◌, subst, arith}
+use Rattle.std.proofs.Common.{ℕ, ◌+◌, List, length, sym, ap, ◌∙◌, subst, arith}
 use Rattle.std.specs.Prelude.{All}
 use Rattle.system_model.specs.declared.system.Port.{Port}
 use Rattle.system_model.proofs.CallerLemmas.{all_at}
 use Rattle.run_model.specs.Equations.{is_bad}
-use Rattle.run_model.proofs.CallerLemmas.{none_bad}
 use Rattle.event_iteration.specs.Initialization.{IsPlaced}
 use Rattle.event_iteration.specs.Instants.{HasPlacedClocks}
 use Rattle.event_iteration.proofs.InInstant.{clocks_placed}
-use Rattle.event_iteration.proofs.Losing.{bad_source, ends_at, goes_past, none_there, none_yet}
+use Rattle.event_iteration.proofs.Losing.{bad_source, ends_at, goes_past, none_there, none_up_to, none_yet}
 use Rattle.event_iteration.proofs.Rounds.{sources_placed}
 use Rattle.event_iteration.proofs.Taking.{port_at}
 use Rattle.event_iteration.proofs.lost.lost_in_instant.Goals as goal
 
-pub returns-then-not-has_changes : goal.returns-then-not-has_changes
-returns-then-not-has_changes c = none_bad c.args.system.now c.requires.sound (c.requires.changes c.if-not-has_changes.true) c.args.values.now c.requires.fitting
-
 pub loop-p-init : goal.loop-p-init
-loop-p-init c = record { up_to = omega arith; none = none_yet (is_bad c.args.values.now) c.args.system.now.ports }
+loop-p-init c =
+    let system = c.args.system.now in
+    record { none = none_up_to system c.requires.sound c.args.participants.now.changed_inputs.next.items c.requires.participants.changed_inputs c.args.values.now c.requires.fitting 0 c.from-p.result (omega arith) c.from-p.ensures (none_yet (is_bad c.args.values.now) system.ports) }
 
 pub is_bad-requires-clause-placed : goal.is_bad-requires-clause-placed
 is_bad-requires-clause-placed c =
@@ -50,10 +48,14 @@ returns-then-is_bad c =
     ends_at (is_bad c.args.values.now) c.args.system.now.ports c.loop-p.p port c.as_slice-ports.ensures c.loop-p-test.true c.index-ports-p.is c.loop-p.invariant.none c.args.values.now c.lost_at.result bad (bad_source port c.args.values.now bad) c.lost_at.ensures
 
 pub loop-p-preserved : goal.loop-p-preserved
-loop-p-preserved c = record {
-  up_to = let w = c.loop-p-test.true in let e = ap length c.as_slice-ports.ensures in omega (arith, w, e);
-  none = goes_past (is_bad c.args.values.now) c.args.system.now.ports c.loop-p.p c.index-ports-p.result c.as_slice-ports.ensures c.loop-p-test.true c.index-ports-p.is c.loop-p.invariant.none (sym c.is_bad.ensures ∙ c.if-is_bad.false);
-}
+loop-p-preserved c =
+    let system = c.args.system.now in
+    let values = c.args.values.now in
+    record {
+      none = none_up_to system c.requires.sound c.args.participants.now.changed_inputs.next.items c.requires.participants.changed_inputs values c.requires.fitting (c.loop-p.p + 1) c.from-p-in-loop-p.result
+          (let w = c.loop-p-test.true in let e = ap length c.as_slice-ports.ensures in omega (arith, w, e)) c.from-p-in-loop-p.ensures
+          (goes_past (is_bad values) system.ports c.loop-p.p c.index-ports-p.result c.as_slice-ports.ensures c.loop-p-test.true c.index-ports-p.is c.loop-p.invariant.none (sym c.is_bad.ensures ∙ c.if-is_bad.false));
+    }
 
 pub returns : goal.returns
 returns c =

@@ -6,6 +6,7 @@ use Rattle.system_model.specs.declared.system.Port.{Port}
 use Rattle.system_model.specs.Ports.{port_numbers}
 use Rattle.system_model.proofs.CallerLemmas.{place_of}
 use Rattle.event_iteration.specs.declared.walk.Way.{Way}
+use Rattle.event_iteration.specs.BadEnds.{or_bad}
 use Rattle.event_iteration.specs.Waits.{Gathers, IsWay, KeepsOthers, place}
 use Rattle.event_iteration.proofs.Fmus.{got}
 use Rattle.event_iteration.proofs.Rounds.{components_there, number_at}
@@ -163,4 +164,4 @@ returns-in-Ask-clause-moves g c =
     let p = (get_or order k d).0 in
     let way = subst (λ (x : Way). IsWay system rules w p values x) c.in-Ask.is (c.requires.way d) in
     moves_asked system rules (port_numbers order) k w values (map (λ s. instance_in g.L.Peer.view s) c.args.slots.now) p (number_at order order k d refl c.requires.within) way.0
-    c.take.new.values (map (λ s. instance_in g.L.Peer.view s) c.take.new.slots) c.take.result c.take.ensures.turn
+    c.take.new.values (map (λ s. instance_in g.L.Peer.view s) c.take.new.slots) (or_bad c.take.result c.take.new.bad) c.take.ensures.turn

@@ -86,4 +86,4 @@ returns-in-Err-clause-sends g c =
     let slots = c.args.slots.now in
     moves_failed (λ s. instance_in g.L.Peer.view s) system rules w values slots c.index-slots-waiting.result c.send_many.new.slot
     (slot_of (λ s. instance_in g.L.Peer.view s) slots c.requires.gathered c.requires.sound (omega (arith, c.requires.one))) (w.first ∷ [])
-    (λ before order olds k h. sym (alone (λ s. instance_in g.L.Peer.view s) system rules before order olds k w values slots h c.requires.one)) c.in-Err.why c.in-Err.ensures.stops
+    (λ before order olds k h. sym (alone (λ s. instance_in g.L.Peer.view s) system rules before order olds k w values slots h c.requires.one)) c.in-Err.why c.in-Err.ensures.stops c.put_bad.new.bad c.put_bad.ensures

@@ -85,4 +85,4 @@ returns-in-Err-clause-sends g c =
     let slots = c.args.slots.now in
     moves_failed (λ s. instance_in g.L.Peer.view s) system rules c.args.waiting.now values slots c.index-slots-waiting.result c.send_many.new.slot
     (slot_of (λ s. instance_in g.L.Peer.view s) slots c.requires.gathered c.requires.sound c.requires.some) c.make_calls.new.calls
-    (λ before order olds k h. c.make_calls.ensures h.calls (ap (map (call_in system rules values)) c.as_slice-ports.ensures ∙ h.each)) c.in-Err.why c.in-Err.ensures.stops
+    (λ before order olds k h. c.make_calls.ensures h.calls (ap (map (call_in system rules values)) c.as_slice-ports.ensures ∙ h.each)) c.in-Err.why c.in-Err.ensures.stops c.put_bad.new.bad c.put_bad.ensures

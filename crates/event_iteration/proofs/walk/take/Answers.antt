@@ -66,4 +66,4 @@ returns-in-Err-clause-turn g c =
     let within : port.component.0 < length c.args.slots.now = (let m = slots_many (λ s. instance_in g.L.Peer.view s) system c.args.slots.now c.requires.shapes in let w = there.within in omega (arith, m, w)) in
     stopped (λ s. instance_in g.L.Peer.view s) system (g.T.Turns.rules c.args.turns.now system) c.args.p port there.component c.args.slots.now c.index-slots-port.result c.ask_if.new.slot c.args.values.now is there.is within
     (shape_in_slot (λ s. instance_in g.L.Peer.view s) system c.args.slots.now port.component.0 c.index-slots-port.result there.component c.requires.shapes within there.is)
-    c.args.call (c.requires.call port there.component is there.is) (record { component = port.component; why = c.in-Err.why }) refl c.in-Err.ensures.asks
+    c.args.call (c.requires.call port there.component is there.is) c.in-Err.why c.in-Err.ensures.asks c.put_bad.new.bad c.put_bad.ensures

@@ -31,42 +31,42 @@ loop-k-init g c =
           (omega arith) c.none-waiting.ensures.none (ap (λ (n : ℕ). take n c.none-waiting.result.inputs) c.none-waiting.ensures.passed) (let n = c.none-waiting.ensures.passed in omega (arith, n)) c.none-waiting.ensures.kind (Begun [] c.args.values.now [] refl refl refl);
     }
 
-pub returns-in-Err-clause-fitting : goal.returns-in-Err-clause-fitting
-returns-in-Err-clause-fitting g c = (c.in-Err.ensures.moves c.args.values.now (map (λ s. instance_in g.L.Peer.view s) c.args.slots.now) c.loop-k.invariant.gathers).0
+pub returns-in-None-clause-fitting : goal.returns-in-None-clause-fitting
+returns-in-None-clause-fitting g c = (c.in-None.ensures.moves c.args.values.now (map (λ s. instance_in g.L.Peer.view s) c.args.slots.now) c.loop-k.invariant.gathers).0
 
 pub loop-k-preserved : goal.loop-k-preserved
 loop-k-preserved g c =
-    record { live = c.in-Ok.ensures.live; gathers = (c.in-Ok.ensures.moves c.args.values.now (map (λ s. instance_in g.L.Peer.view s) c.args.slots.now) c.loop-k.invariant.gathers).0 }
+    record { live = c.in-Some.ensures.live; gathers = (c.in-Some.ensures.moves c.args.values.now (map (λ s. instance_in g.L.Peer.view s) c.args.slots.now) c.loop-k.invariant.gathers).0 }
 
 pub send_waiting-requires-clause-gathered : goal.send_waiting-requires-clause-gathered
 send_waiting-requires-clause-gathered g c κs lives =
     record { before = c.args.values.now; order = port_numbers c.args.order.now; olds = map (λ s. instance_in g.L.Peer.view s) c.args.slots.now; k = length c.args.order.now; gathers = at_end c.args.order.now c.loop-k.invariant.gathers c.loop-k-test.false }
 
-pub returns-in-Ok-send_waiting-clause-goes : goal.returns-in-Ok-send_waiting-clause-goes
-returns-in-Ok-send_waiting-clause-goes g c =
+pub returns-in-Some-send_waiting-clause-goes : goal.returns-in-Some-send_waiting-clause-goes
+returns-in-Some-send_waiting-clause-goes g c =
     let system = c.args.system.now in
     let rules = g.T.Turns.rules c.args.turns.now system in
     let order = c.args.order.now in
     let before = c.args.values.now in
     let olds = map (λ s. instance_in g.L.Peer.view s) c.args.slots.now in
-    let last = (c.in-Ok-send_waiting.ensures.sends (port_numbers c.args.order.now) (length c.args.order.now) before olds (at_end c.args.order.now c.loop-k.invariant.gathers c.loop-k-test.false)).0 in (
+    let last = (c.in-Some-send_waiting.ensures.sends (port_numbers c.args.order.now) (length c.args.order.now) before olds (at_end c.args.order.now c.loop-k.invariant.gathers c.loop-k-test.false)).0 in (
       last.log,
       last.told,
       subst (λ (l : List ℕ). Walked system rules before l c.send_waiting.new.values last.log) (whole order)
-          (walked_now system rules before (port_numbers order) olds (length order) c.send_waiting.new.waiting c.send_waiting.new.values (map (λ s. instance_in g.L.Peer.view s) c.send_waiting.new.slots) last c.in-Ok-send_waiting.ensures.none),
+          (walked_now system rules before (port_numbers order) olds (length order) c.send_waiting.new.waiting c.send_waiting.new.values (map (λ s. instance_in g.L.Peer.view s) c.send_waiting.new.slots) last c.in-Some-send_waiting.ensures.none),
     )
 
-pub returns-in-Ok-send_waiting-clause-fitting : goal.returns-in-Ok-send_waiting-clause-fitting
-returns-in-Ok-send_waiting-clause-fitting g c =
-    (c.in-Ok-send_waiting.ensures.sends (port_numbers c.args.order.now) (length c.args.order.now) c.args.values.now (map (λ s. instance_in g.L.Peer.view s) c.args.slots.now) (at_end c.args.order.now c.loop-k.invariant.gathers c.loop-k-test.false)).0.fits
+pub returns-in-Some-send_waiting-clause-fitting : goal.returns-in-Some-send_waiting-clause-fitting
+returns-in-Some-send_waiting-clause-fitting g c =
+    (c.in-Some-send_waiting.ensures.sends (port_numbers c.args.order.now) (length c.args.order.now) c.args.values.now (map (λ s. instance_in g.L.Peer.view s) c.args.slots.now) (at_end c.args.order.now c.loop-k.invariant.gathers c.loop-k-test.false)).0.fits
 
-pub returns-in-Err-send_waiting-clause-goes : goal.returns-in-Err-send_waiting-clause-goes
-returns-in-Err-send_waiting-clause-goes g c =
-    (c.in-Err-send_waiting.ensures.sends (port_numbers c.args.order.now) (length c.args.order.now) c.args.values.now (map (λ s. instance_in g.L.Peer.view s) c.args.slots.now) (at_end c.args.order.now c.loop-k.invariant.gathers c.loop-k-test.false)).1
+pub returns-in-None-send_waiting-clause-goes : goal.returns-in-None-send_waiting-clause-goes
+returns-in-None-send_waiting-clause-goes g c =
+    (c.in-None-send_waiting.ensures.sends (port_numbers c.args.order.now) (length c.args.order.now) c.args.values.now (map (λ s. instance_in g.L.Peer.view s) c.args.slots.now) (at_end c.args.order.now c.loop-k.invariant.gathers c.loop-k-test.false)).1
 
-pub returns-in-Err-send_waiting-clause-fitting : goal.returns-in-Err-send_waiting-clause-fitting
-returns-in-Err-send_waiting-clause-fitting g c =
-    (c.in-Err-send_waiting.ensures.sends (port_numbers c.args.order.now) (length c.args.order.now) c.args.values.now (map (λ s. instance_in g.L.Peer.view s) c.args.slots.now) (at_end c.args.order.now c.loop-k.invariant.gathers c.loop-k-test.false)).0
+pub returns-in-None-send_waiting-clause-fitting : goal.returns-in-None-send_waiting-clause-fitting
+returns-in-None-send_waiting-clause-fitting g c =
+    (c.in-None-send_waiting.ensures.sends (port_numbers c.args.order.now) (length c.args.order.now) c.args.values.now (map (λ s. instance_in g.L.Peer.view s) c.args.slots.now) (at_end c.args.order.now c.loop-k.invariant.gathers c.loop-k-test.false)).0
 
-pub returns-in-Err-clause-goes : goal.returns-in-Err-clause-goes
-returns-in-Err-clause-goes g c = (c.in-Err.ensures.moves c.args.values.now (map (λ s. instance_in g.L.Peer.view s) c.args.slots.now) c.loop-k.invariant.gathers).1
+pub returns-in-None-clause-goes : goal.returns-in-None-clause-goes
+returns-in-None-clause-goes g c = (c.in-None.ensures.moves c.args.values.now (map (λ s. instance_in g.L.Peer.view s) c.args.slots.now) c.loop-k.invariant.gathers).1

@@ -30,7 +30,7 @@ loop-component-preserved c =
     let x : Component = c.component-item.result in
     let here : slice_get c.args.components.now c.loop-component.component-index ≡ Some x = slice_get_read c.args.components.now _ c.loop-component.component-index x refl c.loop-component-test.true c.component-item.is in
     let second = c.longer-longest.ensures.second in
-    let len = ap length c.as_str.ensures in
+    let len = c.len.ensures in
     let new : length c.in_ok-copy.field-0 ≤ c.longer-longest.result = let same = ap length c.in_ok-copy.ensures in omega (arith, same, second, len) in
     record {
       given = c.push_reserved.ensures.items ∙ one_more (λ (y : Component). y.name) c.args.components.now c.loop-component.names.items c.loop-component.component-index x c.in_ok-copy.field-0 here i.given c.in_ok-copy.ensures;

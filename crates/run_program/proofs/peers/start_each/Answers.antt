@@ -37,7 +37,7 @@ returns-in-Err-clause-err g c =
       each = length-map c.loop-place.peers.items g.S.Link.Peer.view ∙ i.each;
       are = i.are;
       known = i.known;
-      noted = noted_fault g.row.S-Link.Denot c.args.host.now c.in-Err.fault component (g.S.Spawner.view c.args.spawner.now) (g.S.Spawner.view c.loop-place.spawner) (g.S.Spawner.view c.start.new.self) c.loop-place.place
+      noted = noted_fault g.row.S-Link.Denot c.args.host.now c.in-Err.fault component (g.S.Spawner.view c.args.spawner.now) (g.S.Spawner.view c.loop-place.spawner) (g.S.Spawner.view c.start_one.new.spawner) c.loop-place.place
           i.told c.in-Err.ensures.noted c.in-Err.ensures.unknown;
     }
 
@@ -50,8 +50,7 @@ loop-place-preserved g c =
     let folder = c.index-folders-place.result in
     let there = slice_get_read c.args.folders.now _ c.loop-place.place folder refl (let t = c.loop-place-test.true in let n = c.requires.folders in omega (arith, t, n)) c.index-folders-place.is in
     let started : IsStarted c.args.host.now component.name folder component.shape (view c.in-Ok.peer) =
-    subst (λ (name : List ℕ). IsStarted c.args.host.now name folder component.shape (view c.in-Ok.peer)) c.as_str.ensures
-    (subst (λ (at : List ℕ). IsStarted c.args.host.now c.as_str.result.now at component.shape (view c.in-Ok.peer)) c.as_str-in-loop-place.ensures c.in-Ok.ensures.fresh) in
+    subst (λ (at : List ℕ). IsStarted c.args.host.now component.name at component.shape (view c.in-Ok.peer)) c.as_str.ensures c.in-Ok.ensures.fresh in
     record {
       each = ap length c.push_reserved.ensures.items ∙ length-append c.loop-place.peers.items (c.in-Ok.peer ∷ []) ∙ ap (λ (n : ℕ). n + 1) i.each;
       within = let w = c.loop-place-test.true in omega (arith, w);
@@ -66,7 +65,7 @@ loop-place-preserved g c =
           (subst (λ (s : SpawnerView). IsMade s c.args.host.now component.shape (view c.in-Ok.peer)) i.told c.in-Ok.ensures.made));
       known = known_more c.args.host.now (g.S.Spawner.view c.args.spawner.now) c.args.components.now c.loop-place.place component i.known here
           (sym (ap (λ s. s.knows c.args.host.now component.shape.identifier) i.told) ∙ c.in-Ok.ensures.unknown);
-      told = one_started (g.S.Spawner.view c.args.spawner.now) (g.S.Spawner.view c.loop-place.spawner) (g.S.Spawner.view c.start.new.self) c.loop-place.place i.told c.in-Ok.ensures.noted;
+      told = one_started (g.S.Spawner.view c.args.spawner.now) (g.S.Spawner.view c.loop-place.spawner) (g.S.Spawner.view c.start_one.new.spawner) c.loop-place.place i.told c.in-Ok.ensures.noted;
     }
 
 pub returns-clause-ok : goal.returns-clause-ok
