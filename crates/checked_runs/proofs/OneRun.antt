@@ -22,8 +22,8 @@ use Rattle.calling_sequence.specs.declared.run_end.RunEnd.TheVariants as E
 use Rattle.calling_sequence.specs.Ends.{trace_pieces}
 use Rattle.calling_sequence.specs.Puts.{with_pieces}
 use Rattle.machine_courses.specs.Outcomes.{PutsTrace}
-use Rattle.step_master.specs.Traced as T
-use Rattle.step_master.specs.Traced.{output_of}
+use Rattle.session_laws.specs.Traced as T
+use Rattle.session_laws.specs.Traced.{output_of}
 use Rattle.alike_runs.specs.Alike.{AreAlike}
 use Rattle.alike_runs.proofs.Alike.{behave_alike}
 use Rattle.command_line.specs.Line as lines

@@ -41,8 +41,8 @@ use Rattle.calling_sequence.specs.Puts.{with_pieces}
 use Rattle.machine_courses.specs.Held.{EndsEarly, KeepsRun, checkpoint_of, ends_before, packings_of}
 use Rattle.machine_courses.specs.Outcomes.{PutsTraceIn, rest_after}
 use Rattle.step_master.specs.Sessions.{Account}
-use Rattle.step_master.specs.Traced as T
-use Rattle.step_master.specs.Traced.{HoldsWell, TracesWellIn, output_of}
+use Rattle.session_laws.specs.Traced as T
+use Rattle.session_laws.specs.Traced.{HoldsWell, TracesWellIn, output_of}
 use Rattle.alike_runs.specs.Alike.{AreAlike}
 use Rattle.alike_runs.proofs.Alike.{behave_alike, by_parts, held_alike, puts_alike, read_back_alike, takes_alike, trace_alike}
 use Rattle.command_line.specs.Line.{CheckpointLine, ResumeLine}

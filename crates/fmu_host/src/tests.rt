@@ -1,8 +1,6 @@
 use crate::hosting::host_words;
 use sim_base::{Items, MemFile, MemFolder, MemSink, MemSource, Text};
 use std::alloc::{AllocError, Global};
-use std::process::Abort;
-use std::test::Fail;
 
 // The counter's description, and three that are changed.
 const COUNTER: &str =
@@ -439,35 +437,32 @@ fn make_folder(alloc: Global, case: &Case) -> Result<MemFolder, AllocError> {
     Ok(MemFolder::new(alloc, vec![in alloc; file]?, case.reads.to_vec(alloc)?))
 }
 
-fn assert_case(rt: &impl Abort, alloc: Global, case: &Case) -> Result<(), Fail> {
+fn answers(alloc: Global, case: &Case) -> Result<bool, AllocError> {
     let words = split_words(alloc, case.words)?;
-    let mut folder = make_folder(alloc, case)?;
+    let wanted = bytes_of(alloc, case.output)?;
     let mut input = MemSource::new(bytes_of(alloc, case.input)?, case.takes.to_vec(alloc)?);
     let mut output = MemSink::with_room(alloc, 1024, 64, case.puts.to_vec(alloc)?)?;
+    let mut folder = make_folder(alloc, case)?;
     let status = host_words(alloc, &words, &mut folder, &mut input, &mut output);
-    assert_eq!(rt; status, case.status, "{} {}", case.words, case.description);
-    let wanted = bytes_of(alloc, case.output)?;
+    Ok(status == case.status && output.bytes.as_slice() == wanted.as_slice())
+}
+
+// Whether the case has its status, and what is written.
+fn is_as_told(alloc: Global, case: &Case) -> bool {
+    answers(alloc, case) == Ok(true)
+}
+
+#[test]
+fn words_and_descriptions_have_their_status(rt: HostRuntime) {
+    let alloc = rt.alloc();
     assert_eq!(rt;
-        output.bytes.as_slice(),
-        wanted.as_slice(),
-        "{}",
-        case.words
+        WORDS.iter().position(|case| !is_as_told(alloc, case)),
+        None
     );
-    Ok(())
 }
 
 #[test]
-fn words_and_descriptions_have_their_status(rt: HostRuntime) -> Result<(), Fail> {
-    for case in &WORDS {
-        assert_case(&rt, rt.alloc(), case)?;
-    }
-    Ok(())
-}
-
-#[test]
-fn calls_get_their_replies(rt: HostRuntime) -> Result<(), Fail> {
-    for case in &RUNS {
-        assert_case(&rt, rt.alloc(), case)?;
-    }
-    Ok(())
+fn calls_get_their_replies(rt: HostRuntime) {
+    let alloc = rt.alloc();
+    assert_eq!(rt; RUNS.iter().position(|case| !is_as_told(alloc, case)), None);
 }

@@ -28,9 +28,7 @@ impl Parts {
         ensures { OnOk result (Adds drawn self.old self.new) }
     {
         let number = self.components.len();
-        let made = component(alloc, number, drawn.machine)?;
         let feed = feed_by(alloc, self.outputs.as_slice(), drawn.feeder);
-        let value = first_value(alloc, drawn.parameter)?;
         let output = push_ports(
             alloc,
             &mut self.ports,
@@ -38,9 +36,10 @@ impl Parts {
             drawn.machine,
             feed,
         )?;
-        self.components.push(made)?;
         self.outputs.push(PortId(output as u32))?;
-        self.values.push(value)?;
+        self.values.push(first_value(alloc, drawn.parameter)?)?;
+        self.components
+            .push(component(alloc, number, drawn.machine)?)?;
         Ok(())
     }
 }

@@ -39,19 +39,21 @@ fn variables(alloc: Global, machine: DrawnMachine) -> Result<Vec<Variable>, Allo
 fn counter_variables(alloc: Global) -> Result<Vec<Variable>, AllocError>
     ensures { IfOk result (λ variables. variables.items ≡ variables_of DrawnMachine.Counter) }
 {
-    let increment = variable(alloc, "inc", 1, Causality::Parameter)?;
-    let output = variable(alloc, "y", 2, Causality::Output)?;
-    let long = variable(alloc, "long", 3, Causality::Parameter)?;
-    Ok(vec![in alloc; increment, output, long]?)
+    let mut variables = Vec::new(alloc);
+    variables.push(variable(alloc, "inc", 1, Causality::Parameter)?)?;
+    variables.push(variable(alloc, "y", 2, Causality::Output)?)?;
+    variables.push(variable(alloc, "long", 3, Causality::Parameter)?)?;
+    Ok(variables)
 }
 
 fn gain_variables(alloc: Global) -> Result<Vec<Variable>, AllocError>
     ensures { IfOk result (λ variables. variables.items ≡ variables_of DrawnMachine.Gain) }
 {
-    let factor = variable(alloc, "k", 1, Causality::Parameter)?;
-    let input = variable(alloc, "u", 2, Causality::Input)?;
-    let output = variable(alloc, "y", 3, Causality::Output)?;
-    Ok(vec![in alloc; factor, input, output]?)
+    let mut variables = Vec::new(alloc);
+    variables.push(variable(alloc, "k", 1, Causality::Parameter)?)?;
+    variables.push(variable(alloc, "u", 2, Causality::Input)?)?;
+    variables.push(variable(alloc, "y", 3, Causality::Output)?)?;
+    Ok(variables)
 }
 
 fn alarm_variables(alloc: Global) -> Result<Vec<Variable>, AllocError>
@@ -105,9 +107,9 @@ pub(crate) fn shape(alloc: Global, machine: DrawnMachine) -> Result<Shape, Alloc
         has_variable_steps: true,
         can_save_state: true,
         can_serialize_state: false,
-        variables: ByReference::new(alloc, variables(alloc, machine)?)?,
         clocks: ByReference::new(alloc, Vec::new(alloc))?,
         dependencies: dependencies(alloc, machine)?,
         initial_dependencies: dependencies(alloc, machine)?,
+        variables: ByReference::new(alloc, variables(alloc, machine)?)?,
     })
 }

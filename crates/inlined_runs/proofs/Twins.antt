@@ -29,8 +29,8 @@ use Rattle.calling_sequence.specs.Puts.{with_pieces}
 use Rattle.event_iteration.specs.declared.lost.LostValue.{LostValue}
 use Rattle.machine_courses.specs.Prefixes.{LacksStepAt, LosesAt}
 use Rattle.machine_courses.specs.Outcomes.{PutsTrace}
-use Rattle.step_master.specs.Traced.{IsRunOf, SomeFaultCounted, output_of}
-use Rattle.step_master.specs.Traced as T
+use Rattle.session_laws.specs.Traced.{IsRunOf, SomeFaultCounted, output_of}
+use Rattle.session_laws.specs.Traced as T
 use Rattle.command_line.specs.Line.{Asked, IsLine, Line, RunLine, run_in}
 use Rattle.command_line.specs.Line as L
 use Rattle.system_loading.specs.Assembly.{HaveSameParts}

@@ -2,8 +2,6 @@
 #![tactic(auto)]
 
 mod batch;
-#[cfg(test)]
-mod batch_tests;
 mod call;
 mod head;
 mod laws;

@@ -20,7 +20,7 @@ use Rattle.system_model.specs.declared.system.System.{System}
 use Rattle.run_model.specs.Behaved.{WellBehaved}
 use Rattle.run_model.specs.Run.{Run}
 use Rattle.calling_sequence.specs.declared.run_end.RunEnd.{RunEnd}
-use Rattle.step_master.specs.Traced.{AreMachinesOf}
+use Rattle.session_laws.specs.Traced.{AreMachinesOf}
 use Rattle.system_files.specs.declared.loaded.Loaded.{Loaded}
 use Rattle.run_program.specs.Runs.{Broke, HasRun, Task, Traces, Went}
 use Rattle.run_program.specs.Happened.{Scene}

@@ -45,7 +45,7 @@ use Rattle.step_master.specs.declared.prepare_end.PrepareFault.{PrepareFault}
 use Rattle.step_master.specs.declared.prepare_end.PrepareFault.TheVariants as F
 use Rattle.step_master.specs.Sessions.{Account, FailedStart, FailedStartIsClosed, HeldSession, HistoriesAreOver, ResumedSession, Session, experiment_in}
 use Rattle.step_master.specs.Master.{FailsToPrepare, Standing}
-use Rattle.step_master.specs.Traced.{IsRunOf, ToldFailedStart, ToldHeld, ToldHeldWell, ToldNone, ToldRest, ToldRestWell, ToldRun, ToldTrace, TracesWell}
+use Rattle.session_laws.specs.Traced.{IsRunOf, ToldFailedStart, ToldHeld, ToldHeldWell, ToldNone, ToldRest, ToldRestWell, ToldRun, ToldTrace, TracesWell}
 use Rattle.system_model.specs.Bounds.{BindsParameters}
 use Rattle.system_model.specs.Sound.{IsSound}
 use Rattle.step_master.specs.Histories.{ArePeerHistories, EndsHistories, IsPeerHistory, PeerHistory}

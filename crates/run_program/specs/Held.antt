@@ -14,7 +14,7 @@ use Rattle.run_rest.specs.Packing.{ReadsBack}
 use Rattle.machine_courses.specs.Held.{HoldsRun, checkpoint_of, ends_before, packings_of}
 use Rattle.machine_courses.specs.Kept.{PutsState, TakesState}
 use Rattle.machine_courses.specs.Outcomes.{PutsRunIn, rest_after}
-use Rattle.step_master.specs.Traced.{AreMachinesOf, HoldsWell, IsRunOf, TracesWellIn, output_of}
+use Rattle.session_laws.specs.Traced.{AreMachinesOf, HoldsWell, IsRunOf, TracesWellIn, output_of}
 use Rattle.system_checkpoint.specs.declared.snapshot.Snapshot.{Snapshot}
 use Rattle.slot_calls.specs.declared.bad_answer.BadAnswer.{BadAnswer}
 use Rattle.calling_sequence.specs.declared.run_end.RunEnd.{RunEnd}

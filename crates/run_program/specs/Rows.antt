@@ -25,7 +25,7 @@ use Rattle.slot_calls.specs.declared.bad_answer.BadAnswer.{BadAnswer}
 use Rattle.calling_sequence.specs.declared.run_end.RunEnd.{RunEnd}
 use Rattle.calling_sequence.specs.declared.run_end.RunEnd.TheVariants as E
 use Rattle.slot_calls.specs.SavedStates.{IsOfClosing, Talk}
-use Rattle.step_master.specs.Traced.{IsRunOf}
+use Rattle.session_laws.specs.Traced.{IsRunOf}
 use Rattle.bench_fmus.specs.declared.model.Model.{Model}
 use Rattle.bench_fmus.specs.Models.{model_named}
 use Rattle.bench_fmus.specs.Spawners.{StartsBuiltIns}

@@ -22,7 +22,7 @@ use Rattle.calling_sequence.specs.declared.run_end.RunEnd.TheVariants as E
 use Rattle.step_master.specs.Sessions.{Account, FailedStart, Session}
 use Rattle.step_master.specs.Histories.{AreOver}
 use Rattle.machine_courses.specs.Outcomes.{PutsRun}
-use Rattle.step_master.specs.Traced.{IsRunOf, TracesWell, output_of}
+use Rattle.session_laws.specs.Traced.{IsRunOf, TracesWell, output_of}
 use Rattle.run_program.specs.declared.outcome.StartCause.{StartCause}
 use Rattle.run_program.specs.declared.outcome.StartCause.TheVariants.{Failed, Unknown}
 use Rattle.run_program.specs.declared.naming.Naming.{Naming}

@@ -63,17 +63,23 @@ impl Report {
             (E.view err.new) }
     {
         let Report { outcome, mut text } = self;
-        match &outcome {
-            Outcome::Words => put_line(b"words\n", 2, err),
-            Outcome::Memory => put_line(b"memory\n", 11, err),
-            Outcome::File { path, fault } => put_file_line(path, fault, &mut text, err),
-            Outcome::Start { component, fault } => {
-                put_start_line(component, *fault, &mut text, err)
-            }
-            Outcome::Ran { end } => put_end_line(end, &mut text, err),
-            Outcome::Checked => 0,
-            Outcome::Untold => put_line(b"write\n", 10, err),
-        }
+        put_outcome(&outcome, &mut text, err)
+    }
+}
+
+fn put_outcome<E: Sink>(outcome: &Outcome, text: &mut [u8], err: &mut E) -> u8
+    requires { message_room outcome.now ≤ length text.old }
+    ensures { Reports (message outcome.now) (status_of outcome.now) result (E.view err.old)
+        (E.view err.new) }
+{
+    match outcome {
+        Outcome::Words => put_line(b"words\n", 2, err),
+        Outcome::Memory => put_line(b"memory\n", 11, err),
+        Outcome::File { path, fault } => put_file_line(path, fault, text, err),
+        Outcome::Start { component, fault } => put_start_line(component, *fault, text, err),
+        Outcome::Ran { end } => put_end_line(end, text, err),
+        Outcome::Checked => 0,
+        Outcome::Untold => put_line(b"write\n", 10, err),
     }
 }
 

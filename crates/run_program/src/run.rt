@@ -29,10 +29,11 @@ use command_line::{Options, Request, WordsFault, read_words};
 use fmu_peer::{Spawner, StartFault};
 use generated_system::{call_counts, counted_talks};
 use run_model::one_trace;
+use session_laws::runs_of_machines;
 use sim_base::{Folder, Sink, Text};
 use std::alloc::Global;
 use std::thread::Threads;
-use step_master::{Master, PrepareEnd, PrepareFault, RunEnd, histories_of_peers, runs_of_machines};
+use step_master::{Master, PrepareEnd, PrepareFault, RunEnd, histories_of_peers};
 use system_files::{Loaded, load};
 use system_model::{Bound, System};
 

@@ -1,5 +1,5 @@
 -- Peers in the slots of their components.
-use Rattle.std.proofs.Common.{◌≡◌, inl, inr, ℕ, suc, ◌+◌, ◌<◌, false, List, [], ◌∷◌, ◌++◌, refl, sym, ap, ap₂, ◌∙◌, subst, append_assoc, arith, length, get_or, map, take, drop, drop-cons, add-one, zero, ◌≤◌, ◌^◌, Option, Some}
+use Rattle.std.proofs.Common.{◌≡◌, ℕ, suc, ◌+◌, ◌<◌, false, List, [], ◌∷◌, ◌++◌, refl, sym, ap, ap₂, ◌∙◌, subst, append_assoc, arith, length, get_or, map, take, drop, drop-cons, add-one, ◌≤◌, ◌^◌, Option, Some}
 use Rattle.std.specs.Prelude.{All, IfSome, Some}
 use Rattle.std.specs.List.{slice_get}
 use Rattle.std.proofs.lemmas.List.{get_or-map, length-map, length-replicate, map-append}
@@ -19,12 +19,12 @@ use Rattle.step_master.specs.FreshInstances.{IsFresh, fresh_instance, fresh_inst
 use Rattle.step_master.specs.System.{IsNew, ArePeersOf, MachinesMatchShapes}
 use Rattle.slot_calls.proofs.CallerLemmas.{Led}
 use Rattle.calling_sequence.proofs.Phases.{unmarked_is}
-use Rattle.std.proofs.lemmas.Option.{slice_get_cases}
 use Rattle.value_types.specs.declared.shape.Shape.{Shape}
 use Rattle.fmu_peer.specs.Machine.{IgnoresSlot, IsLawful, IsMachineOf, Machine}
 use Rattle.system_model.specs.declared.system.System.{System}
-use Rattle.slot_calls.specs.Stage.{shapes, shapes_of}
+use Rattle.slot_calls.specs.Stage.{shapes}
 use Rattle.system_model.specs.Sound.{IsSound}
+use Rattle.step_master.proofs.CallerLemmas.{views_fresh, map_fresh, length_fresh, unmapped}
 
 -- one more is given, and one fewer is left
 pub given_more : {A B : Type 0} (f : A → B) (whole done more : List B) (left rest : List A) (x : A) (y : B) → whole ≡ done ++ map f left → left ≡ x ∷ rest → y ≡ f x → more ≡ done ++ y ∷ [] → whole ≡ more ++ map f rest
@@ -46,12 +46,6 @@ fresh_more f view whole slots more cs n m left rest p c s given is next w at pus
     ∙ ap (λ ds. map f slots ++ fresh_instances ds (map view (p ∷ rest))) (sym (next_at cs n c w at))
     ∙ ap (λ l. map f slots ++ fresh_instances (drop n cs) (map view l)) (sym is) ∙ given
 
-pub views_fresh : (cs : List Component) (vs : List View) → length vs ≡ length cs → views_of (fresh_instances cs vs) ≡ vs
-views_fresh [] [] e = refl
-views_fresh [] (v ∷ vs) e = absurd (omega (arith, e))
-views_fresh (c ∷ cs) [] e = absurd (omega (arith, e))
-views_fresh (c ∷ cs) (v ∷ vs) e = ap (λ (l : List View). v ∷ l) (views_fresh cs vs (omega (arith, e)))
-
 -- an instance before its first call
 pub record IsFreshInstance (i : Instance) : Type 0 where
   pub first : i.view.phase ≡ fresh i.view.fixed.shape
@@ -68,28 +62,8 @@ all_fresh P (c ∷ cs) (v ∷ vs) h = All-cons P (fresh_instance c v) (fresh_ins
 pub are_fresh : (cs : List Component) (vs : List View) → ((i : ℕ) (c : Component) (v : View) → slice_get cs i ≡ Some c → slice_get vs i ≡ Some v → IsNew c.shape v) → All IsFreshInstance (fresh_instances cs vs)
 are_fresh cs vs h = all_fresh IsFreshInstance cs vs (λ i c v at_c at_v. let new = h i c v at_c at_v in record { first = new.phase ∙ ap fresh (sym new.shape_is); untold = new.talk; unsaved = refl; calm = refl })
 
--- what each slot has of its component, all have
-map_fresh : {A : Type 0} (f : Instance → A) (g : Component → A) (cs : List Component) (vs : List View) → length vs ≡ length cs →
-    ((i : ℕ) (c : Component) (v : View) → slice_get cs i ≡ Some c → slice_get vs i ≡ Some v → f (fresh_instance c v) ≡ g c) → map f (fresh_instances cs vs) ≡ map g cs
-map_fresh f g [] vs e h = refl
-map_fresh f g (c ∷ cs) [] e h = absurd (omega (arith, e))
-map_fresh f g (c ∷ cs) (v ∷ vs) e h = ap₂ ◌∷◌ (h 0 c v refl refl) (map_fresh f g cs vs (omega (arith, e)) (λ i d w at_d at_w. h (suc i) d w at_d at_w))
-
 pub sources_fresh : (cs : List Component) (vs : List View) → length vs ≡ length cs → map (λ (i : Instance). i.source) (fresh_instances cs vs) ≡ map (λ (c : Component). c.source.0) cs
 sources_fresh cs vs e = map_fresh (λ (i : Instance). i.source) (λ (c : Component). c.source.0) cs vs e (λ i c v at_c at_v. refl)
-
-pub length_fresh : (cs : List Component) (vs : List View) → length cs ≡ length vs → length (fresh_instances cs vs) ≡ length vs
-length_fresh cs vs e = sym (length-map (fresh_instances cs vs) (λ (i : Instance). i.view)) ∙ ap length (views_fresh cs vs (sym e))
-
--- the element at a place
-pub got : {X : Type 0} (xs : List X) (k : ℕ) → k < length xs → (x : X) × (slice_get xs k ≡ Some x)
-got xs k w = elim (slice_get_cases xs k).1 [ inl h ↦ (h.0, h.2) | inr h ↦ absurd (let past = h.0 in omega (arith, w, past)) ]
-
--- an element of a mapped list is that of one
-pub unmapped : {A B : Type 0} (f : A → B) (xs : List A) (k : ℕ) (y : B) → slice_get (map f xs) k ≡ Some y → (x : A) × (slice_get xs k ≡ Some x) × (y ≡ f x)
-unmapped f [] k y is = absurd (cc)
-unmapped f (x ∷ xs) zero y is = (x, refl, cc)
-unmapped f (x ∷ xs) (suc k) y is = unmapped f xs k y is
 
 -- what holds of each value holds of what has it
 pub all_under : {A B : Type 0} (f : A → B) (P : B → Type 0) (xs : List A) (ys : List B) → map f xs ≡ ys → All P ys → All (λ (x : A). P (f x)) xs
@@ -104,9 +78,6 @@ all_views : (P : View → Type 0) (cs : List Component) (vs : List View) → len
 all_views P cs vs e h = subst (All P) (views_fresh cs vs e) (All-map P (λ (i : Instance). i.view) (fresh_instances cs vs) (all_fresh (λ (i : Instance). P i.view) cs vs h))
 
 module _ (system : System) (views : List View) (peers : ArePeersOf system views) where
-  pub fresh_shapes : shapes (fresh_instances system.components views) ≡ shapes_of system
-  fresh_shapes = map_fresh (λ (i : Instance). i.view.fixed.shape) (λ (c : Component). c.shape) system.components views peers.len (λ i c v at_c at_v. (peers.each i c v at_c at_v).shape_is)
-
   pub slots_length : {S : Type 0} (f : S → Instance) (slots : List S) → map f slots ≡ fresh_instances system.components views → length slots ≡ length system.components
   slots_length f slots same = sym (length-map slots f) ∙ ap length same ∙ length_fresh system.components views (sym peers.len) ∙ peers.len
 

@@ -1,12 +1,9 @@
+pub mod CallerLemmas
 mod Keepable
 mod Leaving
 mod Living
 mod Parted
 mod Resuming
 mod FreshLemmas
-mod Told
-mod ToldStates
-mod ToldRests
-mod ToldWell
 mod WithoutMachines
 mod SessionLemmas

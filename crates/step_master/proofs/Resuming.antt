@@ -1,22 +1,17 @@
 -- What may be resumed: no parameter is bound, and each FMU takes its state in.
-use Rattle.std.proofs.Common.{◌≡◌, ℕ, ◌≤◌, ◌^◌, true, List, [], ◌∷◌, refl, sym, ap, ◌∙◌, subst, length, map, replicate}
+use Rattle.std.proofs.Common.{◌≡◌, ℕ, ◌≤◌, ◌^◌, List, [], ◌∷◌, refl, sym, ap, ◌∙◌, subst, length, map, replicate}
 use Rattle.std.specs.Prelude.{All, Option, Some, None}
 use Rattle.sim_base.specs.Sink.{SinkView}
 use Rattle.std.specs.List.{AllZip, IsDistinct}
-use Rattle.std.proofs.lemmas.List.Elements.{All-cons, All-head, All-nil, All-tail}
+use Rattle.std.proofs.lemmas.List.Elements.{All-cons, All-nil}
 use Rattle.system_model.specs.declared.bound.Bound.{Bound}
 use Rattle.system_model.specs.declared.bound.BoundValue.{BoundValue}
-use Rattle.system_model.specs.declared.plan.Plan.{Plan}
 use Rattle.system_model.specs.declared.system.Component.{Component}
 use Rattle.system_model.specs.declared.system.System.{System}
 use Rattle.system_model.specs.Bounds.{AreParameterValues, BindsParameters, IsParameterValue}
-use Rattle.system_model.specs.Shapes.{IsSoundShape}
-use Rattle.system_model.specs.Sound.{IsSound}
-use Rattle.trace_text.specs.Holding.{IsHoldable}
 use Rattle.system_checkpoint.specs.Spelling.{AllBy, IsState}
 use Rattle.system_checkpoint.specs.declared.snapshot.Snapshot.{Snapshot}
 use Rattle.calling_sequence.specs.declared.run_end.RunEnd.{RunEnd}
-use Rattle.calling_sequence.specs.Ready.{CanKeep}
 use Rattle.step_master.specs.Holding.{Rests, RunsFrom}
 use Rattle.step_master.specs.Master.{Runs, Standing}
 
@@ -45,22 +40,6 @@ few_states [] [] all = All-nil (λ (state : List ℕ). length state ≤ 2 ^ 20)
 few_states [] (s ∷ states) all = absurd all
 few_states (c ∷ cs) [] all = absurd all
 few_states (c ∷ cs) (s ∷ states) all = All-cons (λ (state : List ℕ). length state ≤ 2 ^ 20) s states all.0.size (few_states cs states all.1)
-
-abbrev SavesState : Component → Type 0
-SavesState c = c.shape.can_save_state ≡ true
-
-abbrev PutsState : Component → Type 0
-PutsState c = c.shape.can_serialize_state ≡ true
-
-saves_all : (cs : List Component) → All (λ (c : Component). IsSoundShape c.shape) cs → All PutsState cs → All SavesState cs
-saves_all [] sound puts = All-nil SavesState
-saves_all (c ∷ cs) sound puts =
-    All-cons SavesState c cs ((All-head (λ (x : Component). IsSoundShape x.shape) c cs sound).serialized (All-head PutsState c cs puts))
-    (saves_all cs (All-tail (λ (x : Component). IsSoundShape x.shape) c cs sound) (All-tail PutsState c cs puts))
-
--- who can put its state as bytes can save it
-pub can_keep : (system : System) (plan : Plan) → IsSound system → IsHoldable system plan → CanKeep system plan
-can_keep system plan sound can = record { saves = saves_all system.components sound.components.shapes can.serializes; serializes = can.serializes; header = can.header }
 
 -- ---- by what the run goes on from
 

@@ -69,7 +69,8 @@ use Rattle.step_master.proofs.Living.{IsRow, Row, at_turn, history_of, is_histor
 use Rattle.step_master.proofs.Leaving.{closed_over}
 use Rattle.step_master.proofs.WithoutMachines.{closes_without, fresh_without, peers_without}
 use Rattle.step_master.proofs.Parted.{closing_steps, turn_closes}
-use Rattle.step_master.proofs.FreshLemmas.{IsFreshInstance, are_fresh, fresh_shapes, got, length_fresh, sources_fresh, unmapped, views_fresh}
+use Rattle.step_master.proofs.FreshLemmas.{IsFreshInstance, are_fresh, sources_fresh}
+use Rattle.step_master.proofs.CallerLemmas.{fresh_shapes, got, length_fresh, unmapped, views_fresh}
 
 -- what a mapped list has at a place
 mapped : {A B : Type 0} (f : A → B) (xs : List A) (k : ℕ) (x : A) → slice_get xs k ≡ Some x → slice_get (map f xs) k ≡ Some (f x)

@@ -18,7 +18,7 @@ use Rattle.slot_calls.specs.Keeping.{without_machine_in, without_machines}
 use Rattle.step_master.specs.Master.{Closes}
 use Rattle.step_master.specs.FreshInstances.{fresh_instances, views_of}
 use Rattle.step_master.specs.System.{ArePeersOf, IsNew}
-use Rattle.step_master.proofs.FreshLemmas.{unmapped}
+use Rattle.step_master.proofs.CallerLemmas.{unmapped}
 
 -- ---- slots
 

@@ -5,4 +5,3 @@ pub mod Holding
 pub mod Standing
 pub mod Histories
 pub mod Sessions
-pub mod Traced

@@ -8,7 +8,7 @@ mod slot_table;
 mod taking;
 
 pub use calling_sequence::RunEnd;
-pub use laws::{histories_of_peers, runs_of_machines};
+pub use laws::histories_of_peers;
 pub use master::Master;
 pub use prepare_end::{PrepareEnd, PrepareFault};
 pub use slot_calls::BadAnswer;

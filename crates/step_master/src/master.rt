@@ -6,7 +6,7 @@ ghost use Rattle.calling_sequence.specs.Plans.{CountsBy};
 ghost use Rattle.system_model.specs.Plans.{IsPlan};
 ghost use Rattle.step_master.specs.System.{ArePeersOf};
 ghost use Rattle.calling_sequence.specs.Place.{IsMade};
-ghost use Rattle.calling_sequence.specs.Ready.{IsPlanOf, IsRoomy, MayBeRun, Ready};
+ghost use Rattle.calling_sequence.specs.Ready.{AreFresh, IsPlanOf, IsRoomy, MayBeRun, Ready};
 ghost use Rattle.slot_calls.specs.Slots.{instances};
 ghost use Rattle.step_master.specs.Master.{FailsToPrepare, Makes};
 ghost use Rattle.system_checkpoint.specs.Spelling.{CanBeHeld};
@@ -67,13 +67,7 @@ impl<L: Peer> Master<L> {
             bound,
             plan,
         };
-        let Ok(buffers) = Buffers::new(alloc, &experiment) else {
-            return Err(PrepareEnd {
-                peers,
-                fault: PrepareFault::Memory,
-            });
-        };
-        let Ok(keeping) = keeping_for(alloc, &experiment) else {
+        let Ok((buffers, keeping)) = room_of(alloc, &experiment) else {
             return Err(PrepareEnd {
                 peers,
                 fault: PrepareFault::Memory,
@@ -227,6 +221,18 @@ impl<L: Peer> Master<L> {
     {
         self.was_run
     }
+}
+
+// All memory of a whole run but its slots.
+fn room_of(alloc: Global, experiment: &Experiment) -> Result<(Buffers, Keeping), NoMemory>
+    requires sound { IsSound experiment.now.system }
+    requires plan { IsPlan experiment.now.plan }
+    ensures fresh { IfOk result (λ room. AreFresh experiment.now room.0) }
+    ensures roomy { IfOk result (λ room. IsHoldable experiment.now.system experiment.now.plan →
+        IsRoomy experiment.now.system experiment.now.plan room.1) }
+{
+    let buffers = Buffers::new(alloc, experiment)?;
+    Ok((buffers, keeping_for(alloc, experiment)?))
 }
 
 // Room to be held, where the run can be.

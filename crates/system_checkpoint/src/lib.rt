@@ -8,8 +8,6 @@ mod parts;
 mod plans;
 mod putting;
 mod snapshot;
-#[cfg(test)]
-mod tests;
 mod whole;
 
 pub use first::read_plan;

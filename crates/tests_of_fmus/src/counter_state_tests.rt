@@ -1,7 +1,7 @@
 //! A counter's state as bytes: what they are, which bytes are refused, and how a counter goes on from them.
 ghost use Rattle.std.specs.Prelude.{◌≡◌, ◌≤◌, ◌^◌, [], vec_capacity};
 
-use crate::driving::{BEGIN, answers_each, counter_shape, shape, stepped, variable};
+use crate::driving::{BEGIN, answers_each, counter_shape, shape, stepped, variable, variables};
 use bench_fmus::Bench;
 use fmi_calls::{BadStatus, Call, Content, Kind, Reply, permitted};
 use fmu_peer::{Peer, Spawner};
@@ -56,10 +56,12 @@ fn serializing(given: Shape) -> Shape {
 
 // The counter, with its variables in another order.
 fn mixed_shape(alloc: Global) -> Result<Shape, AllocError> {
-    let long = variable(alloc, 3, PortType::Int64, Causality::Parameter, Some(-5))?;
-    let inc = variable(alloc, 1, PortType::Int64, Causality::Parameter, Some(2))?;
-    let y = variable(alloc, 2, PortType::Int32, Causality::Output, None)?;
-    shape(alloc, "counter", vec![in alloc; long, inc, y]?)
+    let rows = [
+        (3, PortType::Int64, Causality::Parameter, Some(-5)),
+        (1, PortType::Int64, Causality::Parameter, Some(2)),
+        (2, PortType::Int32, Causality::Output, None),
+    ];
+    shape(alloc, "counter", variables(alloc, &rows)?)
 }
 
 fn start<S: Spawner>(alloc: Global, spawner: &mut S, shape: &Shape) -> Option<S::Link> {
@@ -133,8 +135,10 @@ fn a_counters_state_has_its_numbers_and_its_values_by_reference(
     rt: HostRuntime,
 ) -> Result<(), AllocError> {
     let alloc = rt.alloc();
-    assert!(rt; keeps(alloc, &counter(alloc)?));
-    assert!(rt; keeps(alloc, &serializing(mixed_shape(alloc)?)));
+    let in_order = keeps(alloc, &counter(alloc)?);
+    assert!(rt; in_order);
+    let mixed = keeps(alloc, &serializing(mixed_shape(alloc)?));
+    assert!(rt; mixed);
     Ok(())
 }
 
@@ -175,6 +179,13 @@ fn answer_to_changed(alloc: Global, shape: &Shape, change: &(usize, u8)) -> Opti
     answer_to(alloc, shape, bytes.as_slice())
 }
 
+// The same of the state with one byte more.
+fn answer_to_longer(alloc: Global, shape: &Shape) -> Option<Reply> {
+    let mut longer = STATE.to_vec(alloc).ok()?;
+    longer.push(0).ok()?;
+    answer_to(alloc, shape, longer.as_slice())
+}
+
 const TAKEN: Reply = Reply::Done {
     is_warning: false,
     content: Content::Deserialize,
@@ -185,22 +196,31 @@ const REFUSED: Reply = Reply::Refused {
     status: BadStatus::Error,
 };
 
+// Whether it answers so to the state with each of these changes.
+fn answers_changed(alloc: Global, shape: &Shape, changes: &[(usize, u8)], wanted: Reply) -> bool {
+    for change in changes {
+        if answer_to_changed(alloc, shape, change) != Some(wanted) {
+            return false;
+        }
+    }
+    true
+}
+
+// Whether it takes the states alone, of those and of bytes that are none, too few or too many.
+fn tells_states(alloc: Global, shape: &Shape) -> bool {
+    answers_changed(alloc, shape, &WRONG, REFUSED)
+        && answers_changed(alloc, shape, &OTHER, TAKEN)
+        && answer_to(alloc, shape, &STATE[..67]) == Some(REFUSED)
+        && answer_to(alloc, shape, &STATE[..31]) == Some(REFUSED)
+        && answer_to(alloc, shape, &[]) == Some(REFUSED)
+        && answer_to_longer(alloc, shape) == Some(REFUSED)
+}
+
 #[test]
 fn bytes_of_no_state_are_refused(rt: HostRuntime) -> Result<(), AllocError> {
     let alloc = rt.alloc();
-    let shape = counter(alloc)?;
-    for change in &WRONG {
-        assert_eq!(rt; answer_to_changed(alloc, &shape, change), Some(REFUSED));
-    }
-    for change in &OTHER {
-        assert_eq!(rt; answer_to_changed(alloc, &shape, change), Some(TAKEN));
-    }
-    assert_eq!(rt; answer_to(alloc, &shape, &STATE[..67]), Some(REFUSED));
-    assert_eq!(rt; answer_to(alloc, &shape, &STATE[..31]), Some(REFUSED));
-    assert_eq!(rt; answer_to(alloc, &shape, &[]), Some(REFUSED));
-    let mut longer = STATE.to_vec(alloc)?;
-    longer.push(0)?;
-    assert_eq!(rt; answer_to(alloc, &shape, longer.as_slice()), Some(REFUSED));
+    let tells_states = tells_states(alloc, &counter(alloc)?);
+    assert!(rt; tells_states);
     Ok(())
 }
 
@@ -224,8 +244,10 @@ where
 #[test]
 fn a_counter_goes_on_from_its_bytes(rt: HostRuntime) -> Result<(), AllocError> {
     let alloc = rt.alloc();
-    assert!(rt; resumes(alloc, &counter(alloc)?));
-    assert!(rt; resumes(alloc, &serializing(mixed_shape(alloc)?)));
+    let in_order = resumes(alloc, &counter(alloc)?);
+    assert!(rt; in_order);
+    let mixed = resumes(alloc, &serializing(mixed_shape(alloc)?));
+    assert!(rt; mixed);
     Ok(())
 }
 
@@ -238,13 +260,15 @@ fn wide_shape(alloc: Global, count: u32) -> Result<Shape, AllocError> {
     Ok(serializing(shape(alloc, "counter", variables)?))
 }
 
-fn length_of(alloc: Global, count: u32) -> Option<usize> {
-    let shape = wide_shape(alloc, count).ok()?;
-    let (reply, bytes) = kept(alloc, &shape)?;
-    match reply {
-        Reply::Done { .. } => Some(bytes.len()),
-        Reply::Refused { .. } => None,
+fn length_kept(alloc: Global, shape: &Shape) -> Option<usize> {
+    match kept(alloc, shape)? {
+        (Reply::Done { .. }, bytes) => Some(bytes.len()),
+        (Reply::Refused { .. }, _) => None,
     }
+}
+
+fn length_of(alloc: Global, count: u32) -> Option<usize> {
+    length_kept(alloc, &wide_shape(alloc, count).ok()?)
 }
 
 #[test]

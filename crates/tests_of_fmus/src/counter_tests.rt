@@ -1,6 +1,6 @@
 //! A counter without event mode: its types, its parameters, values that are written, and a state that is saved and comes back.
 use crate::driving::{
-    BEGIN, INITIALIZE, INSTANTIATE, counter_shape, goes, shape, step, stepped, variable,
+    BEGIN, INITIALIZE, INSTANTIATE, counter_shape, goes, shape, step, stepped, variables,
 };
 use fmi_calls::{Call, Content};
 use std::alloc::{AllocError, Global};
@@ -195,10 +195,12 @@ static OTHERS: [(PortType, PortType, [u64; 2]); 3] = [
 ];
 
 fn other_shape(alloc: Global, inc: PortType, kind: PortType) -> Result<Shape, AllocError> {
-    let first = variable(alloc, 1, inc, Causality::Parameter, Some(300))?;
-    let second = variable(alloc, 2, kind, Causality::Output, None)?;
-    let third = variable(alloc, 7, kind, Causality::Output, Some(300))?;
-    shape(alloc, "counter", vec![in alloc; first, second, third]?)
+    let rows = [
+        (1, inc, Causality::Parameter, Some(300)),
+        (2, kind, Causality::Output, None),
+        (7, kind, Causality::Output, Some(300)),
+    ];
+    shape(alloc, "counter", variables(alloc, &rows)?)
 }
 
 fn shows_both(alloc: Global, row: &(PortType, PortType, [u64; 2])) -> bool {
@@ -226,11 +228,13 @@ fn inc_and_y_have_any_type_and_another_output_shows_its_value(rt: HostRuntime) {
 
 // One with two parameters inc.
 fn shape_with_two(alloc: Global) -> Result<Shape, AllocError> {
-    let other = variable(alloc, 7, PortType::Int32, Causality::Output, Some(4))?;
-    let first = variable(alloc, 1, PortType::Int64, Causality::Parameter, Some(3))?;
-    let second = variable(alloc, 1, PortType::Int64, Causality::Parameter, Some(9))?;
-    let y = variable(alloc, 2, PortType::Int32, Causality::Output, None)?;
-    shape(alloc, "counter", vec![in alloc; other, first, second, y]?)
+    let rows = [
+        (7, PortType::Int32, Causality::Output, Some(4)),
+        (1, PortType::Int64, Causality::Parameter, Some(3)),
+        (1, PortType::Int64, Causality::Parameter, Some(9)),
+        (2, PortType::Int32, Causality::Output, None),
+    ];
+    shape(alloc, "counter", variables(alloc, &rows)?)
 }
 
 fn counts_by_the_first(alloc: Global) -> bool {

@@ -65,6 +65,19 @@ pub(crate) fn variable(
     })
 }
 
+/// One of each reference, type, causality and start.
+pub(crate) fn variables(
+    alloc: Global,
+    rows: &[(u32, PortType, Causality, Option<i128>)],
+) -> Result<Vec<Variable>, AllocError> {
+    let mut made = Vec::new(alloc);
+    for row in rows {
+        let (reference, kind, causality, start) = *row;
+        made.push(variable(alloc, reference, kind, causality, start)?)?;
+    }
+    Ok(made)
+}
+
 pub(crate) fn dependency(
     alloc: Global,
     output: u32,
@@ -109,10 +122,12 @@ pub(crate) fn counter_shape(
     inc: i128,
     long: Option<i128>,
 ) -> Result<Shape, AllocError> {
-    let first = variable(alloc, 1, PortType::Int64, Causality::Parameter, Some(inc))?;
-    let second = variable(alloc, 2, kind, Causality::Output, None)?;
-    let third = variable(alloc, 3, PortType::Int64, Causality::Parameter, long)?;
-    shape(alloc, "counter", vec![in alloc; first, second, third]?)
+    let rows = [
+        (1, PortType::Int64, Causality::Parameter, Some(inc)),
+        (2, kind, Causality::Output, None),
+        (3, PortType::Int64, Causality::Parameter, long),
+    ];
+    shape(alloc, "counter", variables(alloc, &rows)?)
 }
 
 pub(crate) fn step(at: u64, size: u64, terminate: bool) -> (Call, Content)

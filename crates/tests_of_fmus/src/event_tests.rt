@@ -1,5 +1,5 @@
 //! Machines with event mode and with Clocks: each goes through its modes, and samples, arms or ticks as it is to.
-use crate::driving::{INITIALIZE, dependency, goes, shape, stepped, variable};
+use crate::driving::{INITIALIZE, dependency, goes, shape, stepped, variable, variables};
 use clock_fraction::Fraction;
 use fmi_calls::{Call, Content, Interval};
 use sim_base::Items;
@@ -152,10 +152,12 @@ static MODES: [Modes; 10] = [
 
 fn modes_variables(alloc: Global, modes: &Modes) -> Result<Vec<Variable>, AllocError> {
     let start = Some(modes.parameter);
-    let first = variable(alloc, 1, PortType::Int64, Causality::Parameter, start)?;
-    let second = variable(alloc, 2, PortType::Int32, modes.second, Some(0))?;
-    let third = variable(alloc, 3, PortType::Int32, Causality::Output, None)?;
-    Ok(vec![in alloc; first, second, third]?)
+    let rows = [
+        (1, PortType::Int64, Causality::Parameter, start),
+        (2, PortType::Int32, modes.second, Some(0)),
+        (3, PortType::Int32, Causality::Output, None),
+    ];
+    variables(alloc, &rows)
 }
 
 fn modes_shape(alloc: Global, modes: &Modes) -> Result<Shape, AllocError> {

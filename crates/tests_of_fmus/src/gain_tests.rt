@@ -1,5 +1,5 @@
 //! A gain without event mode: products in each kind of type, and when an input shows at the output.
-use crate::driving::{BEGIN, dependency, goes, shape, step, variable};
+use crate::driving::{BEGIN, dependency, goes, shape, step, variables};
 use fmi_calls::{Call, Content};
 use std::alloc::{AllocError, Global};
 use value_types::{ByReference, Causality, Dependency, PortType, Shape, Variable};
@@ -56,10 +56,12 @@ fn on(alloc: Global, references: &[u32]) -> Result<ByReference<Dependency>, Allo
 }
 
 fn gain_variables(alloc: Global, gain: &Gain) -> Result<Vec<Variable>, AllocError> {
-    let factor = variable(alloc, 1, gain.kind, gain.factor, Some(gain.start))?;
-    let input = variable(alloc, 2, gain.kind, Causality::Input, Some(0))?;
-    let output = variable(alloc, 3, gain.kind, Causality::Output, None)?;
-    Ok(vec![in alloc; factor, input, output]?)
+    let rows = [
+        (1, gain.kind, gain.factor, Some(gain.start)),
+        (2, gain.kind, Causality::Input, Some(0)),
+        (3, gain.kind, Causality::Output, None),
+    ];
+    variables(alloc, &rows)
 }
 
 fn gain_shape(alloc: Global, gain: &Gain) -> Result<Shape, AllocError> {

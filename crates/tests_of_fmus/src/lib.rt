@@ -2,6 +2,8 @@
 #![tactic(auto)]
 
 #[cfg(test)]
+mod batch_tests;
+#[cfg(test)]
 mod clock_tests;
 #[cfg(test)]
 mod counter_state_tests;

@@ -30,7 +30,8 @@ fn shape(alloc: Global) -> Result<Shape, AllocError> {
     let clocks = ByReference::new(alloc, Vec::new(alloc))?;
     let dependencies = ByReference::new(alloc, Vec::new(alloc))?;
     let initial_dependencies = ByReference::new(alloc, Vec::new(alloc))?;
-    let variables = vec![in alloc; parameter(alloc, 7)?]?;
+    let mut variables = Vec::new(alloc);
+    variables.push(parameter(alloc, 7)?)?;
     Ok(Shape {
         identifier,
         token,
@@ -171,7 +172,8 @@ fn sends_each(
 ) -> Option<bool> {
     let mut peer = peer_on(alloc, shape, coming, &[])?;
     let is_answered = answers_each(rt, &mut peer);
-    Some(is_answered && has_sent(&peer.into_wire(), frames))
+    let wire = peer.into_wire();
+    Some(is_answered & has_sent(&wire, frames))
 }
 
 #[test]
@@ -260,15 +262,23 @@ fn is_answered(rt: &impl Abort, peer: &mut Piped<MemWire>, row: &Answer) -> bool
 fn is_answer(rt: &impl Abort, alloc: Global, shape: &Shape, row: &Answer) -> Option<bool> {
     let mut peer = peer_on(alloc, shape, row.0, row.1)?;
     let is_answered = is_answered(rt, &mut peer, row);
-    Some(is_answered && is_told(&peer.into_wire(), row))
+    let wire = peer.into_wire();
+    Some(is_answered & is_told(&wire, row))
+}
+
+fn are_answers(rt: &impl Abort, alloc: Global, shape: &Shape) -> bool {
+    for row in &ANSWERS {
+        if is_answer(rt, alloc, shape, row) != Some(true) {
+            return false;
+        }
+    }
+    true
 }
 
 #[test]
 fn replies_that_fail_or_are_garbled_are_told(rt: HostRuntime) -> Result<(), Fail> {
-    let shape = shape(rt.alloc())?;
-    for row in &ANSWERS {
-        assert!(rt; is_answer(&rt, rt.alloc(), &shape, row) == Some(true));
-    }
+    let are_answers = are_answers(&rt, rt.alloc(), &shape(rt.alloc())?);
+    assert!(rt; are_answers);
     Ok(())
 }
 

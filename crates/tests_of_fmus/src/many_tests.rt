@@ -67,25 +67,35 @@ fn scripts(alloc: Global, answers: &[Result<Reply, PeerFault>; 2]) -> Result<Scr
     Ok(Scripts::new(alloc, lists, Vec::new(alloc)))
 }
 
-// A peer in Initialization Mode that has these answers.
-fn start(
-    rt: &impl Abort,
-    alloc: Global,
-    answers: &[Result<Reply, PeerFault>; 2],
-) -> Result<Script, StartFault> {
+fn start_with(alloc: Global, scripts: &mut Scripts) -> Result<Script, StartFault> {
     let Ok(shape) = counter_shape(alloc, PortType::Int32, 1, None) else {
         return Err(StartFault::Memory);
     };
+    if shape.token.as_str().len() > 1 << 24 {
+        return Err(StartFault::Failed);
+    }
+    scripts.start(alloc, "host", "c", "fmus/c", &shape)
+}
+
+// A peer that has these answers behind those of two calls.
+fn start(alloc: Global, answers: &[Result<Reply, PeerFault>; 2]) -> Result<Script, StartFault> {
     let Ok(mut scripts) = scripts(alloc, answers) else {
         return Err(StartFault::Memory);
     };
-    assert!(rt; shape.token.as_str().len() <= 1 << 24);
-    let mut peer = scripts.start(alloc, "host", "c", "fmus/c", &shape)?;
+    start_with(alloc, &mut scripts)
+}
+
+// Whether it goes into Initialization Mode.
+fn is_initializing<L: Peer>(peer: &mut L) -> bool {
     for call in &[INSTANTIATE, INITIALIZE] {
-        assert!(rt; is_plain(call) && permitted(peer.shape(), peer.phase(), call));
-        assert!(rt; peer.call(call).is_ok());
+        if !is_plain(call) || !permitted(peer.shape(), peer.phase(), call) {
+            return false;
+        }
+        if peer.call(call).is_err() {
+            return false;
+        }
     }
-    Ok(peer)
+    true
 }
 
 // Asks for the same output twice, at once.
@@ -103,11 +113,18 @@ fn ask_twice<L: Peer>(
 }
 
 // Whether a peer that has these answers tells so, and leaves these replies.
-fn is_told_so(rt: &impl Abort, alloc: Global, row: &Row) -> Result<bool, StartFault> {
-    let mut peer = start(rt, alloc, &row.0)?;
+fn tells_so<L: Peer>(rt: &impl Abort, peer: &mut L, row: &Row) -> bool {
+    if !is_initializing(peer) {
+        return false;
+    }
     let mut replies = [UNTOUCHED; 2];
-    let told = ask_twice(rt, &mut peer, &mut replies);
-    Ok(told == row.1 && replies == row.2)
+    let told = ask_twice(rt, peer, &mut replies);
+    told == row.1 && replies == row.2
+}
+
+fn is_told_so(rt: &impl Abort, alloc: Global, row: &Row) -> Result<bool, StartFault> {
+    let mut peer = start(alloc, &row.0)?;
+    Ok(tells_so(rt, &mut peer, row))
 }
 
 #[test]

@@ -77,15 +77,23 @@ fn starts_one(
     Ok(is_listed && is_unknown && is_full && is_retired)
 }
 
+fn gauge(alloc: Global) -> Result<Shape, AllocError> {
+    shape(alloc, "gauge", Vec::new(alloc))
+}
+
+// The same of a bench whose peers have room for two exchanges.
+fn starts_one_of(rt: &impl Abort, alloc: Global, other: &Shape) -> Result<bool, Fail> {
+    let failing = vec![in alloc; 1, 9]?;
+    let shape = counter_shape(alloc, PortType::Int32, 1, None)?;
+    let mut bench = Bench::new(alloc, Some(2), failing);
+    let is_so = starts_one(rt, alloc, &mut bench, &shape, other)?;
+    Ok(is_so)
+}
+
 #[test]
 fn a_full_room_fails_and_starts_fail_by_their_list(rt: HostRuntime) -> Result<(), Fail> {
     let alloc = rt.alloc();
-    let failing = vec![in alloc; 1, 9]?;
-    let mut bench = Bench::new(alloc, Some(2), failing);
-    let shape = counter_shape(alloc, PortType::Int32, 1, None)?;
-    let other = self::shape(alloc, "gauge", Vec::new(alloc))?;
-    let is_so = starts_one(&rt, alloc, &mut bench, &shape, &other)?;
-    assert!(rt; is_so);
+    assert!(rt; starts_one_of(&rt, alloc, &gauge(alloc)?)?);
     Ok(())
 }
 
@@ -96,10 +104,10 @@ const WARNED: Result<Reply, PeerFault> = Ok(Reply::Done {
 
 // Two scripts: one without answers, and one with one. The first start fails.
 fn scripts(alloc: Global) -> Result<Scripts, AllocError> {
-    let answers = vec![in alloc; WARNED]?;
     let failing = vec![in alloc; 0]?;
-    let none = Items::from_vec(Vec::new(alloc));
-    let lists = vec![in alloc; none, Items::from_vec(answers)]?;
+    let mut lists = Vec::new(alloc);
+    lists.push(Items::from_vec(Vec::new(alloc)))?;
+    lists.push(Items::from_vec(vec![in alloc; WARNED]?))?;
     Ok(Scripts::new(alloc, lists, failing))
 }
 
@@ -130,13 +138,17 @@ fn starts_second(
     Ok(is_listed && is_at_its_end && is_retired)
 }
 
+// Whether the first start of a script fails, and the second gives one that comes to its end.
+fn is_second_started(rt: &impl Abort, alloc: Global, shape: &Shape) -> Result<bool, Fail> {
+    let mut scripts = scripts(alloc)?;
+    let is_failed = fails(rt, alloc, &mut scripts, shape, StartFault::Failed);
+    let is_started = starts_second(rt, alloc, &mut scripts, shape)?;
+    Ok(is_failed && is_started)
+}
+
 #[test]
 fn a_script_gives_its_answers_and_then_fails(rt: HostRuntime) -> Result<(), Fail> {
     let alloc = rt.alloc();
-    let shape = self::shape(alloc, "gauge", Vec::new(alloc))?;
-    let mut scripts = scripts(alloc)?;
-    assert!(rt; fails(&rt, alloc, &mut scripts, &shape, StartFault::Failed));
-    let is_so = starts_second(&rt, alloc, &mut scripts, &shape)?;
-    assert!(rt; is_so);
+    assert!(rt; is_second_started(&rt, alloc, &gauge(alloc)?)?);
     Ok(())
 }

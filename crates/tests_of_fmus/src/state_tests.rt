@@ -36,14 +36,22 @@ fn wire(alloc: Global, coming: Vec<u8>, failing: &[u64]) -> Result<MemWire, Allo
 
 // Its peer, to which these bytes come, the one after the other.
 fn peer_on(alloc: Global, first: &[u8], second: &[u8], failing: &[u64]) -> Option<Piped<MemWire>> {
-    let shape = shape(alloc).ok()?;
+    let mut coming = first.to_vec(alloc).ok()?;
+    coming.extend_from_slice(second).ok()?;
+    peer_of(
+        alloc,
+        &shape(alloc).ok()?,
+        wire(alloc, coming, failing).ok()?,
+    )
+}
+
+fn peer_of(alloc: Global, shape: &Shape, wire: MemWire) -> Option<Piped<MemWire>>
+    requires { wire.faults ≡ 0 }
+{
     if shape.token.as_str().len() > 1 << 24 {
         return None;
     }
-    let mut coming = first.to_vec(alloc).ok()?;
-    coming.extend_from_slice(second).ok()?;
-    let wire = wire(alloc, coming, failing).ok()?;
-    Piped::start(alloc, wire, "host", "c", "fmus/c", &shape).ok()
+    Piped::start(alloc, wire, "host", "c", "fmus/c", shape).ok()
 }
 
 fn ask(rt: &impl Abort, peer: &mut Piped<MemWire>, call: Call) -> bool
@@ -76,15 +84,18 @@ fn saved_peer(
     failing: &[u64],
 ) -> Option<Piped<MemWire>> {
     let mut peer = peer_on(alloc, SAVED, after, failing)?;
-    let is_saved = ask(rt, &mut peer, INSTANTIATE)
-        && ask(
-            rt,
-            &mut peer,
-            Call::EnterInitialization { start: 0, stop: 20 },
-        )
-        && ask(rt, &mut peer, Call::ExitInitialization)
-        && ask(rt, &mut peer, Call::Save);
-    if is_saved { Some(peer) } else { None }
+    if is_saved(rt, &mut peer) {
+        Some(peer)
+    } else {
+        None
+    }
+}
+
+fn is_saved(rt: &impl Abort, peer: &mut Piped<MemWire>) -> bool {
+    ask(rt, peer, INSTANTIATE)
+        && ask(rt, peer, Call::EnterInitialization { start: 0, stop: 20 })
+        && ask(rt, peer, Call::ExitInitialization)
+        && ask(rt, peer, Call::Save)
 }
 
 const FAILED: Result<Reply, PeerFault> = Err(PeerFault::Failed);
@@ -172,16 +183,29 @@ static SERIALIZED: [Serialized; 7] = [
     ),
 ];
 
-fn is_serialized(rt: &impl Abort, alloc: Global, row: &Serialized) -> Option<bool> {
-    let mut peer = saved_peer(rt, alloc, row.0, row.1)?;
+// Whether the peer answers so.
+fn serializes(
+    rt: &impl Abort,
+    alloc: Global,
+    peer: &mut Piped<MemWire>,
+    row: &Serialized,
+) -> Option<bool> {
     let mut state = Vec::with_capacity(alloc, 1 << 20).ok()?;
     assert!(rt; permitted(peer.shape(), peer.phase(), &Call::Serialize));
     let answer = peer.serialize(&mut state);
     let is_given = answer.is_err() || state.as_slice() == row.3;
-    let is_counted = peer.instance.bad_replies == row.5[1];
+    Some(is_given && answer == row.2 && peer.instance.bad_replies == row.5[1])
+}
+
+fn has_taken(wire: &MemWire, row: &Serialized) -> bool {
+    wire.taken == SAVED.len().saturating_add(row.4) && wire.faults == row.5[0]
+}
+
+fn is_serialized(rt: &impl Abort, alloc: Global, row: &Serialized) -> Option<bool> {
+    let mut peer = saved_peer(rt, alloc, row.0, row.1)?;
+    let serializes = serializes(rt, alloc, &mut peer, row) == Some(true);
     let wire = peer.into_wire();
-    let is_taken = wire.taken == SAVED.len().saturating_add(row.4) && wire.faults == row.5[0];
-    Some(answer == row.2 && is_given && is_counted && is_taken)
+    Some(serializes & has_taken(&wire, row))
 }
 
 #[test]
@@ -232,17 +256,26 @@ static DESERIALIZED: [Deserialized; 5] = [
     (b"", &[4], FAILED, WITH_STATE, [1, 0]),
 ];
 
-fn is_deserialized(rt: &impl Abort, alloc: Global, row: &Deserialized) -> Option<bool> {
-    let mut peer = peer_on(alloc, INSTANTIATED, row.0, row.1)?;
-    if !ask(rt, &mut peer, INSTANTIATE) {
-        return None;
+// Whether the peer answers so.
+fn deserializes(rt: &impl Abort, peer: &mut Piped<MemWire>, row: &Deserialized) -> bool {
+    if !ask(rt, peer, INSTANTIATE) {
+        return false;
     }
     assert!(rt; permitted(peer.shape(), peer.phase(), &DESERIALIZE));
     let answer = peer.deserialize(&DESERIALIZE, b"abc");
-    let is_counted = peer.instance.bad_replies == row.4[1];
-    let wire = peer.into_wire();
+    answer == row.2 && peer.instance.bad_replies == row.4[1]
+}
+
+fn has_sent(wire: &MemWire, row: &Deserialized) -> bool {
     let is_sent = wire.sent.as_slice().ends_with(row.3) && wire.sent.len() == 28 + row.3.len();
-    Some(answer == row.2 && is_counted && is_sent && wire.faults == row.4[0])
+    is_sent && wire.faults == row.4[0]
+}
+
+fn is_deserialized(rt: &impl Abort, alloc: Global, row: &Deserialized) -> Option<bool> {
+    let mut peer = peer_on(alloc, INSTANTIATED, row.0, row.1)?;
+    let deserializes = deserializes(rt, &mut peer, row);
+    let wire = peer.into_wire();
+    Some(deserializes & has_sent(&wire, row))
 }
 
 #[test]

@@ -99,12 +99,20 @@ fn put_dependencies(
 ) -> Result<(), AllocError> {
     text.push_str("|")?;
     for dependency in dependencies.as_slice() {
-        let output = dependency.output;
-        text.push_str(format!(in alloc; "{output}:")?.as_str())?;
-        put_knowns(alloc, text, &dependency.on)?;
-        text.push_str(";")?;
+        put_dependency(alloc, text, dependency)?;
     }
     Ok(())
+}
+
+fn put_dependency(
+    alloc: Global,
+    text: &mut String,
+    dependency: &Dependency,
+) -> Result<(), AllocError> {
+    let output = dependency.output;
+    text.push_str(format!(in alloc; "{output}:")?.as_str())?;
+    put_knowns(alloc, text, &dependency.on)?;
+    text.push_str(";")
 }
 
 pub(crate) fn shape_text(alloc: Global, shape: &Shape) -> Result<String, AllocError> {

@@ -182,29 +182,35 @@ fn make<R: Abort>(rt: &R, alloc: Global, component: u32, talk: &[Exchange]) -> S
     slot_of(rt, component, script, Job::Nothing)
 }
 
-// The FMU is closed and had this talk.
-fn assert_talk(rt: &impl Abort, slot: Slot<Script>, talk: &[Exchange]) {
-    assert!(rt; into_closed(rt, slot).talk() == Some(talk));
+// Whether the FMU is closed and had this talk.
+fn had_talk(rt: &impl Abort, slot: Slot<Script>, talk: &[Exchange]) -> bool {
+    let script = into_closed(rt, slot);
+    script.talk() == Some(talk)
+}
+
+// Whether the case has its result and its talks by so many workers.
+fn are_met<R: Abort + Threads + Sync>(rt: &R, alloc: Global, case: &Case, workers: u32) -> bool {
+    let [first, second, third] = &case.talks;
+    let mut slots = [
+        make(rt, alloc, 0, first),
+        make(rt, alloc, 1, second),
+        make(rt, alloc, 2, third),
+    ];
+    let agreed = step_to(rt, &mut slots, 10, workers);
+    close_all(&mut slots);
+    let [one, two, three] = slots;
+    let is_first = had_talk(rt, one, first);
+    let is_second = had_talk(rt, two, second);
+    let is_third = had_talk(rt, three, third);
+    agreed == case.result && is_first && is_second && is_third
 }
 
 #[test]
 fn fmus_that_return_early_are_met(rt: HostRuntime) {
     let alloc = rt.alloc();
-    for Case { talks, result } in &CASES {
+    for case in &CASES {
         for workers in &WORKERS {
-            let [first, second, third] = talks;
-            let mut slots = [
-                make(&rt, alloc, 0, first),
-                make(&rt, alloc, 1, second),
-                make(&rt, alloc, 2, third),
-            ];
-            let agreed = step_to(&rt, &mut slots, 10, *workers);
-            assert!(rt; agreed == *result, "by {workers} workers");
-            close_all(&mut slots);
-            let [one, two, three] = slots;
-            assert_talk(&rt, one, first);
-            assert_talk(&rt, two, second);
-            assert_talk(&rt, three, third);
+            assert!(rt; are_met(&rt, alloc, case, *workers), "by {workers} workers");
         }
     }
 }

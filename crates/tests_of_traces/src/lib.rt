@@ -4,6 +4,8 @@
 #[cfg(test)]
 mod check_tests;
 #[cfg(test)]
+mod checkpoint_tests;
+#[cfg(test)]
 mod reading_tests;
 #[cfg(test)]
 mod text_tests;

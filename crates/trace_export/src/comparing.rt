@@ -61,17 +61,30 @@ pub fn compare<A: BufRead + Drop, B: BufRead + Drop, S: Sink>(
         Ok(stream) => stream,
         Err(fault) => return Err(CompareFault::Second(ViewFault::from(fault))),
     };
-    let columns = columns_of(alloc, a.ports(), reals)?;
-    let forms = forms_of(alloc, &columns)?;
-    let is_same = compare_heads(&a, &b, &mut out.bytes)?
-        && compare_instants(alloc, &mut a, &mut b, &forms, tolerance, &mut out.bytes)?;
-    if is_same {
-        out.bytes.extend_from_slice(b"same\n")?;
-    }
+    let is_same = compare_streams(alloc, &mut a, &mut b, reals, tolerance, &mut out.bytes)?;
     match out.flush() {
         Ok(()) => Ok(is_same),
         Err(fault) => Err(CompareFault::Shown(fault)),
     }
+}
+
+fn compare_streams<A: BufRead, B: BufRead>(
+    alloc: Global,
+    first: &mut TraceStream<A>,
+    second: &mut TraceStream<B>,
+    reals: &[RealPort],
+    tolerance: Tolerance,
+    out: &mut Vec<u8>,
+) -> Result<bool, CompareFault> {
+    if !compare_heads(first, second, out)? {
+        return Ok(false);
+    }
+    let forms = forms_of(alloc, &columns_of(alloc, first.ports(), reals)?)?;
+    let is_same = compare_instants(alloc, first, second, &forms, tolerance, out)?;
+    if is_same {
+        out.extend_from_slice(b"same\n")?;
+    }
+    Ok(is_same)
 }
 
 // Whether the resolutions and the ports are the same.
@@ -97,12 +110,25 @@ fn compare_instants<A: BufRead, B: BufRead>(
 ) -> Result<bool, CompareFault> {
     let mut a = Moment::new(alloc, forms.len())?;
     let mut b = Moment::new(alloc, forms.len())?;
+    compare_moments(first, second, &mut a, &mut b, forms, tolerance, out)
+}
+
+// The same, where the instants that were read last stand in `a` and `b`.
+fn compare_moments<A: BufRead, B: BufRead>(
+    first: &mut TraceStream<A>,
+    second: &mut TraceStream<B>,
+    a: &mut Moment,
+    b: &mut Moment,
+    forms: &[Form],
+    tolerance: Tolerance,
+    out: &mut Vec<u8>,
+) -> Result<bool, CompareFault> {
     for _ in 0..u64::MAX {
-        let has_first = match first.read(&mut a) {
+        let has_first = match first.read(a) {
             Ok(more) => more,
             Err(fault) => return Err(CompareFault::First(ViewFault::from(fault))),
         };
-        let has_second = match second.read(&mut b) {
+        let has_second = match second.read(b) {
             Ok(more) => more,
             Err(fault) => return Err(CompareFault::Second(ViewFault::from(fault))),
         };
@@ -112,14 +138,14 @@ fn compare_instants<A: BufRead, B: BufRead>(
         let is_before = has_first && (!has_second || (a.t, a.n) < (b.t, b.n));
         let is_after = has_second && (!has_first || (b.t, b.n) < (a.t, a.n));
         if is_before {
-            append_only("first", &a, out)?;
+            append_only("first", a, out)?;
             return Ok(false);
         }
         if is_after {
-            append_only("second", &b, out)?;
+            append_only("second", b, out)?;
             return Ok(false);
         }
-        if !compare_values(first.ports(), forms, &a, &b, tolerance, out)? {
+        if !compare_values(first.ports(), forms, a, b, tolerance, out)? {
             return Ok(false);
         }
     }
@@ -200,16 +226,27 @@ fn compare_values(
     let values = first.values.iter().zip(&second.values);
     for ((port, form), (a, b)) in ports.iter().zip(forms).zip(values) {
         if !tolerance.takes_values(*form, *a, *b) {
-            append_at(first, out)?;
-            out.push(b' ')?;
-            append_name(port, out)?;
-            append_value(*form, *a, out)?;
-            append_value(*form, *b, out)?;
-            out.push(b'\n')?;
+            append_difference(first, port, *form, (*a, *b), out)?;
             return Ok(false);
         }
     }
     Ok(true)
+}
+
+fn append_difference(
+    moment: &Moment,
+    port: &TracePort,
+    form: Form,
+    values: (Option<i128>, Option<i128>),
+    out: &mut Vec<u8>,
+) -> Result<(), AllocError> {
+    append_at(moment, out)?;
+    out.push(b' ')?;
+    append_name(port, out)?;
+    append_value(form, values.0, out)?;
+    append_value(form, values.1, out)?;
+    out.push(b'\n')?;
+    Ok(())
 }
 
 fn append_value(form: Form, value: Option<i128>, out: &mut Vec<u8>) -> Result<(), AllocError> {

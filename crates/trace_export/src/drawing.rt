@@ -47,22 +47,44 @@ pub fn write_plot<B: BufRead + Drop, S: Sink>(
     out: &mut Output<S>,
 ) -> Result<(), ViewFault> {
     let mut stream = TraceStream::open(alloc, input)?;
+    append_plot(alloc, &mut stream, reals, names, &mut out.bytes)?;
+    out.flush()
+}
+
+fn append_plot<B: BufRead>(
+    alloc: Global,
+    stream: &mut TraceStream<B>,
+    reals: &[RealPort],
+    names: &[&str],
+    out: &mut Vec<u8>,
+) -> Result<(), ViewFault> {
     let columns = columns_of(alloc, stream.ports(), reals)?;
     let mut panels = panels_of(alloc, stream.ports(), names)?;
+    let end = fill_panels(alloc, stream, &columns, &mut panels)?;
+    let picture = Picture {
+        header: stream.header(),
+        ports: stream.ports(),
+        columns: &columns,
+        panels: &panels,
+        end,
+    };
+    append_picture(alloc, &picture, stream.resolution(), out)?;
+    Ok(())
+}
+
+// Takes all instants into the panels, and tells the place up to which there are any.
+fn fill_panels<B: BufRead>(
+    alloc: Global,
+    stream: &mut TraceStream<B>,
+    columns: &[Column],
+    panels: &mut [Panel],
+) -> Result<usize, ViewFault> {
     let header = stream.header();
     let mut moment = Moment::new(alloc, columns.len())?;
     let mut end = 0;
     for _ in 0..u64::MAX {
         if !stream.read(&mut moment)? {
-            let picture = Picture {
-                header,
-                ports: stream.ports(),
-                columns: &columns,
-                panels: &panels,
-                end,
-            };
-            append_picture(alloc, &picture, stream.resolution(), &mut out.bytes)?;
-            return out.flush();
+            return Ok(end);
         }
         end = place_of(&header, moment.t);
         for panel in panels.iter_mut() {
@@ -358,18 +380,32 @@ fn append_axis(
         let t = header.start.saturating_add(after);
         label.clear();
         append_seconds(t, resolution, &mut label)?;
-        let x = LEFT.saturating_add(place_of(header, t) as u64);
-        out.extend_from_slice(b"<text class=\"dim\" text-anchor=\"middle\" x=\"")?;
-        append_number(x, out)?;
-        out.extend_from_slice(b"\" y=\"")?;
-        append_number(top.saturating_add(4), out)?;
-        out.extend_from_slice(b"\">")?;
-        out.extend_from_slice(&label)?;
-        out.extend_from_slice(b"</text>\n")?;
+        append_tick(header, t, &label, top, out)?;
         if span == 0 {
             break;
         }
     }
+    append_unit(top, out)
+}
+
+fn append_tick(
+    header: &Header,
+    t: u64,
+    label: &[u8],
+    top: u64,
+    out: &mut Vec<u8>,
+) -> Result<(), AllocError> {
+    let x = LEFT.saturating_add(place_of(header, t) as u64);
+    out.extend_from_slice(b"<text class=\"dim\" text-anchor=\"middle\" x=\"")?;
+    append_number(x, out)?;
+    out.extend_from_slice(b"\" y=\"")?;
+    append_number(top.saturating_add(4), out)?;
+    out.extend_from_slice(b"\">")?;
+    out.extend_from_slice(label)?;
+    out.extend_from_slice(b"</text>\n")
+}
+
+fn append_unit(top: u64, out: &mut Vec<u8>) -> Result<(), AllocError> {
     out.extend_from_slice(b"<text x=\"")?;
     append_number(LEFT.saturating_add(PLACES as u64 / 2), out)?;
     out.extend_from_slice(b"\" y=\"")?;

@@ -63,15 +63,36 @@ pub fn write_waves<B: BufRead + Drop, S: Sink>(
     out: &mut Output<S>,
 ) -> Result<(), ViewFault> {
     let mut stream = TraceStream::open(alloc, input)?;
+    append_waves(alloc, &mut stream, reals, units_of(digits), out)
+}
+
+fn append_waves<B: BufRead, S: Sink>(
+    alloc: Global,
+    stream: &mut TraceStream<B>,
+    reals: &[RealPort],
+    units: u64,
+    out: &mut Output<S>,
+) -> Result<(), ViewFault> {
     let columns = columns_of(alloc, stream.ports(), reals)?;
-    let units = units_of(digits);
     append_head(stream.resolution(), units, &mut out.bytes)?;
     append_variables(stream.ports(), &columns, &mut out.bytes)?;
     let mut moment = Moment::new(alloc, columns.len())?;
     let mut before = Moment::new(alloc, columns.len())?;
+    append_instants(stream, &columns, &mut moment, &mut before, units, out)
+}
+
+// The instants, of which the one that was read last stands in `moment`, and what was written last in `before`.
+fn append_instants<B: BufRead, S: Sink>(
+    stream: &mut TraceStream<B>,
+    columns: &[Column],
+    moment: &mut Moment,
+    before: &mut Moment,
+    units: u64,
+    out: &mut Output<S>,
+) -> Result<(), ViewFault> {
     let mut reached = None;
     for _ in 0..u64::MAX {
-        if !stream.read(&mut moment)? {
+        if !stream.read(moment)? {
             if let (Some((_, point)), Some(reached)) = (stream.end(), reached) {
                 append_end(place_of(point, 0, units)?, reached, &mut out.bytes)?;
             }
@@ -80,7 +101,7 @@ pub fn write_waves<B: BufRead + Drop, S: Sink>(
         let time = place_of(moment.t, moment.n, units)?;
         append_time(time, &mut out.bytes)?;
         let is_first = reached.is_none();
-        append_changes(&columns, &mut before, &moment, is_first, &mut out.bytes)?;
+        append_changes(columns, before, moment, is_first, &mut out.bytes)?;
         reached = Some(time);
         out.spill()?;
     }

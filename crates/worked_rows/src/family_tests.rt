@@ -1,4 +1,4 @@
-use crate::closing::{assert_talk, assert_unsaved};
+use crate::closing::assert_unsaved;
 use crate::driver::{Reached, run};
 use crate::exchanges::{
     EMPTIED, ENTERED, EXITED, FREED, SAVED, START, STARTED, STEP, STEPPED, TERMINATED, WRONG,
@@ -62,7 +62,7 @@ const FAILED_TERMINATE: &[Exchange] = &[
     failed!(Call::Terminate),
 ];
 
-const FAMILIES: [[Part; 3]; 12] = [
+static FAMILIES: [[Part; 3]; 12] = [
     // A state that was saved is freed first, and only from Step Mode the instance is terminated.
     [
         part!(7, 4, CLOSED),
@@ -242,8 +242,8 @@ fn run_part(rt: &impl Abort, alloc: Global, part: &Part) -> Slot<Script> {
     }
 }
 
-// The FMU is closed, its saved state given up, and it has had the part's talk.
-fn assert_closed(rt: &impl Abort, slot: Slot<Script>, part: &Part) {
+// Whether the FMU is closed, its saved state given up, and it has had the part's talk.
+fn is_closed(rt: &impl Abort, slot: Slot<Script>, part: &Part) -> bool {
     let Slot {
         source,
         held,
@@ -252,33 +252,35 @@ fn assert_closed(rt: &impl Abort, slot: Slot<Script>, part: &Part) {
         job: _,
         answer: _,
     } = slot;
-    assert_eq!(rt; source, SourceId(part.source));
     assert_unsaved(rt, saved);
-    match held {
-        Held::Closed(script) => assert_talk(rt, script.talk(), part.talk),
-        held => {
-            let _ = held.into_peer();
-            panic!(rt; "it isn't closed")
-        }
-    }
+    let is_closed = matches!(&held, Held::Closed(_));
+    let script = held.into_peer();
+    let has_talk = script.talk() == Some(part.talk);
+    is_closed && has_talk && source == SourceId(part.source)
 }
 
 fn assert_send<T: Send>(_value: &T) {}
 
+// Whether each of three is closed, once all are.
+fn are_closed(rt: &impl Abort, alloc: Global, parts: &[Part; 3]) -> bool {
+    let [first, second, third] = parts;
+    let mut slots = [
+        run_part(rt, alloc, first),
+        run_part(rt, alloc, second),
+        run_part(rt, alloc, third),
+    ];
+    assert_send(&slots);
+    close_all(&mut slots);
+    let [one, two, three] = slots;
+    let is_first = is_closed(rt, one, first);
+    let is_second = is_closed(rt, two, second);
+    let is_third = is_closed(rt, three, third);
+    is_first && is_second && is_third
+}
+
 #[test]
 fn instances_of_one_source_are_lost_together(rt: HostRuntime) {
     for parts in &FAMILIES {
-        let [first, second, third] = parts;
-        let mut slots = [
-            run_part(&rt, rt.alloc(), first),
-            run_part(&rt, rt.alloc(), second),
-            run_part(&rt, rt.alloc(), third),
-        ];
-        assert_send(&slots);
-        close_all(&mut slots);
-        let [one, two, three] = slots;
-        assert_closed(&rt, one, first);
-        assert_closed(&rt, two, second);
-        assert_closed(&rt, three, third);
+        assert!(rt; are_closed(&rt, rt.alloc(), parts));
     }
 }

@@ -1,4 +1,3 @@
-use crate::closing::assert_talk;
 use crate::exchanges::{
     ENTERED, EXITED, FREED, GET, STEP, TERMINATED, WRONG, failed, good, refused, wrong,
 };
@@ -10,6 +9,7 @@ use sim_base::{CompId, Items, MemSink};
 use std::alloc::{AllocError, Global};
 use std::process::Abort;
 use std::test::Fail;
+use std::thread::Threads;
 use step_master::{BadAnswer, PrepareFault, RunEnd};
 use value_types::PortType;
 
@@ -512,29 +512,38 @@ fn make_scripts(alloc: Global, talks: &[&'static [Exchange]; 3]) -> Result<Scrip
     Ok(Scripts::new(alloc, lists, Vec::new(alloc)))
 }
 
-fn assert_talks(rt: &impl Abort, scripts: &[Script], talks: &[&'static [Exchange]; 3]) {
-    assert_eq!(rt; scripts.len(), talks.len());
+fn have_talks(scripts: &[Script], talks: &[&'static [Exchange]; 3]) -> bool {
     for (script, talk) in scripts.iter().zip(talks) {
-        assert_talk(rt, script.talk(), talk);
+        if script.talk() != Some(*talk) {
+            return false;
+        }
     }
+    scripts.len() == talks.len()
+}
+
+fn has_put(out: &MemSink, text: &str, puts: u64) -> bool {
+    out.bytes.as_slice() == text.as_bytes() && out.puts == puts
+}
+
+fn has_run(ran: &Ran<Script>, case: &Case) -> bool {
+    ran.end == case.end
+        && ran.instants == case.instants
+        && have_talks(ran.peers.as_slice(), &case.talks)
+}
+
+// Whether a run of three has the case's text, end, instants and talks.
+fn runs_as(rt: &(impl Abort + Threads + Sync), alloc: Global, case: &Case) -> Result<bool, Fail> {
+    let mut out = MemSink::with_room(alloc, 400, 8, case.failing.to_vec(alloc)?)?;
+    let mut scripts = make_scripts(alloc, &case.talks)?;
+    let ran = run_trio(rt, alloc, case.incs, 20, &mut scripts, &mut out)?;
+    Ok(has_run(&ran, case) && has_put(&out, case.text, case.puts))
 }
 
 #[test]
 fn a_run_by_scripts_has_its_text_its_end_and_its_talks(rt: HostRuntime) -> Result<(), Fail> {
     let alloc = rt.alloc();
     for case in &CASES {
-        let mut scripts = make_scripts(alloc, &case.talks)?;
-        let mut out = MemSink::with_room(alloc, 400, 8, case.failing.to_vec(alloc)?)?;
-        let Ran {
-            end,
-            instants,
-            peers,
-        } = run_trio(&rt, alloc, case.incs, 20, &mut scripts, &mut out)?;
-        assert_eq!(rt; out.bytes.as_slice(), case.text.as_bytes(), "{}", case.text);
-        assert_eq!(rt; end, case.end, "{}", case.text);
-        assert_eq!(rt; instants, case.instants, "{}", case.text);
-        assert_eq!(rt; out.puts, case.puts, "{}", case.text);
-        assert_talks(&rt, peers.as_slice(), &case.talks);
+        assert!(rt; runs_as(&rt, alloc, case)?, "{}", case.text);
     }
     Ok(())
 }
@@ -572,16 +581,27 @@ static COUNTS: [([Option<i32>; 3], u64, RunEnd, &str); 4] = [
     ),
 ];
 
+// Whether a run of three has the row's text and end.
+fn counts_as(
+    rt: &(impl Abort + Threads + Sync),
+    alloc: Global,
+    row: &([Option<i32>; 3], u64, RunEnd, &str),
+) -> Result<bool, Fail> {
+    let (incs, stop, wanted, text) = *row;
+    if stop > 1 << 62 {
+        return Ok(false);
+    }
+    let mut out = MemSink::with_room(alloc, 400, 8, Vec::new(alloc))?;
+    let mut bench = Bench::new(alloc, None, Vec::new(alloc));
+    let ran = run_trio(rt, alloc, incs, stop, &mut bench, &mut out)?;
+    Ok(ran.end == Ok(wanted) && out.bytes.as_slice() == text.as_bytes())
+}
+
 #[test]
 fn counters_side_by_side_have_their_text(rt: HostRuntime) -> Result<(), Fail> {
     let alloc = rt.alloc();
-    for (incs, stop, wanted, text) in COUNTS {
-        let mut bench = Bench::new(alloc, None, Vec::new(alloc));
-        let mut out = MemSink::with_room(alloc, 400, 8, Vec::new(alloc))?;
-        assert!(rt; stop <= 1 << 62);
-        let Ran { end, .. } = run_trio(&rt, alloc, incs, stop, &mut bench, &mut out)?;
-        assert_eq!(rt; out.bytes.as_slice(), text.as_bytes(), "{text}");
-        assert_eq!(rt; end, Ok(wanted), "{text}");
+    for row in &COUNTS {
+        assert!(rt; counts_as(&rt, alloc, row)?, "{}", row.3);
     }
     Ok(())
 }

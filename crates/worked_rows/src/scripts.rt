@@ -27,13 +27,23 @@ fn make_variable(
     })
 }
 
+static VARIABLES: [(&str, u32, Causality); 3] = [
+    ("u", 1, Causality::Input),
+    ("y", 2, Causality::Output),
+    ("p", 3, Causality::Parameter),
+];
+
+fn make_variables(alloc: Global) -> Result<ByReference<Variable>, AllocError> {
+    let mut variables = Vec::new(alloc);
+    for row in &VARIABLES {
+        let (name, reference, causality) = *row;
+        variables.push(make_variable(alloc, name, reference, causality)?)?;
+    }
+    ByReference::new(alloc, variables)
+}
+
 // An FMU that may return early, without event mode and without variable steps.
 pub(crate) fn make_shape(alloc: Global) -> Result<Shape, AllocError> {
-    let variables = vec![in alloc;
-        make_variable(alloc, "u", 1, Causality::Input)?,
-        make_variable(alloc, "y", 2, Causality::Output)?,
-        make_variable(alloc, "p", 3, Causality::Parameter)?,
-    ]?;
     Ok(Shape {
         identifier: Text::from_str(alloc, "counter")?,
         token: Text::from_str(alloc, "{1}")?,
@@ -43,10 +53,10 @@ pub(crate) fn make_shape(alloc: Global) -> Result<Shape, AllocError> {
         has_variable_steps: false,
         can_save_state: true,
         can_serialize_state: false,
-        variables: ByReference::new(alloc, variables)?,
         clocks: ByReference::new(alloc, Vec::new(alloc))?,
         dependencies: ByReference::new(alloc, Vec::new(alloc))?,
         initial_dependencies: ByReference::new(alloc, Vec::new(alloc))?,
+        variables: make_variables(alloc)?,
     })
 }
 

@@ -59,10 +59,10 @@ fn make_eventful(
         has_variable_steps: true,
         can_save_state: true,
         can_serialize_state: false,
-        variables: ByReference::new(alloc, variables)?,
-        clocks: ByReference::new(alloc, clocks)?,
         dependencies: make_dependencies(alloc)?,
         initial_dependencies: make_dependencies(alloc)?,
+        clocks: ByReference::new(alloc, clocks)?,
+        variables: ByReference::new(alloc, variables)?,
     })
 }
 
@@ -92,15 +92,21 @@ fn make_settling(alloc: Global) -> Result<Component, AllocError>
     make_component(alloc, "settle", 0, shape)
 }
 
+fn make_own_variables(alloc: Global) -> Result<Vec<Variable>, AllocError>
+    ensures { IfOk result (λ list. list.items ≡ own.shape.variables) }
+{
+    let mut variables = Vec::new(alloc);
+    variables.push(make_clock(alloc)?)?;
+    variables.push(make_clocked(alloc)?)?;
+    variables.push(make_number(alloc, "y", 3, Causality::Output, None)?)?;
+    Ok(variables)
+}
+
 fn make_own(alloc: Global) -> Result<Component, AllocError>
     ensures { IfOk result (λ c. c ≡ own) }
 {
-    let variables = vec![in alloc;
-        make_clock(alloc)?,
-        make_clocked(alloc)?,
-        make_number(alloc, "y", 3, Causality::Output, None)?,
-    ]?;
-    let shape = make_eventful(alloc, variables, vec![in alloc; each_hundredth()]?)?;
+    let clocks = vec![in alloc; each_hundredth()]?;
+    let shape = make_eventful(alloc, make_own_variables(alloc)?, clocks)?;
     make_component(alloc, "own", 1, shape)
 }
 
@@ -127,21 +133,33 @@ fn make_clocked_port(alloc: Global) -> Result<Port, AllocError>
     })
 }
 
+fn make_components(alloc: Global) -> Result<Items<Component>, AllocError>
+    ensures { IfOk result (λ list. list ≡ ticking.components) }
+{
+    let settling = make_settling(alloc)?;
+    let own = make_own(alloc)?;
+    Ok(Items::from_vec(vec![in alloc; settling, own]?))
+}
+
+fn make_ports(alloc: Global) -> Result<Items<Port>, AllocError>
+    ensures { IfOk result (λ list. list ≡ ticking.ports) }
+{
+    let mut ports = Vec::new(alloc);
+    ports.push(make_port(alloc, 0, "y", 3, Role::Output)?)?;
+    ports.push(make_clock_port(alloc)?)?;
+    ports.push(make_clocked_port(alloc)?)?;
+    ports.push(make_port(alloc, 1, "y", 3, Role::Output)?)?;
+    Ok(Items::from_vec(ports))
+}
+
 /// The system.
 pub(crate) fn make_ticking(alloc: Global) -> Result<System, AllocError>
     ensures { IfOk result (λ system. system ≡ ticking) }
 {
-    let components = vec![in alloc; make_settling(alloc)?, make_own(alloc)?]?;
-    let ports = vec![in alloc;
-        make_port(alloc, 0, "y", 3, Role::Output)?,
-        make_clock_port(alloc)?,
-        make_clocked_port(alloc)?,
-        make_port(alloc, 1, "y", 3, Role::Output)?,
-    ]?;
     Ok(System {
-        components: Items::from_vec(components),
-        ports: Items::from_vec(ports),
         instant_order: make_order(alloc)?,
         initial_order: Items::from_vec(vec![in alloc; PortId(0), PortId(3)]?),
+        ports: make_ports(alloc)?,
+        components: make_components(alloc)?,
     })
 }

@@ -1,5 +1,5 @@
 //! Three FMUs side by side, the first two of one source: their system, their peers, and a run of them.
-ghost use Rattle.std.specs.Prelude.{◌≡◌, ◌≤◌, ◌^◌, [], ◌∷◌, All, IfOk, map};
+ghost use Rattle.std.specs.Prelude.{◌≡◌, ◌≤◌, ◌^◌, [], ◌∷◌, true, All, IfOk, map};
 ghost use Rattle.value_types.specs.Values.{Fits};
 ghost use Rattle.value_types.specs.declared.values.PortType.TheVariants as PortType;
 ghost use Rattle.system_model.specs.Bounds.{BindsParameters};
@@ -45,13 +45,18 @@ fn make_dependencies(alloc: Global) -> Result<ByReference<Dependency>, AllocErro
     ByReference::new(alloc, vec![in alloc; Dependency { output: 2, on }]?)
 }
 
+fn make_variables(alloc: Global, by: i128) -> Result<ByReference<Variable>, AllocError>
+    ensures { IfOk result (λ list. list ≡ (counting by true).variables) }
+{
+    let mut variables = Vec::new(alloc);
+    variables.push(make_number(alloc, "inc", 1, Causality::Parameter, Some(by))?)?;
+    variables.push(make_number(alloc, "y", 2, Causality::Output, None)?)?;
+    ByReference::new(alloc, variables)
+}
+
 fn make_counting(alloc: Global, by: i128, has_variable_steps: bool) -> Result<Shape, AllocError>
     ensures { IfOk result (λ shape. shape ≡ counting by has_variable_steps) }
 {
-    let variables = vec![in alloc;
-        make_number(alloc, "inc", 1, Causality::Parameter, Some(by))?,
-        make_number(alloc, "y", 2, Causality::Output, None)?,
-    ]?;
     Ok(Shape {
         identifier: Text::from_str(alloc, "counter")?,
         token: Text::from_str(alloc, "{1}")?,
@@ -61,10 +66,10 @@ fn make_counting(alloc: Global, by: i128, has_variable_steps: bool) -> Result<Sh
         has_variable_steps,
         can_save_state: false,
         can_serialize_state: false,
-        variables: ByReference::new(alloc, variables)?,
         clocks: ByReference::new(alloc, Vec::new(alloc))?,
         dependencies: make_dependencies(alloc)?,
         initial_dependencies: make_dependencies(alloc)?,
+        variables: make_variables(alloc, by)?,
     })
 }
 
@@ -102,26 +107,54 @@ fn make_order(alloc: Global) -> Result<Items<PortId>, AllocError>
     Ok(Items::from_vec(vec![in alloc; PortId(0), PortId(1), PortId(2)]?))
 }
 
+fn make_counter(
+    alloc: Global,
+    name: &str,
+    source: u32,
+    by: i128,
+    has_variable_steps: bool,
+) -> Result<Component, AllocError>
+    ensures { IfOk result
+        (λ c. c ≡ component name.now source (counting by has_variable_steps)) }
+{
+    make_component(
+        alloc,
+        name,
+        source,
+        make_counting(alloc, by, has_variable_steps)?,
+    )
+}
+
 // The first and the second count by 2 and take steps of any size, the third counts by 5 and takes those of the plan
 // alone.
+fn make_components(alloc: Global) -> Result<Items<Component>, AllocError>
+    ensures { IfOk result (λ list. list ≡ trio.components) }
+{
+    let mut components = Vec::new(alloc);
+    components.push(make_counter(alloc, "first", 0, 2, true)?)?;
+    components.push(make_counter(alloc, "second", 0, 2, true)?)?;
+    components.push(make_counter(alloc, "third", 1, 5, false)?)?;
+    Ok(Items::from_vec(components))
+}
+
+fn make_ports(alloc: Global) -> Result<Items<Port>, AllocError>
+    ensures { IfOk result (λ list. list ≡ trio.ports) }
+{
+    let mut ports = Vec::new(alloc);
+    ports.push(make_port(alloc, 0)?)?;
+    ports.push(make_port(alloc, 1)?)?;
+    ports.push(make_port(alloc, 2)?)?;
+    Ok(Items::from_vec(ports))
+}
+
 fn make_trio(alloc: Global) -> Result<System, AllocError>
     ensures { IfOk result (λ system. system ≡ trio) }
 {
-    let components = vec![in alloc;
-        make_component(alloc, "first", 0, make_counting(alloc, 2, true)?)?,
-        make_component(alloc, "second", 0, make_counting(alloc, 2, true)?)?,
-        make_component(alloc, "third", 1, make_counting(alloc, 5, false)?)?,
-    ]?;
-    let ports = vec![in alloc;
-        make_port(alloc, 0)?,
-        make_port(alloc, 1)?,
-        make_port(alloc, 2)?,
-    ]?;
     Ok(System {
-        components: Items::from_vec(components),
-        ports: Items::from_vec(ports),
         instant_order: make_order(alloc)?,
         initial_order: make_order(alloc)?,
+        ports: make_ports(alloc)?,
+        components: make_components(alloc)?,
     })
 }
 

@@ -9,7 +9,8 @@ use Rattle.step_master.specs.FreshInstances.{fresh_instances}
 use Rattle.slot_calls.specs.Slots.{instances}
 use Rattle.slot_calls.specs.Stage.{IsAnswered, StopsAt, shapes, to_each}
 use Rattle.slot_calls.proofs.CallerLemmas.{shapes_same}
-use Rattle.step_master.proofs.FreshLemmas.{components_few, fresh_shapes, machines_match_shapes, peers_fresh, slots_fresh, slots_length}
+use Rattle.step_master.proofs.FreshLemmas.{components_few, machines_match_shapes, peers_fresh, slots_fresh, slots_length}
+use Rattle.step_master.proofs.CallerLemmas.{fresh_shapes}
 use Rattle.step_master.proofs.master.make_slots.Goals as goal
 
 pub new-requires-clause-fresh : goal.new-requires-clause-fresh

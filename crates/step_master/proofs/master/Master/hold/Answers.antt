@@ -4,7 +4,7 @@ use Rattle.slot_calls.specs.Slots.{instances}
 use Rattle.calling_sequence.specs.Holding.{HoldsSlots}
 use Rattle.calling_sequence.specs.Ready.{MayBegin}
 use Rattle.step_master.specs.Standing.{MayRun}
-use Rattle.step_master.proofs.Resuming.{can_keep}
+use Rattle.step_master.proofs.CallerLemmas.{can_keep}
 use Rattle.step_master.proofs.FreshLemmas.{written_back}
 use Rattle.step_master.proofs.master.Master.hold.Goals as goal
 

@@ -7,8 +7,8 @@ make_slots-requires-clause-may g c κs within = record { sound = c.requires.soun
 pub returns-clause-ready : goal.returns-clause-ready
 returns-clause-ready g c = record {
   unrun = refl;
-  begins = record { ready = c.in_ok-slot_table.ensures.ready; fresh = c.in-Ok.ensures };
-  roomy = λ whole can. c.in-Ok-keeping_for.ensures can;
+  begins = record { ready = c.in_ok-slot_table.ensures.ready; fresh = c.in-Ok.ensures.fresh };
+  roomy = λ whole can. c.in-Ok.ensures.roomy can;
 }
 
 pub returns-clause-ok : goal.returns-clause-ok
@@ -23,6 +23,6 @@ returns-clause-ok g c =
       plan_is = refl;
       whole = refl;
       unrun = refl;
-      none = c.in-Ok.ensures.none;
+      none = c.in-Ok.ensures.fresh.none;
       machines = m.machines;
     }

@@ -1,5 +1,6 @@
 use Rattle.std.proofs.Common.{refl, sym, subst, ◌≤◌, ◌<◌}
-use Rattle.step_master.proofs.Resuming.{binds_none, can_keep, few_states}
+use Rattle.step_master.proofs.Resuming.{binds_none, few_states}
+use Rattle.step_master.proofs.CallerLemmas.{can_keep}
 use Rattle.step_master.proofs.SessionLemmas.{states_each}
 use Rattle.step_master.proofs.master.Master.resume.Goals as goal
 

@@ -3,7 +3,7 @@ use Rattle.std.proofs.lemmas.List.{length-map}
 use Rattle.fmu_peer.specs.CloseAll.{instance_in}
 use Rattle.step_master.specs.FreshInstances.{fresh_instances}
 use Rattle.slot_calls.specs.Slots.{instances}
-use Rattle.step_master.proofs.FreshLemmas.{length_fresh}
+use Rattle.step_master.proofs.CallerLemmas.{length_fresh}
 use Rattle.step_master.proofs.slot_table.SlotTable.new.Goals as goal
 
 pub invariant_of-result : goal.invariant_of-result

@@ -1,9 +1,10 @@
-use crate::{
-    CheckpointFault, Snapshot, checkpoint_len, put_checkpoint, read_checkpoint, read_plan,
-};
+//! A run that is held as bytes, of a system without components, and what is told of bytes that are none.
 use sim_base::{Items, SharedBytes};
 use std::alloc::{AllocError, Global};
 use std::test::Fail;
+use system_checkpoint::{
+    CheckpointFault, Snapshot, checkpoint_len, put_checkpoint, read_checkpoint, read_plan,
+};
 use system_model::{Plan, System};
 
 const HEADER: &[u8] = b"h\n";
@@ -26,24 +27,29 @@ fn shared(alloc: Global, bytes: &[u8]) -> Result<SharedBytes, AllocError> {
     SharedBytes::new(alloc, bytes.to_vec(alloc)?)
 }
 
-#[test]
-fn a_run_is_held_and_read_back(rt: HostRuntime) -> Result<(), Fail> {
-    let alloc = rt.alloc();
-    let plan = Plan {
-        resolution: 1000,
-        start: 0,
-        step: 5,
-        stop: 10,
-        limit: 100,
-        workers: 1,
-        link: 1,
-    };
-    assert_eq!(rt; read_plan(BYTES), Ok(plan));
-    let held = read_checkpoint(alloc, &shared(alloc, BYTES)?, &empty(alloc), HEADER)?;
-    assert_eq!(rt; held.plan, plan);
-    assert_eq!(rt; held.point, 5);
+const PLAN: Plan = Plan {
+    resolution: 1000,
+    start: 0,
+    step: 5,
+    stop: 10,
+    limit: 100,
+    workers: 1,
+    link: 1,
+};
+
+// Whether the plan and the point are those of the run.
+fn is_read_back(alloc: Global, bytes: &SharedBytes, system: &System) -> bool {
+    match read_checkpoint(alloc, bytes, system, HEADER) {
+        Ok(held) => held.plan == PLAN && held.point == 5,
+        Err(_) => false,
+    }
+}
+
+// Whether the bytes are put, of a run without components.
+fn is_put(alloc: Global) -> Result<bool, AllocError> {
+    let mut out = Vec::with_capacity(alloc, 62)?;
     let none = Snapshot {
-        plan,
+        plan: PLAN,
         point: 5,
         states: Items::from_vec(Vec::new(alloc)),
         words: Items::from_vec(Vec::new(alloc)),
@@ -51,9 +57,17 @@ fn a_run_is_held_and_read_back(rt: HostRuntime) -> Result<(), Fail> {
         armings: Items::from_vec(Vec::new(alloc)),
         events: Items::from_vec(Vec::new(alloc)),
     };
-    let mut out = Vec::with_capacity(alloc, 62)?;
     put_checkpoint(&none, HEADER, &mut out);
-    assert_eq!(rt; out.as_slice(), BYTES.as_slice());
+    Ok(out.as_slice() == BYTES.as_slice())
+}
+
+#[test]
+fn a_run_is_held_and_read_back(rt: HostRuntime) -> Result<(), Fail> {
+    let alloc = rt.alloc();
+    assert_eq!(rt; read_plan(BYTES), Ok(PLAN));
+    let is_read_back = is_read_back(alloc, &shared(alloc, BYTES)?, &empty(alloc));
+    assert!(rt; is_read_back);
+    assert!(rt; is_put(alloc)?);
     assert_eq!(rt; checkpoint_len(0, 0, 2), Some(62));
     assert_eq!(rt; checkpoint_len(256, 65_536, 1 << 27), Some(405_933_372));
     assert_eq!(rt; checkpoint_len(usize::MAX, 0, 0), None);
@@ -76,6 +90,10 @@ fn is_bad_when_cut(alloc: Global, whole: &SharedBytes, system: &System, end: usi
     }
 }
 
+fn is_each_bad(alloc: Global, whole: &SharedBytes, system: &System) -> bool {
+    (0..BYTES.len()).all(|end| is_bad_when_cut(alloc, whole, system, end))
+}
+
 // Whether a byte more is told as bad.
 fn is_bad_when_longer(alloc: Global, system: &System) -> Result<bool, AllocError> {
     let mut more = Vec::from_slice(alloc, BYTES)?;
@@ -87,10 +105,10 @@ fn is_bad_when_longer(alloc: Global, system: &System) -> Result<bool, AllocError
 #[test]
 fn the_first_byte_that_continues_none_is_told(rt: HostRuntime) -> Result<(), Fail> {
     let alloc = rt.alloc();
-    let system = empty(alloc);
-    let whole = shared(alloc, BYTES)?;
-    assert!(rt; (0..BYTES.len()).all(|end| is_bad_when_cut(alloc, &whole, &system, end)));
-    assert!(rt; is_bad_when_longer(alloc, &system)?);
+    let is_each_bad = is_each_bad(alloc, &shared(alloc, BYTES)?, &empty(alloc));
+    assert!(rt; is_each_bad);
+    let is_bad_when_longer = is_bad_when_longer(alloc, &empty(alloc))?;
+    assert!(rt; is_bad_when_longer);
     assert_eq!(rt;
         read_plan(&BYTES[..40]),
         Err(CheckpointFault::Bad { at: 40 })

@@ -38,8 +38,8 @@ use Rattle.machine_courses.specs.Outcomes as Outcomes
 use Rattle.step_master.specs.Sessions.{Account, FailedStart, Session}
 use Rattle.step_master.specs.Histories.{ArePeerHistories, IsPeerHistory, PeerHistory, is_unanswered, talk_in}
 use Rattle.step_master.specs.System.{MachinesMatchShapes}
-use Rattle.step_master.proofs.FreshLemmas.{got}
-use Rattle.step_master.specs.Traced.{AreMachinesOf, IsRunOf, SomeFaultCounted, ToldFailedStart, ToldRun, ToldTrace, TracesWell, output_of}
+use Rattle.step_master.proofs.CallerLemmas.{got}
+use Rattle.session_laws.specs.Traced.{AreMachinesOf, IsRunOf, SomeFaultCounted, ToldFailedStart, ToldRun, ToldTrace, TracesWell, output_of}
 
 -- ---- what the histories tell of the machines
 

@@ -1,7 +1,7 @@
-use Rattle.step_master.proofs.Told.{told_failed_start, told_run, told_trace}
-use Rattle.step_master.proofs.ToldRests.{told_held, told_none, told_rest}
-use Rattle.step_master.proofs.ToldWell.{told_held_well, told_rest_well}
-use Rattle.step_master.proofs.laws.runs_of_machines.Goals as goal
+use Rattle.session_laws.proofs.Told.{told_failed_start, told_run, told_trace}
+use Rattle.session_laws.proofs.ToldRests.{told_held, told_none, told_rest}
+use Rattle.session_laws.proofs.ToldWell.{told_held_well, told_rest_well}
+use Rattle.session_laws.proofs.laws.runs_of_machines.Goals as goal
 
 pub returns : goal.returns
 returns c = record {

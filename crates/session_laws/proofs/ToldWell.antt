@@ -61,12 +61,11 @@ use Rattle.step_master.specs.Sessions.{Account, experiment_in, resumed_log}
 use Rattle.step_master.specs.Histories.{ArePeerHistories, PeerHistory}
 use Rattle.step_master.specs.FreshInstances.{fresh_instances}
 use Rattle.step_master.specs.System.{ArePeersOf, MachinesMatchShapes}
-use Rattle.step_master.specs.Traced.{AreMachinesOf, HoldsWell, SomeFaultCounted, ToldHeldWell, ToldRestWell, TracesWellIn, output_of}
-use Rattle.step_master.proofs.Resuming.{can_keep}
-use Rattle.step_master.proofs.FreshLemmas.{fresh_shapes, got, length_fresh, unmapped}
-use Rattle.step_master.proofs.Told.{rose_of}
-use Rattle.step_master.proofs.ToldRests.{is_plan_of, is_rest, machines_of, own_held, packed_at, plan_back, starts_at}
-use Rattle.step_master.proofs.ToldStates.{Tells, told_after}
+use Rattle.session_laws.specs.Traced.{AreMachinesOf, HoldsWell, SomeFaultCounted, ToldHeldWell, ToldRestWell, TracesWellIn, output_of}
+use Rattle.step_master.proofs.CallerLemmas.{can_keep, fresh_shapes, got, length_fresh, unmapped}
+use Rattle.session_laws.proofs.Told.{rose_of}
+use Rattle.session_laws.proofs.ToldRests.{is_plan_of, is_rest, machines_of, own_held, packed_at, plan_back, starts_at}
+use Rattle.session_laws.proofs.ToldStates.{Tells, told_after}
 
 -- ---- a run that is held
 

@@ -55,10 +55,10 @@ use Rattle.step_master.specs.Sessions.{Account, HeldSession, experiment_in}
 use Rattle.step_master.specs.Histories.{ArePeerHistories}
 use Rattle.step_master.specs.FreshInstances.{fresh_instances}
 use Rattle.step_master.specs.System.{ArePeersOf, MachinesMatchShapes}
-use Rattle.step_master.specs.Traced.{AreMachinesOf, IsRunOf, ToldHeld, ToldNone, ToldRest, output_of}
-use Rattle.step_master.proofs.FreshLemmas.{got, length_fresh, views_fresh}
-use Rattle.step_master.proofs.Told.{log_replies}
-use Rattle.step_master.proofs.ToldStates.{Tells, told_back}
+use Rattle.session_laws.specs.Traced.{AreMachinesOf, IsRunOf, ToldHeld, ToldNone, ToldRest, output_of}
+use Rattle.step_master.proofs.CallerLemmas.{got, length_fresh, views_fresh}
+use Rattle.session_laws.proofs.Told.{log_replies}
+use Rattle.session_laws.proofs.ToldStates.{Tells, told_back}
 
 abbrev make_experiment : System → Bound → Plan → Experiment
 make_experiment system bound plan = record { system = system; bound = bound; plan = plan }

@@ -1,0 +1,4 @@
+mod Told
+mod ToldStates
+mod ToldRests
+mod ToldWell
