@@ -1,6 +1,6 @@
 """What the scripts of bench/ share: running a program and telling what it took, and rows of a table.
 
-Processor time and memory are those that the system counts for the child. The memory is the most that was resident; below some
+Processor time and memory are those that the system counts for the child, its own children included that it waited for. The memory is the most that was resident; below some
 16 MiB it may be that of Python, from which the child comes.
 """
 import os
@@ -13,10 +13,11 @@ MIB = 1 << 20
 
 
 class Took:
-    """What a run took: seconds of a processor, seconds that passed, bytes of memory, and its status."""
+    """What a run took: seconds of a processor, those of them that its first thread took itself, seconds that passed, bytes of
+    memory, and its status."""
 
-    def __init__(self, processor, passed, memory, status):
-        self.processor, self.passed, self.memory, self.status = processor, passed, memory, status
+    def __init__(self, processor, own, passed, memory, status):
+        self.processor, self.own, self.passed, self.memory, self.status = processor, own, passed, memory, status
 
 
 def run(words, out=os.devnull, folder=None, status=0):
@@ -32,11 +33,14 @@ def run(words, out=os.devnull, folder=None, status=0):
             os.execvp(words[0], words)
         finally:
             os._exit(127)
+    os.waitid(os.P_PID, pid, os.WEXITED | os.WNOWAIT)
+    with open(f"/proc/{pid}/schedstat", encoding="ascii") as file:
+        own = int(file.read().split()[0]) / 1e9
     _, code, used = os.wait4(pid, 0)
     found = os.waitstatus_to_exitcode(code)
     if found != status:
         sys.exit(f"{' '.join(words)}: status {found}, wanted {status}")
-    return Took(used.ru_utime + used.ru_stime, time.monotonic() - begin, used.ru_maxrss * 1024, found)
+    return Took(used.ru_utime + used.ru_stime, own, time.monotonic() - begin, used.ru_maxrss * 1024, found)
 
 
 def rounds(*runs, count=ROUNDS):

@@ -1,18 +1,10 @@
 /*
  * A host of an FMU with one output, whose state has 2^20 bytes: Serialize is answered with them, and Deserialize reads as many
- * as its call says. Its output is always 0, and every other call is answered well and does nothing. It has no event mode. Where
- * HOST_TIMES names a file, it adds to it at its end what it took of a processor, in microseconds.
+ * as its call says. Its output is always 0, and every other call is answered well and does nothing. It has no event mode.
  *
  *     cc -std=c99 -O2 -o state_host state_host.c
  */
-#define _POSIX_C_SOURCE 200809L
-
-#include <fcntl.h>
 #include <stdint.h>
-#include <stdio.h>
-#include <stdlib.h>
-#include <string.h>
-#include <time.h>
 #include <unistd.h>
 
 enum { INSTANTIATE = 1, DO_STEP = 6, FREE_INSTANCE = 18, SERIALIZE = 20, DESERIALIZE = 21, FRAME = 24, STATE = 1 << 20 };
@@ -57,20 +49,6 @@ static void put_number(unsigned char *frame, int place, int size, uint64_t numbe
         frame[place + i] = (unsigned char)(number & 0xff);
 }
 
-static void tell_time(void)
-{
-    const char *path = getenv("HOST_TIMES");
-    if (path == NULL)
-        return;
-    struct timespec used;
-    clock_gettime(CLOCK_PROCESS_CPUTIME_ID, &used);
-    char line[32];
-    int length = snprintf(line, sizeof line, "%lld\n", (long long)used.tv_sec * 1000000 + used.tv_nsec / 1000);
-    int file = open(path, O_WRONLY | O_APPEND | O_CREAT, 0666);
-    if (file >= 0 && write(file, line, (size_t)length) == length)
-        close(file);
-}
-
 int main(int count, char **words)
 {
     (void)words;
@@ -95,6 +73,5 @@ int main(int count, char **words)
         if (call[0] == FREE_INSTANCE)
             break;
     }
-    tell_time();
     return 0;
 }
